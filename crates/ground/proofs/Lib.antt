@@ -1,0 +1,4 @@
+pub mod Tests
+pub mod OnlyOne
+pub mod Lists
+pub mod Picks

@@ -1,0 +1,22 @@
+// What every crate stands on: the choice by a test, the laws about tests and lists that the proofs cite, and two helpers.
+ghost use mathlib.Core.Path.{_≡_};
+ghost use Prim.Native.Nat.{_<_};
+ghost use lib.ListN.{length};
+
+// A byte as a wider number, with its bound.
+pub fn wide(x: u8) -> u16
+    ensures { λ r. ⌜ (r ≡ x) × (r < 256) ⌝ }
+{
+    x as u16
+}
+
+// An array that is passed by value is known to be 512 long; `told` says so of one that is lent.
+fn long(bytes: [u8; 512])
+    ensures { λ _. ⌜ length bytes ≡ 512 ⌝ }
+{}
+
+pub fn told(bytes: &[u8; 512])
+    ensures { λ _. ⌜ length (now (bytes .entry)) ≡ 512 ⌝ }
+{
+    long(*bytes);
+}
