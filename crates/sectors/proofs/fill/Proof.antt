@@ -1,0 +1,74 @@
+use Rattle.ground.proofs.Lists.{copy-more, copy-all}
+use lib.ListN.{length, take}
+use mathlib.Core.Path.{_≡_, sym, _∙_}
+use Prim.Native.Nat.{_≤_, _-_, _+_, _*_}
+use native.Mathlib.Omega.{arith}
+use borrow.Author.Needs.{needs}
+use Rattle.sectors.proofs.fill.Statement.{statement}
+use Rattle.sectors.proofs.fill.Tie as tie
+use Rattle.sectors.proofs.fill.Reads as reads
+use Rattle.sectors.proofs.fill.Lts as lts
+use Rattle.ground.proofs.told.Reads as told-reads
+
+abbrev Inv-loop : tie.InvT-loop
+Inv-loop part₀ bytes i₀ part i = (i ≤ 512) × (length part ≡ 512) × (take i part ≡ take i bytes)
+
+abbrev μ-loop : tie.MeasureT-loop
+μ-loop part₀ bytes i₀ part i = 512 - i
+
+-- src/lib.rt:102:5
+told-requires : tie.Need-told-requires Inv-loop μ-loop
+told-requires c κs = search needs
+
+-- src/lib.rt:104:5
+loop-holds : tie.Need-loop-holds Inv-loop μ-loop
+loop-holds c = search needs
+
+-- src/lib.rt:105:19
+element-copy-out-part : tie.Need-element-copy-out-part Inv-loop μ-loop
+element-copy-out-part c = search needs
+
+-- src/lib.rt:105:9
+slice-write-part : tie.Need-slice-write-part Inv-loop μ-loop
+slice-write-part c = search needs
+
+-- src/lib.rt:106:9
+add-i : tie.Need-add-i Inv-loop μ-loop
+add-i c = search needs
+
+-- src/lib.rt:104:5
+loop-less : tie.Need-loop-less Inv-loop μ-loop
+loop-less c = search needs
+
+-- src/lib.rt:104:5
+loop-again : tie.Need-loop-again Inv-loop μ-loop
+loop-again c =
+    let i = c .before .before .loop in
+    (search needs, search needs, copy-more (i .i) _ (i .part) (omega arith) (omega arith) (i .inv .2))
+
+-- src/lib.rt:98:1
+same-length : tie.Need-same-length Inv-loop μ-loop
+same-length c = search needs
+
+-- src/lib.rt:98:1
+returns : tie.Need-returns Inv-loop μ-loop
+returns c =
+    let i = c .before .loop in
+    let e : i .i ≡ 512 = omega arith in
+    copy-all 512 _ _ (omega arith) (omega arith) (rw e at (i .inv .2))
+
+pub fill-spec : {M : Type 1} → statement M
+fill-spec =
+    tie.close
+    (tie.spec
+    Inv-loop
+    μ-loop
+    told-requires
+    loop-holds
+    element-copy-out-part
+    slice-write-part
+    add-i
+    loop-less
+    loop-again
+    same-length
+    returns)

@@ -1,0 +1,84 @@
+use Rattle.sectors.specs.Sectors.{sectorOf}
+use Rattle.ground.proofs.Lists.{copy-more}
+use lib.Seq.{getD-drop, take-all}
+use lib.ListN.{length, take, drop, length-drop}
+use mathlib.Core.Path.{_≡_, sym, _∙_}
+use Prim.Native.Nat.{_≤_, _-_, _+_, _*_}
+use native.Mathlib.Omega.{arith}
+use borrow.Author.Needs.{needs}
+use Rattle.sectors.proofs.get_sector.Statement.{statement}
+use Rattle.sectors.proofs.get_sector.Tie as tie
+use Rattle.sectors.proofs.get_sector.Reads as reads
+use Rattle.sectors.proofs.get_sector.Lts as lts
+use Rattle.ground.proofs.told.Reads as told-reads
+
+abbrev Inv-loop : tie.InvT-loop
+Inv-loop buffer₀ store i a k₀ buffer k = (k ≤ 512) × (length buffer ≡ 512) × (take k buffer ≡ take k (drop a store))
+
+abbrev μ-loop : tie.MeasureT-loop
+μ-loop buffer₀ store i a k₀ buffer k = 512 - k
+
+-- src/lib.rt:79:5
+told-requires : tie.Need-told-requires Inv-loop μ-loop
+told-requires c κs = search needs
+
+-- src/lib.rt:80:13
+mul-a : tie.Need-mul-a Inv-loop μ-loop
+mul-a c = search needs
+
+-- src/lib.rt:82:5
+loop-holds : tie.Need-loop-holds Inv-loop μ-loop
+loop-holds c = search needs
+
+-- src/lib.rt:83:27
+add-buffer : tie.Need-add-buffer Inv-loop μ-loop
+add-buffer c = search needs
+
+-- src/lib.rt:83:21
+shared-slice-read-buffer : tie.Need-shared-slice-read-buffer Inv-loop μ-loop
+shared-slice-read-buffer c = search needs
+
+-- src/lib.rt:83:9
+element-write-buffer : tie.Need-element-write-buffer Inv-loop μ-loop
+element-write-buffer c = search needs
+
+-- src/lib.rt:84:9
+add-k : tie.Need-add-k Inv-loop μ-loop
+add-k c = search needs
+
+-- src/lib.rt:82:5
+loop-less : tie.Need-loop-less Inv-loop μ-loop
+loop-less c = search needs
+
+-- src/lib.rt:82:5
+loop-again : tie.Need-loop-again Inv-loop μ-loop
+loop-again c =
+    let i = c .before .before .loop in
+    let a = c .before .before .before .before .before .before .args in
+    let s = a .store .now in
+    (search needs, search needs, rw (← getD-drop (512 * a .i) s (i .k) 0) (copy-more (i .k) (drop (512 * a .i) s) (i .buffer) (simp length-drop (omega arith)) (omega arith) (i .inv .2)))
+
+-- src/lib.rt:75:1
+returns : tie.Need-returns Inv-loop μ-loop
+unfolding sectorOf
+returns c =
+    let i = c .before .loop in
+    let e : i .k ≡ 512 = omega arith in
+    sym (take-all 512 (i .buffer) (omega arith)) ∙ rw e at (i .inv .2)
+
+pub get-sector-spec : {M : Type 1} → statement M
+get-sector-spec =
+    tie.close
+    (tie.spec
+    Inv-loop
+    μ-loop
+    told-requires
+    mul-a
+    loop-holds
+    add-buffer
+    shared-slice-read-buffer
+    element-write-buffer
+    add-k
+    loop-less
+    loop-again
+    returns)

@@ -1,0 +1,52 @@
+use native.Mathlib.Omega.{arith}
+use Prim.Native.Nat.{_+_, _*_, _-_}
+use mathlib.Core.Path.{_≡_}
+use lib.Seq.{drop-drop}
+use Rattle.sectors.specs.Sectors.{withSector}
+use borrow.Author.Needs.{needs}
+use Rattle.sectors.proofs.put_sector.Statement.{statement}
+use Rattle.sectors.proofs.put_sector.Tie as tie
+use Rattle.sectors.proofs.put_sector.Reads as reads
+use Rattle.sectors.proofs.put_sector.Lts as lts
+use Rattle.sectors.proofs.fill.Reads as fill-reads
+
+-- src/lib.rt:93:13
+mul-a : tie.Need-mul-a
+mul-a c = search needs
+
+-- src/lib.rt:94:13
+add-e : tie.Need-add-e
+add-e c = search needs
+
+-- src/lib.rt:95:10
+sub-fill : tie.Need-sub-fill
+sub-fill c = search needs
+
+-- src/lib.rt:95:10
+part-fill-start : tie.Need-part-fill-start
+part-fill-start c = search needs
+
+-- src/lib.rt:95:10
+part-fill-end : tie.Need-part-fill-end
+part-fill-end c = search needs
+
+-- src/lib.rt:95:5
+fill-requires : tie.Need-fill-requires
+fill-requires c κs = search needs
+
+-- src/lib.rt:89:1
+same-length : tie.Need-same-length
+same-length c = search needs
+
+-- src/lib.rt:89:1
+returns : tie.Need-returns
+unfolding withSector
+returns c =
+    let a = c .before .before .before .before .before .args in
+    let e : 512 * a .i + (512 * a .i + 512 - 512 * a .i) ≡ 512 * a .i + 512 = omega arith in
+    simp (c .before .before .fill .ensures, drop-drop, e)
+
+pub put-sector-spec : {M : Type 1} → statement M
+put-sector-spec =
+    tie.close
+    (tie.spec mul-a add-e sub-fill part-fill-start part-fill-end fill-requires same-length returns)

@@ -1,0 +1,25 @@
+use borrow.Author.Tests.{lt-ltb, le-ltb}
+use Rattle.sectors.specs.Sectors.{bufferRead}
+use borrow.Author.Needs.{needs}
+use Rattle.sectors.proofs.read_sector.Statement.{statement}
+use Rattle.sectors.proofs.read_sector.Tie as tie
+use Rattle.sectors.proofs.read_sector.Reads as reads
+use Rattle.sectors.proofs.read_sector.Lts as lts
+use Rattle.sectors.proofs.get_sector.Reads as get-sector-reads
+
+-- src/lib.rt:58:9
+get-sector-requires : tie.Need-get-sector-requires
+get-sector-requires c κs = search needs
+
+-- src/lib.rt:53:1
+returns : tie.Need-returns
+unfolding bufferRead
+returns c = simp (lt-ltb _ _ (c .before .before .if1 .taken)) (c .get-sector .ensures)
+
+-- src/lib.rt:53:1
+returns-2 : tie.Need-returns-2
+unfolding bufferRead
+returns-2 c = simp (le-ltb _ _ (c .if1 .left))
+
+pub read-sector-spec : {M : Type 1} → statement M
+read-sector-spec = tie.close (tie.spec get-sector-requires returns returns-2)

@@ -1,0 +1,33 @@
+-- Whole sectors of a lent store: sector i is the 512 bytes from 512 times i. A sector that is not there is not read and not stored.
+use Prim.Native.Nat.{ℕ, _+_, _*_, _/_}
+use mathlib.Core.List.{List, _++_}
+use lib.Dec.{ltb}
+use lib.ListN.{length, set, take, drop}
+use Rattle.ground.specs.Choice.{pick}
+
+-- the bytes of sector i
+unfoldable pub sectorOf : List ℕ → ℕ → List ℕ
+sectorOf store i = take 512 (drop (512 * i) store)
+
+-- the store with sector i replaced
+unfoldable pub withSector : List ℕ → ℕ → List ℕ → List ℕ
+withSector store i bytes = take (512 * i) store ++ (bytes ++ drop (512 * i + 512) store)
+
+-- the buffer once sector i was read into it
+unfoldable pub bufferRead : List ℕ → ℕ → List ℕ → List ℕ
+bufferRead store i buffer = pick (ltb i (length store / 512)) (sectorOf store i) buffer
+
+-- a store and its marks
+pub record Kept : Type 0 where
+  pub store : List ℕ
+  pub marks : List ℕ
+
+abbrev pub kept : List ℕ → List ℕ → Kept
+kept s m = record { store = s; marks = m }
+
+-- 01, "Commands": a sector is stored, and its mark set to 0
+unfoldable pub stored : List ℕ → List ℕ → ℕ → List ℕ → Kept
+stored store marks i bytes =
+    pick (ltb i (length store / 512))
+    (pick (ltb i (length marks)) (kept (withSector store i bytes) (set marks i 0)) (kept store marks))
+    (kept store marks)
