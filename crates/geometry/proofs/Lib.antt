@@ -1,0 +1,7 @@
+pub mod Tests
+pub mod Bounds
+pub mod Limits
+pub mod Shapes
+pub mod Inside
+pub mod Kept
+pub mod Next

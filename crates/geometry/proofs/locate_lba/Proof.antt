@@ -1,0 +1,15 @@
+use Rattle.geometry.specs.Address.{locateLba}
+use Rattle.ground.proofs.Tests.{tests}
+use Rattle.geometry.proofs.locate_lba.Statement.{statement}
+use Rattle.geometry.proofs.locate_lba.Tie as tie
+
+returns : tie.Need-returns
+unfolding locateLba
+returns c = search tests
+
+returns-2 : tie.Need-returns-2
+unfolding locateLba
+returns-2 c = search tests
+
+pub locate-lba-spec : {M : Type 1} → statement M
+locate-lba-spec = tie.close (tie.spec returns returns-2)

@@ -1,0 +1,56 @@
+-- 01, "Commands", first paragraph: the sector that the address registers name, or the test that failed; and 7XH's test.
+use Prim.Native.Nat.{ℕ, _+_, _-_, _*_, _/_, _%_}
+use mathlib.Core.Bool.{Bool}
+use mathlib.Core.List.{[], _∷_}
+use lib.Dec.{ltb, leb, eqb}
+use Rattle.ground.specs.Choice.{pick}
+use Rattle.geometry.specs.declared.Geometry.{Geometry}
+use Rattle.geometry.specs.declared.Address.{Address}
+use Rattle.geometry.specs.declared.Located.{Located}
+use Rattle.geometry.specs.declared.Sought.{Sought}
+use Rattle.geometry.specs.Limits.{every, capacityOf}
+
+-- Drive/Head: "bit 6 selects LBA".
+unfoldable pub byLba : Address → Bool
+byLba a = eqb (a .head / 64 % 2) 1
+
+-- the head nibble
+abbrev pub headOf : Address → ℕ
+headOf a = a .head % 16
+
+-- Cylinder High and Low
+abbrev pub cylinderOf : Address → ℕ
+cylinderOf a = a .high * 256 + a .low
+
+-- "LBA is 28 bits (from the top: head nibble, Cylinder High, Low, Sector Number)"
+abbrev pub lbaOf : Address → ℕ
+lbaOf a = headOf a * 16777216 + cylinderOf a * 256 + a .sector
+
+-- "CHS index is (c·H+h)·S+s-1"
+abbrev pub chsIndex : ℕ → ℕ → ℕ → Geometry → ℕ
+chsIndex c h s g = (c * g .heads + h) * g .sectors + s - 1
+
+-- LBA "below N", else 2FH.
+unfoldable pub locateLba : ℕ → ℕ → Located
+locateLba i n = pick (ltb i n) (Located.Good (record { index = i })) Located.BadLba
+
+-- "with c<C, h<H, s 1..S, all current. Bad head or sector: code 21H. Otherwise bad cylinder: 2FH."
+unfoldable pub locateChs : ℕ → ℕ → ℕ → Geometry → Located
+locateChs c h s g =
+    pick (every (ltb h (g .heads) ∷ leb 1 s ∷ leb s (g .sectors) ∷ []))
+    (pick (ltb c (g .cylinders)) (Located.Good (record { index = chsIndex c h s g })) Located.BadCylinder)
+    Located.BadHeadOrSector
+
+unfoldable pub locate : Address → Geometry → ℕ → Located
+locate a g n = pick (byLba a) (locateLba (lbaOf a) n) (locateChs (cylinderOf a) (headOf a) (a .sector) g)
+
+-- 7XH: "address test; in CHS head and cylinder only"
+unfoldable pub seek : Address → Geometry → ℕ → Sought
+seek a g n =
+    pick (byLba a)
+    (pick (ltb (lbaOf a) n) Sought.Good Sought.BadLba)
+    (pick (ltb (headOf a) (g .heads)) (pick (ltb (cylinderOf a) (g .cylinders)) Sought.Good Sought.BadCylinder) Sought.BadHead)
+
+-- The end of a run's room: the current capacity in CHS, N in LBA.
+unfoldable pub roomOf : Address → Geometry → ℕ → ℕ
+roomOf a g n = pick (byLba a) n (capacityOf g)

@@ -1,0 +1,5 @@
+pub mod Limits
+pub mod Address
+pub mod Next
+pub mod Shape
+pub mod Codes

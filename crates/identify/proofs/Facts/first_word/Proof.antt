@@ -1,0 +1,93 @@
+use Rattle.ground.proofs.Tests.{tests}
+use mathlib.Core.Path.{_≡_, sym, _∙_}
+use borrow.Author.Tests.{eq-eqb, ne-eqb, lt-ltb, le-ltb}
+use Rattle.identify.specs.Words.{firstWord}
+use borrow.Author.Needs.{needs}
+use Rattle.identify.proofs.Facts.first_word.Statement.{statement}
+use Rattle.identify.proofs.Facts.first_word.Tie as tie
+use Rattle.identify.proofs.Facts.first_word.Reads as reads
+use Rattle.identify.proofs.Facts.first_word.Lts as lts
+use Rattle.identify.proofs.Facts.total.Reads as total-reads
+use Rattle.identify.proofs.blank.Reads as blank-reads
+use Rattle.identify.proofs.high_half.Reads as high-half-reads
+use Rattle.identify.proofs.low_half.Reads as low-half-reads
+
+-- src/lib.rt:63:13
+returns : tie.Need-returns
+unfolding firstWord
+returns c = search tests
+
+-- src/lib.rt:66:13
+returns-2 : tie.Need-returns-2
+unfolding firstWord
+returns-2 c = search tests
+
+-- src/lib.rt:69:13
+returns-3 : tie.Need-returns-3
+unfolding firstWord
+returns-3 c = search tests
+
+-- src/lib.rt:72:13
+returns-4 : tie.Need-returns-4
+unfolding firstWord
+returns-4 c = search tests
+
+-- src/lib.rt:75:30
+total-requires : tie.Need-total-requires
+total-requires c κs = search needs
+
+-- src/lib.rt:75:13
+high-half-requires : tie.Need-high-half-requires
+high-half-requires c κs = search needs
+
+-- src/lib.rt:75:13
+returns-5 : tie.Need-returns-5
+unfolding firstWord
+returns-5 c = search (tests, c .high-half .ensures, c .before .total .ensures)
+
+-- src/lib.rt:78:29
+total-requires-2 : tie.Need-total-requires-2
+total-requires-2 c κs = search needs
+
+-- src/lib.rt:78:13
+low-half-requires : tie.Need-low-half-requires
+low-half-requires c κs = search needs
+
+-- src/lib.rt:78:13
+returns-6 : tie.Need-returns-6
+unfolding firstWord
+returns-6 c = search (tests, c .low-half .ensures, c .before .total2 .ensures)
+
+-- src/lib.rt:80:12
+blank-requires : tie.Need-blank-requires
+blank-requires c κs = search needs
+
+-- src/lib.rt:81:13
+returns-7 : tie.Need-returns-7
+unfolding firstWord
+returns-7 c = let w = sym (c .before .blank .ensures) ∙ c .if7 .taken in search (tests, w)
+
+-- src/lib.rt:58:5
+returns-8 : tie.Need-returns-8
+unfolding firstWord
+returns-8 c =
+    let w = sym (c .before .blank .ensures) ∙ c .if7 .left in
+    simp (ne-eqb _ _ (c .before .before .before .before .before .before .before .if1 .left), ne-eqb _ _ (c .before .before .before .before .before .before .if2 .left), ne-eqb _ _ (c .before .before .before .before .before .if3 .left), ne-eqb _ _ (c .before .before .before .before .if4 .left), ne-eqb _ _ (c .before .before .before .if5 .left), ne-eqb _ _ (c .before .before .if6 .left), w)
+
+pub first-word-spec : {M : Type 1} → statement M
+first-word-spec =
+    tie.close
+    (tie.spec
+    returns
+    returns-2
+    returns-3
+    returns-4
+    total-requires
+    high-half-requires
+    returns-5
+    total-requires-2
+    low-half-requires
+    returns-6
+    blank-requires
+    returns-7
+    returns-8)

@@ -1,0 +1,77 @@
+use borrow.Author.Needs.{needs}
+use native.Mathlib.Omega.{arith}
+use Prim.Native.Nat.{_≤_, _<_, _-_, _+_}
+use mathlib.Core.Path.{_≡_}
+use lib.ListN.{length, take}
+use Rattle.ground.proofs.Lists.{copy-more, copy-all}
+use Rattle.identify.specs.Words.{identifyBytes}
+use Rattle.identify.proofs.Made.{identify-length, identify-at}
+use Rattle.identify.proofs.Facts.identify.Statement.{statement}
+use Rattle.identify.proofs.Facts.identify.Tie as tie
+use Rattle.identify.proofs.Facts.identify.Reads as reads
+use Rattle.identify.proofs.Facts.identify.Lts as lts
+use Rattle.ground.proofs.told.Reads as told-reads
+use Rattle.identify.proofs.Facts.byte.Reads as byte-reads
+
+abbrev Inv-loop : tie.InvT-loop
+Inv-loop self buffer₀ i₀ buffer i = (i ≤ 512) × (length buffer ≡ 512) × (take i buffer ≡ take i (identifyBytes self))
+
+abbrev μ-loop : tie.MeasureT-loop
+μ-loop self buffer₀ i₀ buffer i = 512 - i
+
+-- src/lib.rt:146:9
+told-requires : tie.Need-told-requires Inv-loop μ-loop
+told-requires c κs = search needs
+
+-- src/lib.rt:148:9
+loop-holds : tie.Need-loop-holds Inv-loop μ-loop
+loop-holds c = search needs
+
+-- src/lib.rt:149:25
+byte-requires : tie.Need-byte-requires Inv-loop μ-loop
+byte-requires c κs = search needs
+
+-- src/lib.rt:149:13
+element-write-buffer : tie.Need-element-write-buffer Inv-loop μ-loop
+element-write-buffer c = search needs
+
+-- src/lib.rt:150:13
+add-i : tie.Need-add-i Inv-loop μ-loop
+add-i c = search needs
+
+-- src/lib.rt:148:9
+loop-less : tie.Need-loop-less Inv-loop μ-loop
+loop-less c = search needs
+
+-- src/lib.rt:148:9
+loop-again : tie.Need-loop-again Inv-loop μ-loop
+loop-again c =
+    let l = c .before .before .loop in
+    let f = c .before .before .before .before .before .args .self in
+    let n = identify-length f in
+    let h : l .i < 512 = omega arith in
+    (search needs, search needs, rw (c .byte .ensures, ← identify-at f (l .i) h) (copy-more (l .i) (identifyBytes f) (l .buffer) (omega arith) (omega arith) (l .inv .2)))
+
+-- src/lib.rt:143:5
+returns : tie.Need-returns Inv-loop μ-loop
+returns c =
+    let l = c .before .loop in
+    let f = c .before .before .before .before .args .self in
+    let n = identify-length f in
+    let e : l .i ≡ 512 = omega arith in
+    copy-all 512 (identifyBytes f) (l .buffer) (omega arith) (omega arith) (rw e at (l .inv .2))
+
+pub identify-spec : {M : Type 1} → statement M
+identify-spec =
+    tie.close
+    (tie.spec
+    Inv-loop
+    μ-loop
+    told-requires
+    loop-holds
+    byte-requires
+    element-write-buffer
+    add-i
+    loop-less
+    loop-again
+    returns)

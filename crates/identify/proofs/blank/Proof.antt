@@ -1,0 +1,29 @@
+use Rattle.ground.proofs.Tests.{tests}
+use Rattle.identify.specs.Words.{blank}
+use Rattle.identify.proofs.blank.Statement.{statement}
+use Rattle.identify.proofs.blank.Tie as tie
+use Rattle.identify.proofs.blank.Reads as reads
+use Rattle.identify.proofs.blank.Lts as lts
+
+-- src/lib.rt:29:9
+returns : tie.Need-returns
+unfolding blank
+returns c = search tests
+
+-- src/lib.rt:32:9
+returns-2 : tie.Need-returns-2
+unfolding blank
+returns-2 c = search tests
+
+-- src/lib.rt:35:9
+returns-3 : tie.Need-returns-3
+unfolding blank
+returns-3 c = search tests
+
+-- src/lib.rt:25:1
+returns-4 : tie.Need-returns-4
+unfolding blank
+returns-4 c = search tests
+
+pub blank-spec : {M : Type 1} → statement M
+blank-spec = tie.close (tie.spec returns returns-2 returns-3 returns-4)

@@ -1,0 +1,5 @@
+pub mod Both
+pub mod ReadValue
+pub mod SameOffset
+pub mod SixFirst
+pub mod Standings

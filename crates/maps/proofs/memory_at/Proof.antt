@@ -1,0 +1,34 @@
+use Rattle.ground.proofs.Tests.{tests}
+use Rattle.maps.specs.Offsets.{memoryAt}
+use borrow.Author.Needs.{needs}
+use Rattle.maps.proofs.memory_at.Statement.{statement}
+use Rattle.maps.proofs.memory_at.Tie as tie
+use Rattle.maps.proofs.memory_at.Reads as reads
+use Rattle.maps.proofs.memory_at.Lts as lts
+
+-- src/lib.rt:115:13
+returns : tie.Need-returns
+unfolding memoryAt
+returns c = search tests
+
+-- src/lib.rt:118:31
+add-t7 : tie.Need-add-t7
+add-t7 c = search needs
+
+-- src/lib.rt:118:13
+returns-2 : tie.Need-returns-2
+unfolding memoryAt
+returns-2 c = search tests
+
+-- src/lib.rt:120:9
+returns-3 : tie.Need-returns-3
+unfolding memoryAt
+returns-3 c = search tests
+
+-- src/lib.rt:110:1
+returns-4 : tie.Need-returns-4
+unfolding memoryAt
+returns-4 c = search tests
+
+pub memory-at-spec : {M : Type 1} → statement M
+memory-at-spec = tie.close (tie.spec returns add-t7 returns-2 returns-3 returns-4)

@@ -1,0 +1,30 @@
+use borrow.Author.Tests.{eq-eqb}
+use Rattle.ground.proofs.Tests.{tests}
+use Rattle.maps.specs.Places.{misfits}
+use Rattle.maps.proofs.misfits.Statement.{statement}
+use Rattle.maps.proofs.misfits.Tie as tie
+use Rattle.maps.proofs.misfits.Reads as reads
+use Rattle.maps.proofs.misfits.Lts as lts
+
+-- src/lib.rt:166:13
+returns : tie.Need-returns
+unfolding misfits
+returns c = simp (eq-eqb _ _ (c .before .if1 .taken), c .if2 .taken)
+
+-- src/lib.rt:168:9
+returns-2 : tie.Need-returns-2
+unfolding misfits
+returns-2 c = simp (eq-eqb _ _ (c .before .if1 .taken), c .if2 .left)
+
+-- src/lib.rt:171:9
+returns-3 : tie.Need-returns-3
+unfolding misfits
+returns-3 c = search tests
+
+-- src/lib.rt:161:1
+returns-4 : tie.Need-returns-4
+unfolding misfits
+returns-4 c = search tests
+
+pub misfits-spec : {M : Type 1} → statement M
+misfits-spec = tie.close (tie.spec returns returns-2 returns-3 returns-4)

@@ -1,0 +1,54 @@
+use Rattle.ground.proofs.Tests.{tests}
+use Rattle.maps.specs.Offsets.{offsetAt}
+use borrow.Author.Needs.{needs}
+use Rattle.maps.proofs.offset_at.Statement.{statement}
+use Rattle.maps.proofs.offset_at.Tie as tie
+use Rattle.maps.proofs.offset_at.Reads as reads
+use Rattle.maps.proofs.offset_at.Lts as lts
+use Rattle.maps.proofs.io_at.Reads as io-at-reads
+use Rattle.maps.proofs.memory_at.Reads as memory-at-reads
+use Rattle.maps.proofs.window_at.Reads as window-at-reads
+
+-- src/lib.rt:149:9
+memory-at-requires : tie.Need-memory-at-requires
+memory-at-requires c κs = search needs
+
+-- src/lib.rt:149:9
+returns : tie.Need-returns
+unfolding offsetAt
+returns c = search tests
+
+-- src/lib.rt:152:9
+io-at-requires : tie.Need-io-at-requires
+io-at-requires c κs = search needs
+
+-- src/lib.rt:152:9
+returns-2 : tie.Need-returns-2
+unfolding offsetAt
+returns-2 c = search tests
+
+-- src/lib.rt:155:9
+window-at-requires : tie.Need-window-at-requires
+window-at-requires c κs = search needs
+
+-- src/lib.rt:155:9
+returns-3 : tie.Need-returns-3
+unfolding offsetAt
+returns-3 c = search tests
+
+-- src/lib.rt:145:1
+returns-4 : tie.Need-returns-4
+unfolding offsetAt
+returns-4 c = search tests
+
+pub offset-at-spec : {M : Type 1} → statement M
+offset-at-spec =
+    tie.close
+    (tie.spec
+    memory-at-requires
+    returns
+    io-at-requires
+    returns-2
+    window-at-requires
+    returns-3
+    returns-4)

@@ -1,0 +1,31 @@
+use borrow.Author.Tests.{eq-eqb, ne-eqb}
+use mathlib.Core.Path.{sym, _∙_}
+use Rattle.maps.specs.Places.{portAt}
+use borrow.Author.Needs.{needs}
+use Rattle.maps.proofs.port_at.Statement.{statement}
+use Rattle.maps.proofs.port_at.Tie as tie
+use Rattle.maps.proofs.port_at.Reads as reads
+use Rattle.maps.proofs.port_at.Lts as lts
+use Rattle.maps.proofs.misfits.Reads as misfits-reads
+
+-- src/lib.rt:239:8
+misfits-requires : tie.Need-misfits-requires
+misfits-requires c κs = search needs
+
+-- src/lib.rt:240:9
+returns : tie.Need-returns
+unfolding portAt
+returns c = simp (sym (c .before .misfits .ensures) ∙ c .if1 .taken)
+
+-- src/lib.rt:243:9
+returns-2 : tie.Need-returns-2
+unfolding portAt
+returns-2 c = simp (sym (c .before .before .misfits .ensures) ∙ c .before .if1 .left, eq-eqb _ _ (c .if2 .taken))
+
+-- src/lib.rt:236:1
+returns-3 : tie.Need-returns-3
+unfolding portAt
+returns-3 c = simp (sym (c .before .before .misfits .ensures) ∙ c .before .if1 .left, ne-eqb _ _ (c .if2 .left))
+
+pub port-at-spec : {M : Type 1} → statement M
+port-at-spec = tie.close (tie.spec misfits-requires returns returns-2 returns-3)

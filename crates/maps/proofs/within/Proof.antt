@@ -1,0 +1,19 @@
+use Rattle.ground.proofs.Tests.{tests}
+use Rattle.maps.specs.Offsets.{within}
+use Rattle.maps.proofs.within.Statement.{statement}
+use Rattle.maps.proofs.within.Tie as tie
+use Rattle.maps.proofs.within.Reads as reads
+use Rattle.maps.proofs.within.Lts as lts
+
+-- src/lib.rt:88:9
+returns : tie.Need-returns
+unfolding within
+returns c = search tests
+
+-- src/lib.rt:84:1
+returns-2 : tie.Need-returns-2
+unfolding within
+returns-2 c = search tests
+
+pub within-spec : {M : Type 1} → statement M
+within-spec = tie.close (tie.spec returns returns-2)

@@ -1,0 +1,4 @@
+pub mod Spaces
+pub mod Offsets
+pub mod Places
+pub mod Maps

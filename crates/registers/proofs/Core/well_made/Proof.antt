@@ -1,0 +1,181 @@
+use Rattle.ground.proofs.Picks.{no, yes}
+use mathlib.Core.Path.{_≡_, sym, _∙_}
+use Rattle.geometry.specs.Limits.{every}
+use Rattle.registers.specs.WellMade.{wellMade}
+use borrow.Author.Needs.{needs}
+use Rattle.registers.proofs.Core.well_made.Statement.{statement}
+use Rattle.registers.proofs.Core.well_made.Tie as tie
+use Rattle.registers.proofs.Core.well_made.Reads as reads
+use Rattle.registers.proofs.Core.well_made.Lts as lts
+use Rattle.geometry.proofs.Geometry.current_for.Reads as current-for-reads
+use Rattle.geometry.proofs.Geometry.fits.Reads as fits-reads
+use Rattle.geometry.proofs.Geometry.total.Reads as total-reads
+use Rattle.registers.proofs.Phase.hold_fits.Reads as hold-fits-reads
+use Rattle.registers.proofs.Phase.words_fit.Reads as words-fit-reads
+use Rattle.registers.proofs.State.held_in.Reads as held-in-reads
+use Rattle.registers.proofs.State.run_fits.Reads as run-fits-reads
+use Rattle.registers.proofs.index_fits.Reads as index-fits-reads
+use Rattle.registers.proofs.sreset_fits.Reads as sreset-fits-reads
+use Rattle.registers.proofs.status_fits.Reads as status-fits-reads
+
+-- src/lib.rt:244:13
+fits-requires : tie.Need-fits-requires
+fits-requires c κs = search needs
+
+-- src/lib.rt:245:13
+returns : tie.Need-returns
+unfolding wellMade every
+returns c =
+    let w1 = sym (c .before .fits2 .ensures) ∙ no _ (c .if1 .taken) in
+    simp (w1)
+
+-- src/lib.rt:247:33
+total-requires : tie.Need-total-requires
+total-requires c κs = search needs
+
+-- src/lib.rt:247:13
+current-for-requires : tie.Need-current-for-requires
+current-for-requires c κs = search needs
+
+-- src/lib.rt:248:13
+returns-2 : tie.Need-returns-2
+unfolding wellMade every
+returns-2 c =
+    let w1 = sym (c .before .before .before .before .fits2 .ensures) ∙ yes _ (c .before .before .before .if1 .left) in
+    let w2 = sym (simp (c .before .before .total .ensures) at (c .before .current-for .ensures)) ∙ no _ (c .if2 .taken) in
+    simp (w1, w2)
+
+-- src/lib.rt:250:13
+index-fits-requires : tie.Need-index-fits-requires
+index-fits-requires c κs = search needs
+
+-- src/lib.rt:251:13
+returns-3 : tie.Need-returns-3
+unfolding wellMade every
+returns-3 c =
+    let w1 = sym (c .before .before .before .before .before .before .fits2 .ensures) ∙ yes _ (c .before .before .before .before .before .if1 .left) in
+    let w2 = sym (simp (c .before .before .before .before .total .ensures) at (c .before .before .before .current-for .ensures)) ∙ yes _ (c .before .before .if2 .left) in
+    let w3 = sym (c .before .index-fits .ensures) ∙ no _ (c .if3 .taken) in
+    simp (w1, w2, w3)
+
+-- src/lib.rt:253:13
+sreset-fits-requires : tie.Need-sreset-fits-requires
+sreset-fits-requires c κs = search needs
+
+-- src/lib.rt:254:13
+returns-4 : tie.Need-returns-4
+unfolding wellMade every
+returns-4 c =
+    let w1 = sym (c .before .before .before .before .before .before .before .before .fits2 .ensures) ∙ yes _ (c .before .before .before .before .before .before .before .if1 .left) in
+    let w2 = sym (simp (c .before .before .before .before .before .before .total .ensures) at (c .before .before .before .before .before .current-for .ensures)) ∙ yes _ (c .before .before .before .before .if2 .left) in
+    let w3 = sym (c .before .before .before .index-fits .ensures) ∙ yes _ (c .before .before .if3 .left) in
+    let w4 = sym (c .before .sreset-fits .ensures) ∙ no _ (c .if4 .taken) in
+    simp (w1, w2, w3, w4)
+
+-- src/lib.rt:256:13
+status-fits-requires : tie.Need-status-fits-requires
+status-fits-requires c κs = search needs
+
+-- src/lib.rt:257:13
+returns-5 : tie.Need-returns-5
+unfolding wellMade every
+returns-5 c =
+    let w1 = sym (c .before .before .before .before .before .before .before .before .before .before .fits2 .ensures) ∙ yes _ (c .before .before .before .before .before .before .before .before .before .if1 .left) in
+    let w2 = sym (simp (c .before .before .before .before .before .before .before .before .total .ensures) at (c .before .before .before .before .before .before .before .current-for .ensures)) ∙ yes _ (c .before .before .before .before .before .before .if2 .left) in
+    let w3 = sym (c .before .before .before .before .before .index-fits .ensures) ∙ yes _ (c .before .before .before .before .if3 .left) in
+    let w4 = sym (c .before .before .before .sreset-fits .ensures) ∙ yes _ (c .before .before .if4 .left) in
+    let w5 = sym (c .before .status-fits .ensures) ∙ no _ (c .if5 .taken) in
+    simp (w1, w2, w3, w4, w5)
+
+-- src/lib.rt:259:29
+held-in-requires : tie.Need-held-in-requires
+held-in-requires c κs = search needs
+
+-- src/lib.rt:259:13
+hold-fits-requires : tie.Need-hold-fits-requires
+hold-fits-requires c κs = search needs
+
+-- src/lib.rt:260:13
+returns-6 : tie.Need-returns-6
+unfolding wellMade every
+returns-6 c =
+    let w1 = sym (c .before .before .before .before .before .before .before .before .before .before .before .before .before .fits2 .ensures) ∙ yes _ (c .before .before .before .before .before .before .before .before .before .before .before .before .if1 .left) in
+    let w2 = sym (simp (c .before .before .before .before .before .before .before .before .before .before .before .total .ensures) at (c .before .before .before .before .before .before .before .before .before .before .current-for .ensures)) ∙ yes _ (c .before .before .before .before .before .before .before .before .before .if2 .left) in
+    let w3 = sym (c .before .before .before .before .before .before .before .before .index-fits .ensures) ∙ yes _ (c .before .before .before .before .before .before .before .if3 .left) in
+    let w4 = sym (c .before .before .before .before .before .before .sreset-fits .ensures) ∙ yes _ (c .before .before .before .before .before .if4 .left) in
+    let w5 = sym (c .before .before .before .before .status-fits .ensures) ∙ yes _ (c .before .before .before .if5 .left) in
+    let w6 = sym (simp (c .before .before .held-in .ensures) at (c .before .hold-fits .ensures)) ∙ no _ (c .if6 .taken) in
+    simp (w1, w2, w3, w4, w5, w6)
+
+-- src/lib.rt:262:13
+words-fit-requires : tie.Need-words-fit-requires
+words-fit-requires c κs = search needs
+
+-- src/lib.rt:263:13
+returns-7 : tie.Need-returns-7
+unfolding wellMade every
+returns-7 c =
+    let w1 = sym (c .before .before .before .before .before .before .before .before .before .before .before .before .before .before .before .fits2 .ensures) ∙ yes _ (c .before .before .before .before .before .before .before .before .before .before .before .before .before .before .if1 .left) in
+    let w2 = sym (simp (c .before .before .before .before .before .before .before .before .before .before .before .before .before .total .ensures) at (c .before .before .before .before .before .before .before .before .before .before .before .before .current-for .ensures)) ∙ yes _ (c .before .before .before .before .before .before .before .before .before .before .before .if2 .left) in
+    let w3 = sym (c .before .before .before .before .before .before .before .before .before .before .index-fits .ensures) ∙ yes _ (c .before .before .before .before .before .before .before .before .before .if3 .left) in
+    let w4 = sym (c .before .before .before .before .before .before .before .before .sreset-fits .ensures) ∙ yes _ (c .before .before .before .before .before .before .before .if4 .left) in
+    let w5 = sym (c .before .before .before .before .before .before .status-fits .ensures) ∙ yes _ (c .before .before .before .before .before .if5 .left) in
+    let w6 = sym (simp (c .before .before .before .before .held-in .ensures) at (c .before .before .before .hold-fits .ensures)) ∙ yes _ (c .before .before .if6 .left) in
+    let w7 = sym (c .before .words-fit .ensures) ∙ no _ (c .if7 .taken) in
+    simp (w1, w2, w3, w4, w5, w6, w7)
+
+-- src/lib.rt:265:13
+run-fits-requires : tie.Need-run-fits-requires
+run-fits-requires c κs = search needs
+
+-- src/lib.rt:266:13
+returns-8 : tie.Need-returns-8
+unfolding wellMade every
+returns-8 c =
+    let w1 = sym (c .before .before .before .before .before .before .before .before .before .before .before .before .before .before .before .before .before .fits2 .ensures) ∙ yes _ (c .before .before .before .before .before .before .before .before .before .before .before .before .before .before .before .before .if1 .left) in
+    let w2 = sym (simp (c .before .before .before .before .before .before .before .before .before .before .before .before .before .before .before .total .ensures) at (c .before .before .before .before .before .before .before .before .before .before .before .before .before .before .current-for .ensures)) ∙ yes _ (c .before .before .before .before .before .before .before .before .before .before .before .before .before .if2 .left) in
+    let w3 = sym (c .before .before .before .before .before .before .before .before .before .before .before .before .index-fits .ensures) ∙ yes _ (c .before .before .before .before .before .before .before .before .before .before .before .if3 .left) in
+    let w4 = sym (c .before .before .before .before .before .before .before .before .before .before .sreset-fits .ensures) ∙ yes _ (c .before .before .before .before .before .before .before .before .before .if4 .left) in
+    let w5 = sym (c .before .before .before .before .before .before .before .before .status-fits .ensures) ∙ yes _ (c .before .before .before .before .before .before .before .if5 .left) in
+    let w6 = sym (simp (c .before .before .before .before .before .before .held-in .ensures) at (c .before .before .before .before .before .hold-fits .ensures)) ∙ yes _ (c .before .before .before .before .if6 .left) in
+    let w7 = sym (c .before .before .before .words-fit .ensures) ∙ yes _ (c .before .before .if7 .left) in
+    let w8 = sym (c .before .run-fits .ensures) ∙ no _ (c .if8 .taken) in
+    simp (w1, w2, w3, w4, w5, w6, w7, w8)
+
+-- src/lib.rt:234:5
+returns-9 : tie.Need-returns-9
+unfolding wellMade every
+returns-9 c =
+    let w1 = sym (c .before .before .before .before .before .before .before .before .before .before .before .before .before .before .before .before .before .fits2 .ensures) ∙ yes _ (c .before .before .before .before .before .before .before .before .before .before .before .before .before .before .before .before .if1 .left) in
+    let w2 = sym (simp (c .before .before .before .before .before .before .before .before .before .before .before .before .before .before .before .total .ensures) at (c .before .before .before .before .before .before .before .before .before .before .before .before .before .before .current-for .ensures)) ∙ yes _ (c .before .before .before .before .before .before .before .before .before .before .before .before .before .if2 .left) in
+    let w3 = sym (c .before .before .before .before .before .before .before .before .before .before .before .before .index-fits .ensures) ∙ yes _ (c .before .before .before .before .before .before .before .before .before .before .before .if3 .left) in
+    let w4 = sym (c .before .before .before .before .before .before .before .before .before .before .sreset-fits .ensures) ∙ yes _ (c .before .before .before .before .before .before .before .before .before .if4 .left) in
+    let w5 = sym (c .before .before .before .before .before .before .before .before .status-fits .ensures) ∙ yes _ (c .before .before .before .before .before .before .before .if5 .left) in
+    let w6 = sym (simp (c .before .before .before .before .before .before .held-in .ensures) at (c .before .before .before .before .before .hold-fits .ensures)) ∙ yes _ (c .before .before .before .before .if6 .left) in
+    let w7 = sym (c .before .before .before .words-fit .ensures) ∙ yes _ (c .before .before .if7 .left) in
+    let w8 = sym (c .before .run-fits .ensures) ∙ yes _ (c .if8 .left) in
+    simp (w1, w2, w3, w4, w5, w6, w7, w8)
+
+pub well-made-spec : {M : Type 1} → statement M
+well-made-spec =
+    tie.close
+    (tie.spec
+    fits-requires
+    returns
+    total-requires
+    current-for-requires
+    returns-2
+    index-fits-requires
+    returns-3
+    sreset-fits-requires
+    returns-4
+    status-fits-requires
+    returns-5
+    held-in-requires
+    hold-fits-requires
+    returns-6
+    words-fit-requires
+    returns-7
+    run-fits-requires
+    returns-8
+    returns-9)

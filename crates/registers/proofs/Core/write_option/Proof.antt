@@ -1,0 +1,22 @@
+use borrow.Author.Needs.{needs}
+use Rattle.registers.proofs.Core.write_option.Statement.{statement}
+use Rattle.registers.proofs.Core.write_option.Tie as tie
+use Rattle.registers.proofs.Core.write_option.Reads as reads
+use Rattle.registers.proofs.Core.write_option.Lts as lts
+use Rattle.registers.proofs.Core.option_turned.Reads as option-turned-reads
+use Rattle.registers.proofs.resets.turn_of.Reads as turn-of-reads
+
+-- src/resets.rt:133:13
+turn-of-requires : tie.Need-turn-of-requires
+turn-of-requires c κs = search needs
+
+-- src/resets.rt:134:9
+option-turned-requires : tie.Need-option-turned-requires
+option-turned-requires c κs = search needs
+
+-- src/resets.rt:129:5
+returns : tie.Need-returns
+returns c = simp (c .before .before .turn-of .ensures) at (c .option-turned .ensures)
+
+pub write-option-spec : {M : Type 1} → statement M
+write-option-spec = tie.close (tie.spec turn-of-requires option-turned-requires returns)

@@ -1,0 +1,36 @@
+use Rattle.registers.specs.WellMade.{holdFits}
+use borrow.Author.Needs.{needs}
+use Rattle.registers.proofs.Phase.hold_fits.Statement.{statement}
+use Rattle.registers.proofs.Phase.hold_fits.Tie as tie
+use Rattle.registers.proofs.Phase.hold_fits.Reads as reads
+use Rattle.registers.proofs.Phase.hold_fits.Lts as lts
+
+-- src/lib.rt:132:28
+enum-told : tie.Need-enum-told
+enum-told c = search needs
+
+-- src/lib.rt:133:33
+enum-told-2 : tie.Need-enum-told-2
+enum-told-2 c = search needs
+
+-- src/lib.rt:134:34
+enum-told-3 : tie.Need-enum-told-3
+enum-told-3 c = search needs
+
+-- src/lib.rt:128:5
+returns : tie.Need-returns
+unfolding holdFits
+returns c = simp (c .enum-told .given .1)
+
+-- src/lib.rt:128:5
+returns-2 : tie.Need-returns-2
+unfolding holdFits
+returns-2 c = simp (c .enum-told2 .given .1)
+
+-- src/lib.rt:128:5
+returns-3 : tie.Need-returns-3
+unfolding holdFits
+returns-3 c = simp (c .enum-told3 .given .1)
+
+pub hold-fits-spec : {M : Type 1} → statement M
+hold-fits-spec = tie.close (tie.spec enum-told enum-told-2 enum-told-3 returns returns-2 returns-3)

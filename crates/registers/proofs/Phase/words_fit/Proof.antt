@@ -1,0 +1,37 @@
+use Rattle.registers.specs.WellMade.{wordsFit}
+use borrow.Author.Needs.{needs}
+use Rattle.registers.proofs.Phase.words_fit.Statement.{statement}
+use Rattle.registers.proofs.Phase.words_fit.Tie as tie
+use Rattle.registers.proofs.Phase.words_fit.Reads as reads
+use Rattle.registers.proofs.Phase.words_fit.Lts as lts
+
+-- src/lib.rt:142:28
+enum-told : tie.Need-enum-told
+enum-told c = search needs
+
+-- src/lib.rt:143:27
+enum-known-self : tie.Need-enum-known-self
+enum-known-self c = search needs
+
+-- src/lib.rt:144:28
+enum-known-self-2 : tie.Need-enum-known-self-2
+enum-known-self-2 c = search needs
+
+-- src/lib.rt:138:5
+returns : tie.Need-returns
+unfolding wordsFit
+returns c = simp (c .enum-told .given .1)
+
+-- src/lib.rt:138:5
+returns-2 : tie.Need-returns-2
+unfolding wordsFit
+returns-2 c = simp (c .before .before .self .given .1)
+
+-- src/lib.rt:138:5
+returns-3 : tie.Need-returns-3
+unfolding wordsFit
+returns-3 c = simp (c .before .before .self2 .given .1)
+
+pub words-fit-spec : {M : Type 1} → statement M
+words-fit-spec =
+    tie.close (tie.spec enum-told enum-known-self enum-known-self-2 returns returns-2 returns-3)

@@ -1,0 +1,68 @@
+use mathlib.Core.Path.{_≡_, sym, _∙_}
+use Rattle.registers.specs.WellMade.{found}
+use borrow.Author.Needs.{needs}
+use Rattle.registers.proofs.State.found.Statement.{statement}
+use Rattle.registers.proofs.State.found.Tie as tie
+use Rattle.registers.proofs.State.found.Reads as reads
+use Rattle.registers.proofs.State.found.Lts as lts
+use Rattle.geometry.proofs.Address.locate.Reads as locate-reads
+use Rattle.geometry.proofs.Geometry.total.Reads as total-reads
+
+-- src/lib.rt:168:44
+total-requires : tie.Need-total-requires
+total-requires c κs = search needs
+
+-- src/lib.rt:168:15
+locate-requires : tie.Need-locate-requires
+locate-requires c κs = search needs
+
+-- src/lib.rt:169:33
+enum-told : tie.Need-enum-told
+enum-told c = search needs
+
+-- src/lib.rt:170:41
+enum-told-2 : tie.Need-enum-told-2
+enum-told-2 c = search needs
+
+-- src/lib.rt:171:37
+enum-told-3 : tie.Need-enum-told-3
+enum-told-3 c = search needs
+
+-- src/lib.rt:172:32
+enum-told-4 : tie.Need-enum-told-4
+enum-told-4 c = search needs
+
+-- src/lib.rt:161:5
+returns : tie.Need-returns
+unfolding found
+returns c = let e = simp (c .before .before .before .total .ensures) at (sym (c .before .before .locate .ensures) ∙ c .enum-told .given .1) in simp e
+
+-- src/lib.rt:161:5
+returns-2 : tie.Need-returns-2
+unfolding found
+returns-2 c = let e = simp (c .before .before .before .total .ensures) at (sym (c .before .before .locate .ensures) ∙ c .enum-told2 .given .1) in simp e
+
+-- src/lib.rt:161:5
+returns-3 : tie.Need-returns-3
+unfolding found
+returns-3 c = let e = simp (c .before .before .before .total .ensures) at (sym (c .before .before .locate .ensures) ∙ c .enum-told3 .given .1) in simp e
+
+-- src/lib.rt:161:5
+returns-4 : tie.Need-returns-4
+unfolding found
+returns-4 c = let e = simp (c .before .before .before .total .ensures) at (sym (c .before .before .locate .ensures) ∙ c .enum-told4 .given .1) in simp e
+
+pub found-spec : {M : Type 1} → statement M
+found-spec =
+    tie.close
+    (tie.spec
+    total-requires
+    locate-requires
+    enum-told
+    enum-told-2
+    enum-told-3
+    enum-told-4
+    returns
+    returns-2
+    returns-3
+    returns-4)

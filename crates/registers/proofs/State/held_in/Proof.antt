@@ -1,0 +1,19 @@
+use Rattle.ground.proofs.Tests.{tests}
+use Rattle.registers.specs.WellMade.{heldIn}
+use Rattle.registers.proofs.State.held_in.Statement.{statement}
+use Rattle.registers.proofs.State.held_in.Tie as tie
+use Rattle.registers.proofs.State.held_in.Reads as reads
+use Rattle.registers.proofs.State.held_in.Lts as lts
+
+-- src/lib.rt:155:13
+returns : tie.Need-returns
+unfolding heldIn
+returns c = search tests
+
+-- src/lib.rt:151:5
+returns-2 : tie.Need-returns-2
+unfolding heldIn
+returns-2 c = search tests
+
+pub held-in-spec : {M : Type 1} → statement M
+held-in-spec = tie.close (tie.spec returns returns-2)

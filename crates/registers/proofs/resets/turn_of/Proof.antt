@@ -1,0 +1,28 @@
+use Rattle.registers.specs.Resets.{turnOf}
+use Rattle.registers.proofs.resets.turn_of.Statement.{statement}
+use Rattle.registers.proofs.resets.turn_of.Tie as tie
+use Rattle.registers.proofs.resets.turn_of.Reads as reads
+use Rattle.registers.proofs.resets.turn_of.Lts as lts
+
+-- src/resets.rt:26:13
+returns : tie.Need-returns
+unfolding turnOf
+returns c = simp (c .if2 .taken, c .before .if1 .taken)
+
+-- src/resets.rt:28:9
+returns-2 : tie.Need-returns-2
+unfolding turnOf
+returns-2 c = simp (c .if2 .left, c .before .if1 .taken)
+
+-- src/resets.rt:31:9
+returns-3 : tie.Need-returns-3
+unfolding turnOf
+returns-3 c = simp (c .if3 .taken, c .before .if1 .left)
+
+-- src/resets.rt:21:1
+returns-4 : tie.Need-returns-4
+unfolding turnOf
+returns-4 c = simp (c .if3 .left, c .before .if1 .left)
+
+pub turn-of-spec : {M : Type 1} → statement M
+turn-of-spec = tie.close (tie.spec returns returns-2 returns-3 returns-4)

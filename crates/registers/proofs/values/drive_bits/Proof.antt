@@ -1,0 +1,16 @@
+use Rattle.ground.proofs.Tests.{tests}
+use Rattle.registers.proofs.values.drive_bits.Statement.{statement}
+use Rattle.registers.proofs.values.drive_bits.Tie as tie
+use Rattle.registers.proofs.values.drive_bits.Reads as reads
+use Rattle.registers.proofs.values.drive_bits.Lts as lts
+
+-- src/values.rt:27:9
+returns : tie.Need-returns
+returns c = search tests
+
+-- src/values.rt:23:1
+returns-2 : tie.Need-returns-2
+returns-2 c = search tests
+
+pub drive-bits-spec : {M : Type 1} → statement M
+drive-bits-spec = tie.close (tie.spec returns returns-2)

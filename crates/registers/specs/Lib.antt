@@ -1,0 +1,5 @@
+pub mod State
+pub mod WellMade
+pub mod PowerOn
+pub mod Resets
+pub mod Values

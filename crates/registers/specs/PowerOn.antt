@@ -1,0 +1,21 @@
+-- 01, "Registers": "Power-on: Status 50H, Error 01H, Count 1, Sector 1, the rest 0, …, code 00H, default geometry, index 0".
+use Prim.Native.Nat.{ℕ}
+use mathlib.Core.Bool.{true, false}
+use Rattle.registers.specs.declared.Registers.{Registers}
+use Rattle.registers.specs.declared.Made.{Made}
+use Rattle.registers.specs.declared.State.{State}
+
+abbrev pub powerRegisters : Registers
+powerRegisters = record { status = 0x50; error = 0x01; count = 1; address = record { sector = 1; low = 0; high = 0; head = 0 } }
+
+-- with a map setting, since a cleared SRESET "is power-on with the index just written"
+abbrev pub powerOn : Made → ℕ → State
+powerOn made option = record {
+  made = made;
+  current = made .default;
+  registers = powerRegisters;
+  option = option;
+  control = record { held = false; masked = false };
+  mark = false;
+  code = 0x00;
+}

@@ -1,0 +1,97 @@
+-- 01, "What is lent": "A card value is well made if: …". Each condition is a definition of its own, in 01's order.
+use Prim.Native.Nat.{ℕ, _%_}
+use mathlib.Core.Bool.{Bool, true, false, not}
+use mathlib.Core.List.{[], _∷_}
+use lib.Dec.{leb, ltb, eqb}
+use Rattle.ground.specs.Choice.{pick}
+use Rattle.geometry.specs.declared.Located.{Located}
+use Rattle.geometry.specs.declared.Located.the-variants.{Good, BadHeadOrSector, BadCylinder, BadLba}
+use Rattle.geometry.specs.Limits.{every, fits, totalOf, currentFor}
+use Rattle.geometry.specs.Address.{locate}
+use Rattle.maps.specs.declared.Mode.{Mode}
+use Rattle.maps.specs.declared.Mode.the-variants.{PcCard, TrueIde}
+use Rattle.registers.specs.declared.Load.{Load}
+use Rattle.registers.specs.declared.Load.the-variants.{Sectors, Buffer}
+use Rattle.registers.specs.declared.Phase.{Phase}
+use Rattle.registers.specs.declared.Phase.the-variants.{Idle, DataIn, DataOut}
+use Rattle.registers.specs.declared.State.{State}
+use Rattle.registers.specs.State.{sresetIn, indexIn}
+
+-- N
+abbrev pub totalIn : State → ℕ
+totalIn s = totalOf (s .made .default)
+
+-- where the address registers point
+abbrev pub locatedIn : State → Located
+locatedIn s = locate (s .registers .address) (s .current) (totalIn s)
+
+-- the map index is 0..3
+unfoldable pub indexFits : ℕ → Bool
+indexFits option = leb (indexIn option) 3
+
+-- SRESET is not set in mode 1
+unfoldable pub sresetFits : Mode → ℕ → Bool
+sresetFits PcCard option = true
+sresetFits TrueIde option = not (sresetIn option)
+
+-- Status is 58H exactly while a transfer runs, else 50H, 51H or 71H
+unfoldable pub atRest : ℕ → Bool
+atRest status = pick (eqb status 0x50) true (pick (eqb status 0x51) true (eqb status 0x71))
+
+unfoldable pub statusFits : Phase → ℕ → Bool
+statusFits Idle status = atRest status
+statusFits (DataIn t) status = eqb status 0x58
+statusFits (DataOut t) status = eqb status 0x58
+
+-- no transfer runs in a held reset
+unfoldable pub heldIn : State → Bool
+heldIn s = pick (sresetIn (s .option)) true (s .control .held)
+
+unfoldable pub holdFits : Phase → Bool → Bool
+holdFits Idle held = true
+holdFits (DataIn t) held = not held
+holdFits (DataOut t) held = not held
+
+-- words already moved are 0..255
+unfoldable pub wordsFit : Phase → Bool
+wordsFit Idle = true
+wordsFit (DataIn t) = leb (t .words) 255
+wordsFit (DataOut t) = leb (t .words) 255
+
+-- a running sector transfer has a valid address in its registers and 1..256 sectors left, agreeing with Sector Count modulo 256
+unfoldable pub found : Located → Bool
+found (Good spot) = true
+found BadHeadOrSector = false
+found BadCylinder = false
+found BadLba = false
+
+unfoldable pub sectorsFit : ℕ → State → Bool
+sectorsFit left s =
+    every
+    (found (locatedIn s)
+    ∷ leb 1 left
+    ∷ leb left 256
+    ∷ eqb (left % 256) (s .registers .count)
+    ∷ [])
+
+unfoldable pub loadFits : Load → State → Bool
+loadFits Buffer s = true
+loadFits (Sectors left) s = sectorsFit left s
+
+unfoldable pub runFits : Phase → State → Bool
+runFits Idle s = true
+runFits (DataIn t) s = loadFits (t .load) s
+runFits (DataOut t) s = loadFits (t .load) s
+
+unfoldable pub wellMade : Phase → State → Bool
+wellMade p s =
+    every
+    (fits (s .made .default)
+    ∷ currentFor (s .current) (totalIn s)
+    ∷ indexFits (s .option)
+    ∷ sresetFits (s .made .mode) (s .option)
+    ∷ statusFits p (s .registers .status)
+    ∷ holdFits p (heldIn s)
+    ∷ wordsFit p
+    ∷ runFits p s
+    ∷ [])

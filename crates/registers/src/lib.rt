@@ -1,0 +1,275 @@
+// The card's state without its buffer: registers, geometries, transfer, the two resets, the interrupt mark; what is well made; what reading and
+// writing a register does, but for a command.
+use geometry::Address;
+use geometry::Geometry;
+use geometry::Located;
+use maps::Mode;
+use maps::Register;
+ghost use mathlib.Core.Path.{_≡_};
+ghost use mathlib.Core.Bool.{Bool};
+ghost use Rattle.registers.specs.State.{runs, lineOf};
+ghost use Rattle.registers.specs.WellMade.{locatedIn, indexFits, sresetFits, atRest, statusFits, heldIn, holdFits, wordsFit, found, sectorsFit, loadFits, runFits, wellMade};
+
+pub mod resets;
+pub mod values;
+
+// 01, "Data": within a word nothing, the low half or the high half has moved.
+pub enum Half {
+    Nothing,
+    Low,
+    High,
+}
+
+// What moves: sectors, with how many are left, the present one included; or the buffer.
+pub enum Load {
+    Sectors(u16),
+    Buffer,
+}
+
+pub struct Transfer {
+    pub load: Load,
+    pub half: Half,
+    pub words: u16,
+}
+
+pub enum Phase {
+    Idle,
+    DataIn(Transfer),
+    DataOut(Transfer),
+}
+
+pub struct Registers {
+    pub status: u8,
+    pub error: u8,
+    pub count: u8,
+    pub address: Address,
+}
+
+// What the opening fixes.
+pub struct Made {
+    pub mode: Mode,
+    pub default: Geometry,
+}
+
+// Device Control: bit 2 holds the card, bit 1 masks the interrupt line.
+pub struct Control {
+    pub held: bool,
+    pub masked: bool,
+}
+
+// All of the card but its phase and its buffer.
+pub struct State {
+    pub made: Made,
+    pub current: Geometry,
+    pub registers: Registers,
+    pub option: u8,
+    pub control: Control,
+    pub mark: bool,
+    pub code: u8,
+}
+
+// The card without its buffer.
+pub struct Core {
+    pub phase: Phase,
+    pub state: State,
+}
+
+// ---- 01, "A card value is well made if"
+
+fn index_fits(option: u8) -> bool
+    ensures { λ r. ⌜ r ≡ indexFits option ⌝ }
+{
+    option % 64 <= 3
+}
+
+fn sreset_fits(mode: Mode, option: u8) -> bool
+    ensures { λ r. ⌜ r ≡ sresetFits mode option ⌝ }
+{
+    match mode {
+        Mode::PcCard => true,
+        Mode::TrueIde => {
+            if option >= 128 {
+                return false;
+            }
+            true
+        }
+    }
+}
+
+fn at_rest(status: u8) -> bool
+    ensures { λ r. ⌜ r ≡ atRest status ⌝ }
+{
+    if status == 0x50 {
+        return true;
+    }
+    if status == 0x51 {
+        return true;
+    }
+    status == 0x71
+}
+
+fn status_fits(phase: Phase, status: u8) -> bool
+    ensures { λ r. ⌜ r ≡ statusFits phase status ⌝ }
+{
+    match phase {
+        Phase::Idle => at_rest(status),
+        Phase::DataIn(_) => status == 0x58,
+        Phase::DataOut(_) => status == 0x58,
+    }
+}
+
+impl Phase {
+    // Whether a transfer runs.
+    pub fn runs(self) -> bool
+        ensures { λ r. ⌜ r ≡ runs self ⌝ }
+    {
+        match self {
+            Phase::Idle => false,
+            Phase::DataIn(_) => true,
+            Phase::DataOut(_) => true,
+        }
+    }
+
+    fn hold_fits(self, held: bool) -> bool
+        ensures { λ r. ⌜ r ≡ holdFits self held ⌝ }
+    {
+        match self {
+            Phase::Idle => true,
+            Phase::DataIn(_) => !held,
+            Phase::DataOut(_) => !held,
+        }
+    }
+
+    fn words_fit(self) -> bool
+        ensures { λ r. ⌜ r ≡ wordsFit self ⌝ }
+    {
+        match self {
+            Phase::Idle => true,
+            Phase::DataIn(t) => t.words <= 255,
+            Phase::DataOut(t) => t.words <= 255,
+        }
+    }
+}
+
+impl State {
+    // Whether SRESET or Device Control holds the card.
+    fn held_in(self) -> bool
+        ensures { λ r. ⌜ r ≡ heldIn self ⌝ }
+    {
+        if self.option >= 128 {
+            return true;
+        }
+        self.control.held
+    }
+
+    // Whether the address registers name a sector.
+    fn found(self) -> bool
+        ensures { λ r. ⌜ r ≡ found (locatedIn self) ⌝ }
+    {
+        let registers = self.registers;
+        let made = self.made;
+        let address = registers.address;
+        let default = made.default;
+        match address.locate(self.current, default.total()) {
+            Located::Good(_) => true,
+            Located::BadHeadOrSector => false,
+            Located::BadCylinder => false,
+            Located::BadLba => false,
+        }
+    }
+
+    fn sectors_fit(self, left: u16) -> bool
+        ensures { λ r. ⌜ r ≡ sectorsFit left self ⌝ }
+    {
+        if !self.found() {
+            return false;
+        }
+        if left < 1 {
+            return false;
+        }
+        if 256 < left {
+            return false;
+        }
+        let registers = self.registers;
+        let count = registers.count as u16;
+        if left % 256 != count {
+            return false;
+        }
+        true
+    }
+
+    fn load_fits(self, load: Load) -> bool
+        ensures { λ r. ⌜ r ≡ loadFits load self ⌝ }
+    {
+        match load {
+            Load::Buffer => true,
+            Load::Sectors(left) => self.sectors_fit(left),
+        }
+    }
+
+    fn run_fits(self, phase: Phase) -> bool
+        ensures { λ r. ⌜ r ≡ runFits phase self ⌝ }
+    {
+        match phase {
+            Phase::Idle => true,
+            Phase::DataIn(t) => {
+                let load = t.load;
+                self.load_fits(load)
+            }
+            Phase::DataOut(t) => {
+                let load = t.load;
+                self.load_fits(load)
+            }
+        }
+    }
+
+    // The interrupt line: the mark is set and bit 1 is clear.
+    pub fn line(self) -> bool
+        ensures { λ r. ⌜ r ≡ lineOf self ⌝ }
+    {
+        let control = self.control;
+        if control.masked {
+            return false;
+        }
+        self.mark
+    }
+}
+
+impl Core {
+    pub fn well_made(self) -> bool
+        ensures { λ r. ⌜ r ≡ wellMade (self .phase) (self .state) ⌝ }
+    {
+        let phase = self.phase;
+        let state = self.state;
+        let made = state.made;
+        let mode = made.mode;
+        let default = made.default;
+        let current = state.current;
+        let registers = state.registers;
+        if !default.fits() {
+            return false;
+        }
+        if !current.current_for(default.total()) {
+            return false;
+        }
+        if !index_fits(state.option) {
+            return false;
+        }
+        if !sreset_fits(mode, state.option) {
+            return false;
+        }
+        if !status_fits(phase, registers.status) {
+            return false;
+        }
+        if !phase.hold_fits(state.held_in()) {
+            return false;
+        }
+        if !phase.words_fit() {
+            return false;
+        }
+        if !state.run_fits(phase) {
+            return false;
+        }
+        true
+    }
+}

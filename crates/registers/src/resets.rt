@@ -1,0 +1,181 @@
+// The two resets: SRESET in the Configuration Option Register, and bit 2 of Device Control.
+use super::Control;
+use super::Core;
+use super::Made;
+use super::Phase;
+use super::Registers;
+use super::State;
+use geometry::Address;
+ghost use mathlib.Core.Path.{_≡_};
+ghost use Rattle.registers.specs.PowerOn.{powerRegisters, powerOn};
+ghost use Rattle.registers.specs.Resets.{turnOf, restStatus, entered, optionTurn, optionTurned, bufferTurned, controlTurned, controlWritten};
+
+// What writing a reset's bit does to the hold.
+pub enum Turn {
+    Enter,
+    Leave,
+    Stay,
+}
+
+// Was the card held, is the bit set now.
+fn turn_of(was: bool, now: bool) -> Turn
+    ensures { λ r. ⌜ r ≡ turnOf was now ⌝ }
+{
+    if was {
+        if now {
+            return Turn::Stay;
+        }
+        return Turn::Leave;
+    }
+    if now {
+        return Turn::Enter;
+    }
+    Turn::Stay
+}
+
+impl Phase {
+    // 01: a reset that ends a transfer leaves Status 50H.
+    fn rest_status(self, status: u8) -> u8
+        ensures { λ r. ⌜ r ≡ restStatus self status ⌝ }
+    {
+        match self {
+            Phase::Idle => status,
+            Phase::DataIn(_) => 0x50,
+            Phase::DataOut(_) => 0x50,
+        }
+    }
+}
+
+impl Made {
+    // 01, power-on, with a map setting.
+    pub fn power_on(self, option: u8) -> State
+        ensures { λ r. ⌜ r ≡ powerOn self option ⌝ }
+    {
+        let default = self.default;
+        State {
+            made: self,
+            current: default,
+            registers: Registers {
+                status: 0x50,
+                error: 0x01,
+                count: 1,
+                address: Address {
+                    sector: 1,
+                    low: 0,
+                    high: 0,
+                    head: 0,
+                },
+            },
+            option: option,
+            control: Control {
+                held: false,
+                masked: false,
+            },
+            mark: false,
+            code: 0x00,
+        }
+    }
+}
+
+impl State {
+    // A reset is entered: the transfer ends, the interrupt mark is cleared.
+    fn entered(mut self, phase: Phase) -> State
+        ensures { λ r. ⌜ r ≡ entered phase self ⌝ }
+    {
+        let registers = self.registers;
+        let status = phase.rest_status(registers.status);
+        self.registers.status = status;
+        self.mark = false;
+        self
+    }
+}
+
+impl Core {
+    fn option_turned(self, turn: Turn, value: u8, buffer: &mut [u8; 512]) -> Core
+        ensures { λ r. ⌜ (r ≡ optionTurned turn value (self .phase) (self .state)) × (now (buffer .exit) ≡ bufferTurned turn (now (buffer .entry))) ⌝ }
+    {
+        let phase = self.phase;
+        let state = self.state;
+        match turn {
+            Turn::Enter => {
+                let mut held = state.entered(phase);
+                held.option = value;
+                Core {
+                    phase: Phase::Idle,
+                    state: held,
+                }
+            }
+            Turn::Leave => {
+                *buffer = [0u8; 512];
+                let made = state.made;
+                let fresh = made.power_on(value);
+                Core {
+                    phase: Phase::Idle,
+                    state: fresh,
+                }
+            }
+            Turn::Stay => {
+                let mut set = state;
+                set.option = value;
+                Core {
+                    phase: phase,
+                    state: set,
+                }
+            }
+        }
+    }
+
+    // A write of the Configuration Option Register, of an index that is 0..3.
+    pub fn write_option(self, value: u8, buffer: &mut [u8; 512]) -> Core
+        ensures { λ r. ⌜ (r ≡ optionTurned (optionTurn value (self .state)) value (self .phase) (self .state)) × (now (buffer .exit) ≡ bufferTurned (optionTurn value (self .state)) (now (buffer .entry))) ⌝ }
+    {
+        let state = self.state;
+        let turn = turn_of(state.option >= 128, value >= 128);
+        self.option_turned(turn, value, buffer)
+    }
+
+    fn control_turned(self, turn: Turn, masked: bool) -> Core
+        ensures { λ r. ⌜ r ≡ controlTurned turn masked (self .phase) (self .state) ⌝ }
+    {
+        let phase = self.phase;
+        let state = self.state;
+        match turn {
+            Turn::Enter => {
+                let mut held = state.entered(phase);
+                held.control.held = true;
+                held.control.masked = masked;
+                Core {
+                    phase: Phase::Idle,
+                    state: held,
+                }
+            }
+            Turn::Leave => {
+                let made = state.made;
+                let mut fresh = made.power_on(state.option);
+                fresh.control.masked = masked;
+                Core {
+                    phase: Phase::Idle,
+                    state: fresh,
+                }
+            }
+            Turn::Stay => {
+                let mut set = state;
+                set.control.masked = masked;
+                Core {
+                    phase: phase,
+                    state: set,
+                }
+            }
+        }
+    }
+
+    // A write of Device Control.
+    pub fn write_control(self, value: u8) -> Core
+        ensures { λ r. ⌜ r ≡ controlWritten value (self .phase) (self .state) ⌝ }
+    {
+        let state = self.state;
+        let control = state.control;
+        let turn = turn_of(control.held, value / 4 % 2 == 1);
+        self.control_turned(turn, value / 2 % 2 == 1)
+    }
+}

@@ -1,0 +1,137 @@
+// What a read of each register gives, and what a write to one leaves, but for Command and Device Control.
+use super::Core;
+use super::Phase;
+use super::State;
+use maps::Register;
+ghost use mathlib.Core.Path.{_≡_};
+ghost use Prim.Native.Nat.{_<_};
+ghost use Rattle.registers.specs.Values.{headBits, headRead, writingBit, driveBits, driveAddress, registerValue, valueRead, afterRead, registerSet};
+
+fn head_bits(value: u8) -> u8
+    ensures { λ r. ⌜ (r ≡ headBits value) × (r < 96) ⌝ }
+{
+    value / 64 % 2 * 64 + value % 32
+}
+
+// 01: Drive/Head reads with bits 7 and 5 set.
+fn head_read(value: u8) -> u8
+    ensures { λ r. ⌜ r ≡ headRead value ⌝ }
+{
+    0xA0 + head_bits(value)
+}
+
+fn drive_bits(head: u8) -> u8
+    ensures { λ r. ⌜ (r ≡ driveBits head) × (r < 3) ⌝ }
+{
+    if head / 16 % 2 == 1 {
+        return 1;
+    }
+    2
+}
+
+impl Phase {
+    fn writing_bit(self) -> u8
+        ensures { λ r. ⌜ (r ≡ writingBit self) × (r < 65) ⌝ }
+    {
+        match self {
+            Phase::Idle => 0x40,
+            Phase::DataIn(_) => 0x40,
+            Phase::DataOut(_) => 0,
+        }
+    }
+
+    fn drive_address(self, head: u8) -> u8
+        ensures { λ r. ⌜ r ≡ driveAddress self head ⌝ }
+    {
+        self.writing_bit() + ((15 - head % 16) * 4 + drive_bits(head))
+    }
+}
+
+impl Core {
+    fn register_value(self, register: Register) -> u8
+        ensures { λ r. ⌜ r ≡ registerValue register (self .phase) (self .state) ⌝ }
+    {
+        let phase = self.phase;
+        let state = self.state;
+        let registers = state.registers;
+        let address = registers.address;
+        match register {
+            Register::ErrorFeature => registers.error,
+            Register::SectorCount => registers.count,
+            Register::SectorNumber => address.sector,
+            Register::CylinderLow => address.low,
+            Register::CylinderHigh => address.high,
+            Register::DriveHead => head_read(address.head),
+            Register::StatusCommand => registers.status,
+            Register::AlternateControl => registers.status,
+            Register::DriveAddress => phase.drive_address(address.head),
+        }
+    }
+
+    // The value of a register's read: 80H while Device Control holds the card.
+    pub fn value_read(self, register: Register) -> u8
+        ensures { λ r. ⌜ r ≡ valueRead register (self .phase) (self .state) ⌝ }
+    {
+        let state = self.state;
+        let control = state.control;
+        if control.held {
+            return 0x80;
+        }
+        self.register_value(register)
+    }
+}
+
+impl State {
+    // 01: reading Status clears the interrupt mark; no other register does.
+    pub fn after_read(mut self, register: Register) -> State
+        ensures { λ r. ⌜ r ≡ afterRead register self ⌝ }
+    {
+        match register {
+            Register::ErrorFeature => self,
+            Register::SectorCount => self,
+            Register::SectorNumber => self,
+            Register::CylinderLow => self,
+            Register::CylinderHigh => self,
+            Register::DriveHead => self,
+            Register::StatusCommand => {
+                self.mark = false;
+                self
+            }
+            Register::AlternateControl => self,
+            Register::DriveAddress => self,
+        }
+    }
+
+    // A register is written.
+    pub fn register_set(mut self, register: Register, value: u8) -> State
+        ensures { λ r. ⌜ r ≡ registerSet register value self ⌝ }
+    {
+        match register {
+            Register::ErrorFeature => self,
+            Register::SectorCount => {
+                self.registers.count = value;
+                self
+            }
+            Register::SectorNumber => {
+                self.registers.address.sector = value;
+                self
+            }
+            Register::CylinderLow => {
+                self.registers.address.low = value;
+                self
+            }
+            Register::CylinderHigh => {
+                self.registers.address.high = value;
+                self
+            }
+            Register::DriveHead => {
+                let head = head_bits(value);
+                self.registers.address.head = head;
+                self
+            }
+            Register::StatusCommand => self,
+            Register::AlternateControl => self,
+            Register::DriveAddress => self,
+        }
+    }
+}
