@@ -7,15 +7,15 @@ use native.Mathlib.Nat.{mul-le-mul-right}
 use native.Mathlib.Omega.{arith}
 use lib.Dec.{ltb, leb}
 use borrow.Author.Tests.{ltb-true, leb-true, lt-ltb, le-leb}
-use Rattle.ground.specs.Choice.{pick}
+use Rattle.ground.specs.Choice.{pick, every}
 use Rattle.geometry.specs.declared.Geometry.{Geometry}
 use Rattle.geometry.specs.declared.Address.{Address}
 use Rattle.geometry.specs.declared.Spot.{Spot}
 use Rattle.geometry.specs.declared.Located.{Located}
-use Rattle.geometry.specs.Limits.{every, capacityOf, currentFor}
+use Rattle.geometry.specs.Limits.{capacityOf, currentFor}
 use Rattle.geometry.specs.Address.{byLba, headOf, cylinderOf, lbaOf, chsIndex, locateLba, locateChs, locate, roomOf}
 use Rattle.geometry.specs.Codes.{found, indexOf}
-use Rattle.geometry.proofs.Tests.{each}
+use Rattle.ground.proofs.Every.{each}
 use Rattle.geometry.proofs.Limits.{current-room}
 
 -- 01's conditions on a CHS address: h<H, s 1..S, c<C.

@@ -1,4 +1,3 @@
-pub mod Tests
 pub mod Bounds
 pub mod Limits
 pub mod Shapes

@@ -6,7 +6,7 @@ use native.Mathlib.Nat.{mul-assoc, div-mul-le-self}
 use borrow.Author.Tests.{leb-true, eqb-true}
 use Rattle.geometry.specs.declared.Geometry.{Geometry}
 use Rattle.geometry.specs.Limits.{capacityOf, fits, limits, totalOf, currentFor, currentTests, cylindersFor}
-use Rattle.geometry.proofs.Tests.{each}
+use Rattle.ground.proofs.Every.{each}
 use Rattle.geometry.proofs.Bounds.{product-positive}
 
 -- What a geometry within the limits is.

@@ -6,13 +6,13 @@ use native.Mathlib.Nat.{add-mul, div-le-self}
 use native.Mathlib.Omega.{arith}
 use lib.Dec.{ltb}
 use borrow.Author.Tests.{ltb-true, ltb-false, lt-ltb, le-ltb, le-leb}
-use Rattle.ground.specs.Choice.{pick}
+use Rattle.ground.specs.Choice.{pick, every}
 use Rattle.ground.proofs.Picks.{pick-elim}
 use Rattle.geometry.specs.declared.Geometry.{Geometry}
 use Rattle.geometry.specs.declared.Address.{Address}
 use Rattle.geometry.specs.declared.Spot.{Spot}
 use Rattle.geometry.specs.declared.Located.{Located}
-use Rattle.geometry.specs.Limits.{every, capacityOf, currentFor}
+use Rattle.geometry.specs.Limits.{capacityOf, currentFor}
 use Rattle.geometry.specs.Address.{byLba, headOf, cylinderOf, lbaOf, chsIndex, locateLba, locateChs, locate, roomOf}
 use Rattle.geometry.specs.Next.{atLba, atChs, nextChs, nextOf}
 use Rattle.geometry.specs.Codes.{locatedCode}

@@ -6,10 +6,10 @@ use native.Mathlib.Nat.{mul-assoc, mul-div-cancel, le-div-iff-mul-le}
 use native.Mathlib.Omega.{arith}
 use lib.Dec.{ltb, eqb}
 use borrow.Author.Tests.{le-leb, eq-eqb, ltb-false, eqb-false}
-use Rattle.ground.specs.Choice.{pick}
+use Rattle.ground.specs.Choice.{pick, every}
 use Rattle.geometry.specs.declared.Geometry.{Geometry}
 use Rattle.geometry.specs.declared.Reshaped.{Reshaped}
-use Rattle.geometry.specs.Limits.{every, fits, totalOf, currentFor, cylindersFor}
+use Rattle.geometry.specs.Limits.{fits, totalOf, currentFor, cylindersFor}
 use Rattle.geometry.specs.Shape.{shape, reshaped}
 use Rattle.geometry.specs.Codes.{currentAfter, reshapedCode}
 use Rattle.geometry.proofs.Bounds.{product-positive}

@@ -1,15 +1,10 @@
 -- 01, "What is lent": the limits of a geometry, its number of sectors, and what a current geometry must be.
 use Prim.Native.Nat.{ℕ, _*_, _/_}
-use mathlib.Core.Bool.{Bool, true, false}
+use mathlib.Core.Bool.{Bool}
 use mathlib.Core.List.{List, [], _∷_}
 use lib.Dec.{leb, eqb}
-use Rattle.ground.specs.Choice.{pick}
+use Rattle.ground.specs.Choice.{pick, every}
 use Rattle.geometry.specs.declared.Geometry.{Geometry}
-
--- Every test of a list holds.
-unfoldable pub every : List Bool → Bool
-every [] = true
-every (t ∷ l) = pick t (every l) false
 
 -- C·H·S
 abbrev pub capacityOf : Geometry → ℕ

@@ -2,3 +2,4 @@ pub mod Tests
 pub mod OnlyOne
 pub mod Lists
 pub mod Picks
+pub mod Every

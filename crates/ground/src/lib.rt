@@ -1,7 +1,7 @@
 // What every crate stands on: the choice by a test, the laws about tests and lists that the proofs cite, and two helpers.
 ghost use mathlib.Core.Path.{_≡_};
 ghost use Prim.Native.Nat.{_<_};
-ghost use lib.ListN.{length};
+ghost use lib.ListN.{length, getD};
 
 // A byte as a wider number, with its bound.
 pub fn wide(x: u8) -> u16
@@ -19,4 +19,14 @@ pub fn told(bytes: &[u8; 512])
     ensures { λ _. ⌜ length (now (bytes .entry)) ≡ 512 ⌝ }
 {
     long(*bytes);
+}
+
+// A byte of a slice, 0 past its end.
+pub fn byte_or_zero(bytes: &[u8], i: usize) -> u8
+    ensures { λ r. ⌜ r ≡ getD (now (bytes .entry)) i 0 ⌝ }
+{
+    if i < bytes.len() {
+        return bytes[i];
+    }
+    0
 }

@@ -1,4 +1,3 @@
-pub mod Both
 pub mod ReadValue
 pub mod SameOffset
 pub mod SixFirst

@@ -3,10 +3,10 @@ use Prim.Native.Nat.{ℕ, _%_}
 use mathlib.Core.Bool.{Bool, true, false, not}
 use mathlib.Core.List.{[], _∷_}
 use lib.Dec.{leb, ltb, eqb}
-use Rattle.ground.specs.Choice.{pick}
+use Rattle.ground.specs.Choice.{pick, every}
 use Rattle.geometry.specs.declared.Located.{Located}
 use Rattle.geometry.specs.declared.Located.the-variants.{Good, BadHeadOrSector, BadCylinder, BadLba}
-use Rattle.geometry.specs.Limits.{every, fits, totalOf, currentFor}
+use Rattle.geometry.specs.Limits.{fits, totalOf, currentFor}
 use Rattle.geometry.specs.Address.{locate}
 use Rattle.maps.specs.declared.Mode.{Mode}
 use Rattle.maps.specs.declared.Mode.the-variants.{PcCard, TrueIde}

@@ -97,7 +97,7 @@ impl State {
                 self.mark = false;
                 self
             }
-            Register::AlternateControl => self,
+            Register::AlternateControl => self, // the old model cleared it here too
             Register::DriveAddress => self,
         }
     }

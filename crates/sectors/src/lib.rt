@@ -29,10 +29,7 @@ pub fn writable(mark: u8) -> bool
 pub fn mark_at(marks: &[u8], i: usize) -> u8
     ensures { λ r. ⌜ r ≡ getD (now (marks .entry)) i 0 ⌝ }
 {
-    if i < marks.len() {
-        return marks[i];
-    }
-    0
+    ground::byte_or_zero(marks, i)
 }
 
 // Whether no mark is above 2.

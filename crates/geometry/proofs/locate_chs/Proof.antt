@@ -1,6 +1,6 @@
 use Rattle.geometry.proofs.Bounds.{index-most}
 use Rattle.geometry.specs.Address.{locateChs}
-use Rattle.geometry.specs.Limits.{every}
+use Rattle.ground.specs.Choice.{every}
 use native.Mathlib.Omega.{arith}
 use Rattle.ground.proofs.Tests.{tests}
 use borrow.Author.Needs.{needs}

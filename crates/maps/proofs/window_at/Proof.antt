@@ -1,5 +1,5 @@
 use Rattle.maps.specs.Offsets.{within}
-use Rattle.maps.proofs.Both.{and-left}
+use Rattle.ground.proofs.Every.{and-left}
 use borrow.Author.Tests.{eq-eqb, ne-eqb, leb-true}
 use mathlib.Core.Path.{sym, _∙_}
 use Rattle.maps.specs.Offsets.{windowAt}

@@ -1,5 +1,6 @@
 use Rattle.geometry.proofs.Bounds.{product-most, product-positive}
-use Rattle.geometry.specs.Limits.{every, currentFor}
+use Rattle.ground.specs.Choice.{every}
+use Rattle.geometry.specs.Limits.{currentFor}
 use Rattle.ground.proofs.Tests.{tests}
 use native.Mathlib.Omega.{arith}
 use Rattle.geometry.proofs.Geometry.current_for.Statement.{statement}

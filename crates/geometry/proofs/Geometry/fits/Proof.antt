@@ -1,4 +1,5 @@
-use Rattle.geometry.specs.Limits.{every, fits}
+use Rattle.ground.specs.Choice.{every}
+use Rattle.geometry.specs.Limits.{fits}
 use Rattle.ground.proofs.Tests.{tests}
 use borrow.Author.Needs.{needs}
 use Rattle.geometry.proofs.Geometry.fits.Statement.{statement}

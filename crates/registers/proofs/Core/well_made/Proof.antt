@@ -1,6 +1,6 @@
 use Rattle.ground.proofs.Picks.{no, yes}
 use mathlib.Core.Path.{_≡_, sym, _∙_}
-use Rattle.geometry.specs.Limits.{every}
+use Rattle.ground.specs.Choice.{every}
 use Rattle.registers.specs.WellMade.{wellMade}
 use borrow.Author.Needs.{needs}
 use Rattle.registers.proofs.Core.well_made.Statement.{statement}

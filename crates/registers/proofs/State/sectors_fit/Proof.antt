@@ -1,7 +1,7 @@
 use Rattle.ground.proofs.Picks.{no, yes}
 use mathlib.Core.Path.{_≡_, sym, _∙_}
 use borrow.Author.Tests.{eq-eqb, ne-eqb, lt-ltb, le-ltb, le-leb, lt-leb}
-use Rattle.geometry.specs.Limits.{every}
+use Rattle.ground.specs.Choice.{every}
 use Rattle.registers.specs.WellMade.{sectorsFit}
 use borrow.Author.Needs.{needs}
 use Rattle.registers.proofs.State.sectors_fit.Statement.{statement}

@@ -1,0 +1,96 @@
+use borrow.Author.Needs.{needs}
+use Rattle.commands.proofs.data.write_part.Statement.{statement}
+use Rattle.commands.proofs.data.write_part.Tie as tie
+use Rattle.commands.proofs.data.write_part.Reads as reads
+use Rattle.commands.proofs.data.write_part.Lts as lts
+use Rattle.commands.proofs.data.set_byte.Reads as set-byte-reads
+
+-- src/data.rt:79:15
+mul-low : tie.Need-mul-low
+mul-low c = search needs
+
+-- src/data.rt:81:31
+enum-told : tie.Need-enum-told
+enum-told c = search needs
+
+-- src/data.rt:81:44
+cast-set-byte : tie.Need-cast-set-byte
+cast-set-byte c = search needs
+
+-- src/data.rt:81:22
+set-byte-requires : tie.Need-set-byte-requires
+set-byte-requires c κs = search needs
+
+-- src/data.rt:82:32
+enum-told-2 : tie.Need-enum-told-2
+enum-told-2 c = search needs
+
+-- src/data.rt:82:40
+add-set-byte : tie.Need-add-set-byte
+add-set-byte c = search needs
+
+-- src/data.rt:82:49
+cast-set-byte-2 : tie.Need-cast-set-byte-2
+cast-set-byte-2 c = search needs
+
+-- src/data.rt:82:23
+set-byte-requires-2 : tie.Need-set-byte-requires-2
+set-byte-requires-2 c κs = search needs
+
+-- src/data.rt:84:22
+enum-told-3 : tie.Need-enum-told-3
+enum-told-3 c = search needs
+
+-- src/data.rt:84:35
+cast-set-byte-3 : tie.Need-cast-set-byte-3
+cast-set-byte-3 c = search needs
+
+-- src/data.rt:84:13
+set-byte-requires-3 : tie.Need-set-byte-requires-3
+set-byte-requires-3 c κs = search needs
+
+-- src/data.rt:85:30
+add-set-byte-2 : tie.Need-add-set-byte-2
+add-set-byte-2 c = search needs
+
+-- src/data.rt:85:39
+cast-set-byte-4 : tie.Need-cast-set-byte-4
+cast-set-byte-4 c = search needs
+
+-- src/data.rt:85:13
+set-byte-requires-4 : tie.Need-set-byte-requires-4
+set-byte-requires-4 c κs = search needs
+
+-- src/data.rt:76:1
+returns : tie.Need-returns
+returns c = simp (c .before .before .enum-told .given .1, c .set-byte .ensures)
+
+-- src/data.rt:76:1
+returns-2 : tie.Need-returns-2
+returns-2 c = simp (c .before .before .enum-told2 .given .1, c .set-byte2 .ensures)
+
+-- src/data.rt:76:1
+returns-3 : tie.Need-returns-3
+returns-3 c = simp (c .before .before .before .before .enum-told3 .given .1, c .set-byte4 .ensures, c .before .before .set-byte3 .ensures)
+
+pub write-part-spec : {M : Type 1} → statement M
+write-part-spec =
+    tie.close
+    (tie.spec
+    mul-low
+    enum-told
+    cast-set-byte
+    set-byte-requires
+    enum-told-2
+    add-set-byte
+    cast-set-byte-2
+    set-byte-requires-2
+    enum-told-3
+    cast-set-byte-3
+    set-byte-requires-3
+    add-set-byte-2
+    cast-set-byte-4
+    set-byte-requires-4
+    returns
+    returns-2
+    returns-3)

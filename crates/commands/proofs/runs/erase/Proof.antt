@@ -1,0 +1,123 @@
+use borrow.Author.Needs.{needs}
+use mathlib.Core.Path.{_≡_, sym, _∙_}
+use lib.ListN.{length}
+use Rattle.commands.specs.Runs.{eraseFrom}
+use Rattle.commands.proofs.Loops.{erase-end, erase-fails, erase-step}
+use Rattle.commands.proofs.runs.erase.Statement.{statement}
+use Rattle.commands.proofs.runs.erase.Tie as tie
+use Rattle.commands.proofs.runs.erase.Reads as reads
+use Rattle.commands.proofs.runs.erase.Lts as lts
+use Rattle.commands.proofs.ended.Reads as ended-reads
+use Rattle.commands.proofs.passed.Reads as passed-reads
+use Rattle.commands.proofs.runs.blank_sector.Reads as blank-sector-reads
+use Rattle.commands.proofs.store_tested.Reads as store-tested-reads
+
+abbrev Inv-loop : tie.InvT-loop
+Inv-loop left store₀ marks₀ bytes s₀ n₀ store marks s n = (length store ≡ length store₀) × (length marks ≡ length marks₀) × (eraseFrom n s store marks ≡ eraseFrom n₀ s₀ store₀ marks₀)
+
+abbrev μ-loop : tie.MeasureT-loop
+μ-loop left store₀ marks₀ bytes s₀ n₀ store marks s n = n
+
+-- src/runs.rt:39:17
+blank-sector-requires : tie.Need-blank-sector-requires Inv-loop μ-loop
+blank-sector-requires c κs = search needs
+
+-- src/runs.rt:42:5
+loop-holds : tie.Need-loop-holds Inv-loop μ-loop
+loop-holds c = search needs
+
+-- src/runs.rt:43:15
+store-tested-requires : tie.Need-store-tested-requires Inv-loop μ-loop
+store-tested-requires c κs = search needs
+
+-- src/runs.rt:45:17
+enum-told : tie.Need-enum-told Inv-loop μ-loop
+enum-told c = search needs
+
+-- src/runs.rt:45:17
+sub-n : tie.Need-sub-n Inv-loop μ-loop
+sub-n c = search needs
+
+-- src/runs.rt:46:17
+passed-requires : tie.Need-passed-requires Inv-loop μ-loop
+passed-requires c κs = search needs
+
+-- src/runs.rt:42:5
+loop-less : tie.Need-loop-less Inv-loop μ-loop
+loop-less c = search needs
+
+-- src/runs.rt:42:5
+loop-again : tie.Need-loop-again Inv-loop μ-loop
+loop-again c =
+    let t = c .before .before .before .before .before .before .before .store-tested in
+    let l = c .before .before .before .before .before .before .before .before .before .before .before .before .loop in
+    let k = t .kept .1 .1 in
+    let e = simp (c .before .before .before .before .before .before .before .before .before .before .before .before .before .blank-sector .ensures, c .before .enum-told .given .1) at (t .ensures) in (
+      k .0 ∙ l .inv .0,
+      k .1 .0 ∙ l .inv .1,
+      rw (c .passed .ensures) (sym (erase-step _ _ _ _ _ _ _ (c .before .before .before .before .before .before .before .before .before .before .before .loop-test .taken) e) ∙ l .inv .2),
+    )
+
+-- src/runs.rt:48:27
+enum-known-end : tie.Need-enum-known-end Inv-loop μ-loop
+enum-known-end c = search needs
+
+-- src/runs.rt:49:17
+ended-requires : tie.Need-ended-requires Inv-loop μ-loop
+ended-requires c κs = search needs
+
+-- src/runs.rt:49:17
+same-length : tie.Need-same-length Inv-loop μ-loop
+same-length c = search needs
+
+-- src/runs.rt:49:17
+same-length-2 : tie.Need-same-length-2 Inv-loop μ-loop
+same-length-2 c = search needs
+
+-- src/runs.rt:49:17
+returns : tie.Need-returns Inv-loop μ-loop
+returns c =
+    let e = simp (c .before .before .before .before .before .before .before .before .before .before .before .before .before .before .blank-sector .ensures, c .before .before .end .given .1) at (c .before .before .before .before .before .before .before .before .store-tested .ensures) in
+    simp (c .ended .ensures) (sym (erase-fails _ _ _ _ _ _ _ (c .before .before .before .before .before .before .before .before .before .before .before .before .loop-test .taken) e) ∙ c .before .before .before .before .before .before .before .before .before .before .before .before .before .loop .inv .2)
+
+-- src/runs.rt:53:5
+ended-requires-2 : tie.Need-ended-requires-2 Inv-loop μ-loop
+ended-requires-2 c κs = search needs
+
+-- src/runs.rt:36:1
+same-length-3 : tie.Need-same-length-3 Inv-loop μ-loop
+same-length-3 c = search needs
+
+-- src/runs.rt:36:1
+same-length-4 : tie.Need-same-length-4 Inv-loop μ-loop
+same-length-4 c = search needs
+
+-- src/runs.rt:36:1
+returns-2 : tie.Need-returns-2 Inv-loop μ-loop
+returns-2 c =
+    let l = c .before .before .loop in
+    simp (c .ended2 .ensures) (sym (erase-end (l .n) _ _ _ (c .before .loop-test .left)) ∙ l .inv .2)
+
+pub erase-spec : {M : Type 1} → statement M
+erase-spec =
+    tie.close
+    (tie.spec
+    Inv-loop
+    μ-loop
+    blank-sector-requires
+    loop-holds
+    store-tested-requires
+    enum-told
+    sub-n
+    passed-requires
+    loop-less
+    loop-again
+    enum-known-end
+    ended-requires
+    same-length
+    same-length-2
+    returns
+    ended-requires-2
+    same-length-3
+    same-length-4
+    returns-2)

@@ -1,0 +1,64 @@
+use mathlib.Core.Path.{sym, _∙_}
+use Rattle.commands.specs.Before.{storeTest}
+use borrow.Author.Needs.{needs}
+use Rattle.commands.proofs.store_test.Statement.{statement}
+use Rattle.commands.proofs.store_test.Tie as tie
+use Rattle.commands.proofs.store_test.Reads as reads
+use Rattle.commands.proofs.store_test.Lts as lts
+use Rattle.commands.proofs.address_test.Reads as address-test-reads
+use Rattle.sectors.proofs.mark_at.Reads as mark-at-reads
+use Rattle.sectors.proofs.writable.Reads as writable-reads
+
+-- src/lib.rt:188:11
+address-test-requires : tie.Need-address-test-requires
+address-test-requires c κs = search needs
+
+-- src/lib.rt:189:23
+enum-known-spot : tie.Need-enum-known-spot
+enum-known-spot c = search needs
+
+-- src/lib.rt:191:34
+mark-at-requires : tie.Need-mark-at-requires
+mark-at-requires c κs = search needs
+
+-- src/lib.rt:191:16
+writable-requires : tie.Need-writable-requires
+writable-requires c κs = search needs
+
+-- src/lib.rt:192:17
+returns : tie.Need-returns
+unfolding storeTest
+returns c =
+    let e = sym (c .before .before .before .before .before .before .address-test .ensures) ∙ c .before .before .before .before .spot .given .1 in
+    let w = simp (c .before .before .mark-at .ensures) at (sym (c .before .writable .ensures) ∙ c .if1 .taken) in
+    simp (e, w)
+
+-- src/lib.rt:196:23
+enum-known-end : tie.Need-enum-known-end
+enum-known-end c = search needs
+
+-- src/lib.rt:185:1
+returns-2 : tie.Need-returns-2
+unfolding storeTest
+returns-2 c =
+    let e = sym (c .before .before .before .before .before .before .address-test .ensures) ∙ c .before .before .before .before .spot .given .1 in
+    let w = simp (c .before .before .mark-at .ensures) at (sym (c .before .writable .ensures) ∙ c .if1 .left) in
+    simp (e, w)
+
+-- src/lib.rt:185:1
+returns-3 : tie.Need-returns-3
+unfolding storeTest
+returns-3 c = let e = sym (c .before .before .before .address-test .ensures) ∙ c .before .end .given .1 in simp e
+
+pub store-test-spec : {M : Type 1} → statement M
+store-test-spec =
+    tie.close
+    (tie.spec
+    address-test-requires
+    enum-known-spot
+    mark-at-requires
+    writable-requires
+    returns
+    enum-known-end
+    returns-2
+    returns-3)

@@ -1,0 +1,33 @@
+use Rattle.commands.specs.Table.{commandGiven}
+use borrow.Author.Needs.{needs}
+use Rattle.commands.proofs.table.command_given.Statement.{statement}
+use Rattle.commands.proofs.table.command_given.Tie as tie
+use Rattle.commands.proofs.table.command_given.Reads as reads
+use Rattle.commands.proofs.table.command_given.Lts as lts
+use Rattle.commands.proofs.table.command_of.Reads as command-of-reads
+use Rattle.commands.proofs.table.obey.Reads as obey-reads
+
+-- src/table.rt:225:9
+command-of-requires : tie.Need-command-of-requires
+command-of-requires c κs = search needs
+
+-- src/table.rt:226:5
+obey-requires : tie.Need-obey-requires
+obey-requires c κs = search needs
+
+-- src/table.rt:214:1
+same-length : tie.Need-same-length
+same-length c = search needs
+
+-- src/table.rt:214:1
+same-length-2 : tie.Need-same-length-2
+same-length-2 c = search needs
+
+-- src/table.rt:214:1
+returns : tie.Need-returns
+unfolding commandGiven
+returns c = simp (c .before .before .before .before .before .before .before .before .command-of .ensures) at (c .before .before .before .before .obey .ensures)
+
+pub command-given-spec : {M : Type 1} → statement M
+command-given-spec =
+    tie.close (tie.spec command-of-requires obey-requires same-length same-length-2 returns)

@@ -1,0 +1,25 @@
+use borrow.Author.Tests.{eq-eqb, ne-eqb}
+use Rattle.commands.specs.Table.{countOf}
+use borrow.Author.Needs.{needs}
+use Rattle.commands.proofs.table.count_of.Statement.{statement}
+use Rattle.commands.proofs.table.count_of.Tie as tie
+use Rattle.commands.proofs.table.count_of.Reads as reads
+use Rattle.commands.proofs.table.count_of.Lts as lts
+use Rattle.ground.proofs.wide.Reads as wide-reads
+
+-- src/table.rt:93:9
+returns : tie.Need-returns
+unfolding countOf
+returns c = simp (eq-eqb _ _ (c .if1 .taken))
+
+-- src/table.rt:95:5
+wide-requires : tie.Need-wide-requires
+wide-requires c κs = search needs
+
+-- src/table.rt:87:1
+returns-2 : tie.Need-returns-2
+unfolding countOf
+returns-2 c = simp (ne-eqb _ _ (c .before .if1 .left), c .wide .ensures .0)
+
+pub count-of-spec : {M : Type 1} → statement M
+count-of-spec = tie.close (tie.spec returns wide-requires returns-2)

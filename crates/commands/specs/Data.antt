@@ -1,0 +1,82 @@
+-- Reads and writes of the data port: 01, "Data".
+use Prim.Native.Nat.{ℕ}
+use mathlib.Core.Bool.{Bool, true, false}
+use mathlib.Core.List.{List}
+use lib.Dec.{ltb}
+use Rattle.ground.specs.Choice.{pick}
+use Rattle.answers.specs.declared.Outcome.{Outcome}
+use Rattle.answers.specs.declared.Refusal.the-variants.{HalfMoved}
+use Rattle.maps.specs.declared.Port.{Port}
+use Rattle.registers.specs.declared.Transfer.{Transfer}
+use Rattle.registers.specs.declared.Phase.{Phase}
+use Rattle.registers.specs.declared.Phase.the-variants.{Idle, DataIn, DataOut}
+use Rattle.registers.specs.State.{Machine, machine, core, withCore, withBuffer}
+use Rattle.commands.specs.declared.Take.{Take}
+use Rattle.commands.specs.declared.Done.{Done}
+use Rattle.commands.specs.Halves.{takeOf, partValue, partWritten, halved, nextWord}
+use Rattle.commands.specs.Steps.{withState, loadRead, loadWritten}
+
+-- what an access leaves: its outcome and the machine
+pub record Effect : Type 0 where
+  pub outcome : Outcome
+  pub next : Machine
+
+abbrev pub effect : Done → List ℕ → List ℕ → List ℕ → Effect
+effect d buffer store marks = record { outcome = d .outcome; next = machine (d .core) buffer store marks }
+
+abbrev pub accepted : ℕ → Machine → Effect
+accepted value m = record { outcome = Outcome.Accepted value; next = m }
+
+abbrev pub withPhase : Phase → Machine → Machine
+withPhase p m = withCore (core p (m .state)) m
+
+-- ---- reading
+
+-- a word is whole: the next one, or the last byte has gone
+unfoldable pub wordRead : Transfer → Machine → Machine
+wordRead t m = pick (ltb (t .words) 255) (withPhase (DataIn (nextWord t)) m) (loadRead (t .load) (withState (m .state) m))
+
+abbrev pub takenRead : Take → Transfer → Machine → Effect
+takenRead Take.Refused t m = record { outcome = Outcome.Refused HalfMoved; next = m }
+takenRead (Take.First part) t m = accepted (partValue part (t .words) (m .buffer)) (withPhase (DataIn (halved part t)) m)
+takenRead (Take.Last part) t m = accepted (partValue part (t .words) (m .buffer)) (wordRead t m)
+
+-- "With no transfer that way, a read gives FFH or FFFFH"
+abbrev pub absent : Port → ℕ
+absent Port.Low = 0xFF
+absent Port.High = 0xFF
+absent Port.Word = 0xFFFF
+
+-- "reads of all offsets give 80H, data words 8080H"
+abbrev pub heldValue : Port → ℕ
+heldValue Port.Low = 0x80
+heldValue Port.High = 0x80
+heldValue Port.Word = 0x8080
+
+abbrev pub phaseRead : Phase → Port → Machine → Effect
+phaseRead Idle port m = accepted (absent port) m
+phaseRead (DataIn t) port m = takenRead (takeOf (t .half) port) t m
+phaseRead (DataOut t) port m = accepted (absent port) m
+
+unfoldable pub dataRead : Port → Machine → Effect
+dataRead port m = pick (m .state .control .held) (accepted (heldValue port) m) (phaseRead (m .phase) port m)
+
+-- ---- writing
+
+unfoldable pub wordWritten : Transfer → Machine → Machine
+wordWritten t m = pick (ltb (t .words) 255) (withPhase (DataOut (nextWord t)) m) (loadWritten (t .load) (withState (m .state) m))
+
+-- "a written byte at once" goes into the buffer
+abbrev pub takenWritten : Take → ℕ → Transfer → Machine → Effect
+takenWritten Take.Refused value t m = record { outcome = Outcome.Refused HalfMoved; next = m }
+takenWritten (Take.First part) value t m = accepted 0 (withPhase (DataOut (halved part t)) (withBuffer (partWritten part (t .words) value (m .buffer)) m))
+takenWritten (Take.Last part) value t m = accepted 0 (wordWritten t (withBuffer (partWritten part (t .words) value (m .buffer)) m))
+
+-- "… and a write has no effect (H)"
+abbrev pub phaseWritten : Phase → Port → ℕ → Machine → Effect
+phaseWritten Idle port value m = accepted 0 m
+phaseWritten (DataIn t) port value m = accepted 0 m
+phaseWritten (DataOut t) port value m = takenWritten (takeOf (t .half) port) value t m
+
+unfoldable pub dataWritten : Port → ℕ → Machine → Effect
+dataWritten port value m = pick (m .state .control .held) (accepted 0 m) (phaseWritten (m .phase) port value m)

@@ -1,0 +1,39 @@
+-- 40H 41H "as read, no data"; C0H "as write, storing FFH (H), no data": sector after sector until none is left or a test fails.
+use Prim.Native.Nat.{ℕ, zero, suc}
+use mathlib.Core.Bool.{true}
+use mathlib.Core.List.{List}
+use lib.ListN.{replicate}
+use Rattle.registers.specs.declared.State.{State}
+use Rattle.registers.specs.declared.Core.{Core}
+use Rattle.commands.specs.declared.End.the-variants.{Good}
+use Rattle.commands.specs.declared.Tested.{Tested}
+use Rattle.commands.specs.declared.Tested.the-variants.{Sound, Fails}
+use Rattle.commands.specs.Ends.{ended}
+use Rattle.commands.specs.Before.{readTest, sectorStored, StoreTested}
+use Rattle.commands.specs.Steps.{passed}
+
+-- the rest where the sector's tests hold, else the end
+abbrev pub goesOn {ℓ} : {A : Type ℓ} → Tested → (Core → A) → State → A → A
+goesOn (Sound spot) end s rest = rest
+goesOn (Fails e) end s rest = end (ended e true s)
+
+unfoldable pub verifyFrom : ℕ → State → List ℕ → Core
+verifyFrom zero s marks = ended Good true s
+verifyFrom (suc n) s marks = goesOn (readTest s marks) (λ k. k) s (verifyFrom n (passed n s) marks)
+
+pub record Erased : Type 0 where
+  pub core : Core
+  pub store : List ℕ
+  pub marks : List ℕ
+
+abbrev pub erased : Core → List ℕ → List ℕ → Erased
+erased k store marks = record { core = k; store = store; marks = marks }
+
+unfoldable pub blank : List ℕ
+blank = replicate 512 0xFF
+
+unfoldable pub eraseFrom : ℕ → State → List ℕ → List ℕ → Erased
+eraseFrom zero s store marks = erased (ended Good true s) store marks
+eraseFrom (suc n) s store marks =
+    let k = sectorStored s blank store marks in
+    goesOn (k .tested) (λ c. erased c (k .store) (k .marks)) s (eraseFrom n (passed n s) (k .store) (k .marks))

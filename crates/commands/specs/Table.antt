@@ -1,0 +1,95 @@
+-- 01, "Commands": the table.
+use Prim.Native.Nat.{ℕ, _/_}
+use mathlib.Core.Bool.{Bool, true, false}
+use lib.Dec.{eqb}
+use Rattle.ground.specs.Choice.{pick}
+use Rattle.geometry.specs.declared.Sought.{Sought}
+use Rattle.geometry.specs.declared.Reshaped.{Reshaped}
+use Rattle.geometry.specs.Address.{seek}
+use Rattle.geometry.specs.Shape.{reshaped}
+use Rattle.identify.specs.declared.Facts.{Facts}
+use Rattle.identify.specs.Words.{identifyBytes}
+use Rattle.registers.specs.declared.Load.the-variants.{Buffer}
+use Rattle.registers.specs.declared.State.{State}
+use Rattle.registers.specs.declared.Core.{Core}
+use Rattle.registers.specs.State.{Machine, machine, withCore, withMark, withError, withCode, withCount, withAddress, withCurrent}
+use Rattle.registers.specs.WellMade.{totalIn}
+use Rattle.commands.specs.declared.End.{End}
+use Rattle.commands.specs.declared.Way.the-variants.{In, Out}
+use Rattle.commands.specs.declared.Command.{Command}
+use Rattle.commands.specs.declared.Command.the-variants.{Read, Write, Verify, Erase, Identify, ReadBuffer, WriteBuffer, SetGeometry, Diagnose, Recalibrate, Seek, Sense, Other}
+use Rattle.commands.specs.Ends.{ended}
+use Rattle.commands.specs.Steps.{withState, begun, readSector, askSector}
+use Rattle.commands.specs.Runs.{verifyFrom, Erased, eraseFrom}
+
+unfoldable pub commandOf : ℕ → Command
+commandOf opcode =
+    pick (eqb opcode 0x20) Read
+    (pick (eqb opcode 0x21) Read
+    (pick (eqb opcode 0x30) Write
+    (pick (eqb opcode 0x31) Write
+    (pick (eqb opcode 0x40) Verify
+    (pick (eqb opcode 0x41) Verify
+    (pick (eqb opcode 0xC0) Erase
+    (pick (eqb opcode 0xEC) Identify
+    (pick (eqb opcode 0xE4) ReadBuffer
+    (pick (eqb opcode 0xE8) WriteBuffer
+    (pick (eqb opcode 0x91) SetGeometry
+    (pick (eqb opcode 0x90) Diagnose
+    (pick (eqb (opcode / 16) 1) Recalibrate
+    (pick (eqb (opcode / 16) 7) Seek
+    (pick (eqb opcode 0x03) Sense
+    Other))))))))))))))
+
+-- "Every command but 03H starts with Error and code 0."
+abbrev pub started : State → State
+started s = withCode 0 (withError 0 s)
+
+-- "Count 0 means 256."
+unfoldable pub countOf : State → ℕ
+countOf s = pick (eqb (s .registers .count) 0) 256 (s .registers .count)
+
+abbrev pub factsOf : State → Facts
+factsOf s = record { default = s .made .default; current = s .current }
+
+-- 91H: "S := Count, H := low nibble+1; if S is 0 or H·S>N: ABRT, 21H, old geometry stays"
+abbrev pub geometrySet : Reshaped → State → Core
+geometrySet (Reshaped.Taken g) s = ended End.Good true (withCurrent g s)
+geometrySet Reshaped.Refused s = ended End.BadGeometry true s
+
+-- 90H: "Error 01H, Count 1, Sector 1, Cylinder and Drive/Head 0"
+abbrev pub diagnosed : State → State
+diagnosed s = withAddress (record { sector = 1; low = 0; high = 0; head = 0 }) (withCount 1 (withError 0x01 s))
+
+-- 7XH: "address test; in CHS head and cylinder only"
+abbrev pub soughtEnd : Sought → End
+soughtEnd Sought.Good = End.Good
+soughtEnd Sought.BadHead = End.BadHeadOrSector
+soughtEnd Sought.BadCylinder = End.BadCylinder
+soughtEnd Sought.BadLba = End.BadLba
+
+abbrev pub withErased : Erased → Machine → Machine
+withErased e m = machine (e .core) (m .buffer) (e .store) (e .marks)
+
+-- what a command does; s is the state with Error and code 0
+abbrev pub obeyed : Command → State → Machine → Machine
+obeyed Read s m = readSector (countOf s) (withState s m)
+obeyed Write s m = withCore (askSector (countOf s) true s) m
+obeyed Verify s m = withCore (verifyFrom (countOf s) s (m .marks)) m
+obeyed Erase s m = withErased (eraseFrom (countOf s) s (m .store) (m .marks)) m
+obeyed Identify s m = machine (begun In Buffer true s) (identifyBytes (factsOf s)) (m .store) (m .marks)
+obeyed ReadBuffer s m = withCore (begun In Buffer true s) m
+obeyed WriteBuffer s m = withCore (begun Out Buffer true s) m
+obeyed SetGeometry s m = withCore (geometrySet (reshaped (s .registers .count) (s .registers .address .head) (totalIn s)) s) m
+obeyed Diagnose s m = withCore (ended End.Good true (diagnosed s)) m
+obeyed Recalibrate s m = withCore (ended End.Good true s) m
+obeyed Seek s m = withCore (ended (soughtEnd (seek (s .registers .address) (s .current) (totalIn s))) true s) m
+obeyed Sense s m = withCore (ended End.Good true (withError (m .state .code) (m .state))) m
+obeyed Other s m = withCore (ended End.NoSuchCommand true s) m
+
+-- "A Command write drops the transfer, keeps stored sectors, and starts afresh"; the mark is cleared "before the command's own effect"
+abbrev pub quiet : Machine → Machine
+quiet m = withState (withMark false (m .state)) m
+
+unfoldable pub commandGiven : ℕ → Machine → Machine
+commandGiven opcode m = obeyed (commandOf opcode) (started (quiet m .state)) (quiet m)

@@ -1,0 +1,311 @@
+// The data port: words and bytes, either half first.
+use super::Done;
+use super::Part;
+use super::Take;
+use answers::Outcome;
+use answers::Refusal;
+use maps::Port;
+use registers::Core;
+use registers::Half;
+use registers::Phase;
+use registers::State;
+use registers::Transfer;
+ghost use mathlib.Core.Path.{_≡_};
+ghost use Prim.Native.Nat.{_+_, _<_};
+ghost use lib.ListN.{getD, set};
+ghost use Rattle.registers.specs.State.{machine, core};
+ghost use Rattle.commands.specs.Steps.{idle};
+ghost use Rattle.commands.specs.Halves.{takeOf, partValue, partWritten, halfOf, halved, nextWord};
+ghost use Rattle.commands.specs.Data.{effect, wordRead, takenRead, absent, heldValue, phaseRead, dataRead, wordWritten, takenWritten, phaseWritten, dataWritten};
+
+// What an access at a port may take of a word.
+fn take_of(half: Half, port: Port) -> Take
+    ensures { λ r. ⌜ r ≡ takeOf half port ⌝ }
+{
+    match half {
+        Half::Nothing => match port {
+            Port::Low => Take::First(Part::Low),
+            Port::High => Take::First(Part::High),
+            Port::Word => Take::Last(Part::Both),
+        },
+        Half::Low => match port {
+            Port::Low => Take::Last(Part::High),
+            Port::High => Take::Last(Part::High),
+            Port::Word => Take::Refused,
+        },
+        Half::High => match port {
+            Port::Low => Take::Last(Part::Low),
+            Port::High => Take::Refused,
+            Port::Word => Take::Refused,
+        },
+    }
+}
+
+fn byte_at(buffer: &[u8; 512], at: usize) -> u16
+    ensures { λ r. ⌜ (r ≡ getD (now (buffer .entry)) at 0) × (r < 256) ⌝ }
+{
+    ground::told(buffer);
+    if at < 512 {
+        return ground::wide(buffer[at]);
+    }
+    0
+}
+
+fn set_byte(buffer: &mut [u8; 512], at: usize, byte: u8)
+    ensures { λ _. ⌜ now (buffer .exit) ≡ set (now (buffer .entry)) at byte ⌝ }
+{
+    ground::told(buffer);
+    if at < 512 {
+        buffer[at] = byte;
+    }
+}
+
+// The part of the word that stands in the buffer.
+fn part_value(part: Part, words: u16, buffer: &[u8; 512]) -> u16
+    ensures { λ r. ⌜ r ≡ partValue part words (now (buffer .entry)) ⌝ }
+{
+    let low = 2 * (words as usize);
+    match part {
+        Part::Low => byte_at(buffer, low),
+        Part::High => byte_at(buffer, low + 1),
+        Part::Both => byte_at(buffer, low) + 256 * byte_at(buffer, low + 1),
+    }
+}
+
+// The part of the word is written into the buffer.
+fn write_part(part: Part, words: u16, value: u16, buffer: &mut [u8; 512])
+    ensures { λ _. ⌜ now (buffer .exit) ≡ partWritten part words value (now (buffer .entry)) ⌝ }
+{
+    let low = 2 * (words as usize);
+    match part {
+        Part::Low => set_byte(buffer, low, (value % 256) as u8),
+        Part::High => set_byte(buffer, low + 1, (value % 256) as u8),
+        Part::Both => {
+            set_byte(buffer, low, (value % 256) as u8);
+            set_byte(buffer, low + 1, (value / 256) as u8);
+        }
+    }
+}
+
+fn half_of(part: Part) -> Half
+    ensures { λ r. ⌜ r ≡ halfOf part ⌝ }
+{
+    match part {
+        Part::Low => Half::Low,
+        Part::High => Half::High,
+        Part::Both => Half::Nothing,
+    }
+}
+
+fn halved(transfer: Transfer, part: Part) -> Transfer
+    ensures { λ r. ⌜ r ≡ halved part transfer ⌝ }
+{
+    let load = transfer.load;
+    let half = half_of(part);
+    Transfer {
+        load: load,
+        half: half,
+        words: transfer.words,
+    }
+}
+
+fn next_word(transfer: Transfer, words: u16) -> Transfer
+    requires { ⌜ words < 255 ⌝ }
+    ensures { λ r. ⌜ r ≡ record { load = transfer .load; half = Half.Nothing; words = words + 1 } ⌝ }
+{
+    let load = transfer.load;
+    Transfer {
+        load: load,
+        half: Half::Nothing,
+        words: words + 1,
+    }
+}
+
+// ---- reading
+
+// A word is whole: the next one, or the last byte has gone.
+fn word_read(state: State, t: Transfer, buffer: &mut [u8; 512], store: &[u8], marks: &[u8]) -> Core
+    ensures { λ r. ⌜ machine r (now (buffer .exit)) (now (store .entry)) (now (marks .entry)) ≡ wordRead t (machine (core (Phase.DataIn t) state) (now (buffer .entry)) (now (store .entry)) (now (marks .entry))) ⌝ }
+{
+    let words = t.words;
+    if words < 255 {
+        let next = next_word(t, words);
+        return Core {
+            phase: Phase::DataIn(next),
+            state: state,
+        };
+    }
+    let load = t.load;
+    super::load_read(state, load, buffer, store, marks)
+}
+
+fn refused(core: Core) -> Done
+    ensures { λ r. ⌜ r ≡ record { outcome = Outcome.Refused Refusal.HalfMoved; core = core } ⌝ }
+{
+    Done {
+        outcome: Outcome::Refused(Refusal::HalfMoved),
+        core: core,
+    }
+}
+
+fn accepted(core: Core, value: u16) -> Done
+    ensures { λ r. ⌜ r ≡ record { outcome = Outcome.Accepted value; core = core } ⌝ }
+{
+    Done {
+        outcome: Outcome::Accepted(value),
+        core: core,
+    }
+}
+
+// A read in a transfer in.
+fn taken_read(
+    core: Core,
+    t: Transfer,
+    port: Port,
+    buffer: &mut [u8; 512],
+    store: &[u8],
+    marks: &[u8],
+) -> Done
+    ensures { λ r. ⌜ effect r (now (buffer .exit)) (now (store .entry)) (now (marks .entry)) ≡ takenRead (takeOf (t .half) port) t (machine core (now (buffer .entry)) (now (store .entry)) (now (marks .entry))) ⌝ }
+{
+    let half = t.half;
+    let state = core.state;
+    match take_of(half, port) {
+        Take::Refused => refused(core),
+        Take::First(part) => {
+            let value = part_value(part, t.words, buffer);
+            let next = halved(t, part);
+            accepted(
+                Core {
+                    phase: Phase::DataIn(next),
+                    state: state,
+                },
+                value,
+            )
+        }
+        Take::Last(part) => {
+            let value = part_value(part, t.words, buffer);
+            let next = word_read(state, t, buffer, store, marks);
+            accepted(next, value)
+        }
+    }
+}
+
+fn absent(port: Port) -> u16
+    ensures { λ r. ⌜ r ≡ absent port ⌝ }
+{
+    match port {
+        Port::Low => 0xFF,
+        Port::High => 0xFF,
+        Port::Word => 0xFFFF,
+    }
+}
+
+fn held_value(port: Port) -> u16
+    ensures { λ r. ⌜ r ≡ heldValue port ⌝ }
+{
+    match port {
+        Port::Low => 0x80,
+        Port::High => 0x80,
+        Port::Word => 0x8080,
+    }
+}
+
+// A read of the data port.
+pub fn read_data(core: Core, port: Port, buffer: &mut [u8; 512], store: &[u8], marks: &[u8]) -> Done
+    ensures { λ r. ⌜ effect r (now (buffer .exit)) (now (store .entry)) (now (marks .entry)) ≡ dataRead port (machine core (now (buffer .entry)) (now (store .entry)) (now (marks .entry))) ⌝ }
+{
+    let state = core.state;
+    let control = state.control;
+    if control.held {
+        return accepted(core, held_value(port));
+    }
+    let phase = core.phase;
+    match phase {
+        Phase::Idle => accepted(core, absent(port)),
+        Phase::DataIn(t) => taken_read(core, t, port, buffer, store, marks),
+        Phase::DataOut(_) => accepted(core, absent(port)),
+    }
+}
+
+// ---- writing
+
+fn word_written(
+    state: State,
+    t: Transfer,
+    buffer: &[u8; 512],
+    store: &mut [u8],
+    marks: &mut [u8],
+) -> Core
+    ensures { λ r. ⌜ machine r (now (buffer .entry)) (now (store .exit)) (now (marks .exit)) ≡ wordWritten t (machine (core (Phase.DataOut t) state) (now (buffer .entry)) (now (store .entry)) (now (marks .entry))) ⌝ }
+{
+    let words = t.words;
+    if words < 255 {
+        let next = next_word(t, words);
+        return Core {
+            phase: Phase::DataOut(next),
+            state: state,
+        };
+    }
+    let load = t.load;
+    super::load_written(state, load, buffer, store, marks)
+}
+
+// A write in a transfer out: the part goes into the buffer at once.
+fn taken_written(
+    core: Core,
+    t: Transfer,
+    port: Port,
+    value: u16,
+    buffer: &mut [u8; 512],
+    store: &mut [u8],
+    marks: &mut [u8],
+) -> Done
+    ensures { λ r. ⌜ effect r (now (buffer .exit)) (now (store .exit)) (now (marks .exit)) ≡ takenWritten (takeOf (t .half) port) value t (machine core (now (buffer .entry)) (now (store .entry)) (now (marks .entry))) ⌝ }
+{
+    let half = t.half;
+    let state = core.state;
+    match take_of(half, port) {
+        Take::Refused => refused(core),
+        Take::First(part) => {
+            write_part(part, t.words, value, buffer);
+            let next = halved(t, part);
+            accepted(
+                Core {
+                    phase: Phase::DataOut(next),
+                    state: state,
+                },
+                0,
+            )
+        }
+        Take::Last(part) => {
+            write_part(part, t.words, value, buffer);
+            let next = word_written(state, t, buffer, store, marks);
+            accepted(next, 0)
+        }
+    }
+}
+
+// A write of the data port.
+pub fn write_data(
+    core: Core,
+    port: Port,
+    value: u16,
+    buffer: &mut [u8; 512],
+    store: &mut [u8],
+    marks: &mut [u8],
+) -> Done
+    ensures { λ r. ⌜ effect r (now (buffer .exit)) (now (store .exit)) (now (marks .exit)) ≡ dataWritten port value (machine core (now (buffer .entry)) (now (store .entry)) (now (marks .entry))) ⌝ }
+{
+    let state = core.state;
+    let control = state.control;
+    if control.held {
+        return accepted(core, 0);
+    }
+    let phase = core.phase;
+    match phase {
+        Phase::Idle => accepted(core, 0),
+        Phase::DataIn(_) => accepted(core, 0),
+        Phase::DataOut(t) => taken_written(core, t, port, value, buffer, store, marks),
+    }
+}

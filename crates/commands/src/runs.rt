@@ -1,0 +1,54 @@
+// Verify and Erase: sector after sector, with no data moved.
+use super::End;
+use super::Tested;
+use registers::Core;
+use registers::State;
+ghost use mathlib.Core.Path.{_≡_};
+ghost use Rattle.commands.specs.Runs.{verifyFrom, erased, eraseFrom, blank};
+
+// 40H 41H.
+pub fn verify(state: State, left: u16, marks: &[u8]) -> Core
+    ensures { λ r. ⌜ r ≡ verifyFrom left state (now (marks .entry)) ⌝ }
+{
+    let mut s = state;
+    let mut n = left;
+    while 0 < n {
+        match super::read_test(s, marks) {
+            Tested::Sound(_) => {
+                n -= 1;
+                s = super::passed(s, n);
+            }
+            Tested::Fails(end) => {
+                return super::ended(s, end, true);
+            }
+        }
+    }
+    super::ended(s, End::Good, true)
+}
+
+fn blank_sector() -> [u8; 512]
+    ensures { λ r. ⌜ r ≡ blank ⌝ }
+{
+    [0xFFu8; 512]
+}
+
+// C0H.
+pub fn erase(state: State, left: u16, store: &mut [u8], marks: &mut [u8]) -> Core
+    ensures { λ r. ⌜ erased r (now (store .exit)) (now (marks .exit)) ≡ eraseFrom left state (now (store .entry)) (now (marks .entry)) ⌝ }
+{
+    let bytes = blank_sector();
+    let mut s = state;
+    let mut n = left;
+    while 0 < n {
+        match super::store_tested(s, &bytes, store, marks) {
+            Tested::Sound(_) => {
+                n -= 1;
+                s = super::passed(s, n);
+            }
+            Tested::Fails(end) => {
+                return super::ended(s, end, true);
+            }
+        }
+    }
+    super::ended(s, End::Good, true)
+}
