@@ -1,0 +1,83 @@
+use mathlib.Core.Path.{_≡_, sym, _∙_, ap}
+use Rattle.card.specs.Access.{decided}
+use borrow.Author.Needs.{needs}
+use Rattle.card.proofs.decide.Statement.{statement}
+use Rattle.card.proofs.decide.Tie as tie
+use Rattle.card.proofs.decide.Reads as reads
+use Rattle.card.proofs.decide.Lts as lts
+use Rattle.card.proofs.held_away.Reads as held-away-reads
+use Rattle.card.proofs.targeted.Reads as targeted-reads
+use Rattle.maps.proofs.answers_at.Reads as answers-at-reads
+use Rattle.maps.proofs.stands_at.Reads as stands-at-reads
+
+-- src/lib.rt:112:8
+held-away-requires : tie.Need-held-away-requires
+held-away-requires c κs = search needs
+
+-- src/lib.rt:113:9
+returns : tie.Need-returns
+unfolding decided
+returns c =
+    let w = sym (c .before .held-away .ensures) ∙ c .if1 .taken in
+    simp w
+
+-- src/lib.rt:116:8
+answers-at-requires : tie.Need-answers-at-requires
+answers-at-requires c κs = search needs
+
+-- src/lib.rt:117:22
+stands-at-requires : tie.Need-stands-at-requires
+stands-at-requires c κs = search needs
+
+-- src/lib.rt:118:29
+enum-known-target : tie.Need-enum-known-target
+enum-known-target c = search needs
+
+-- src/lib.rt:118:40
+targeted-requires : tie.Need-targeted-requires
+targeted-requires c κs = search needs
+
+-- src/lib.rt:119:31
+enum-known-refusal : tie.Need-enum-known-refusal
+enum-known-refusal c = search needs
+
+-- src/lib.rt:117:9
+returns-2 : tie.Need-returns-2
+unfolding decided
+returns-2 c =
+    let w = sym (c .before .before .before .before .before .before .before .before .held-away .ensures) ∙ c .before .before .before .before .before .before .before .if1 .left in
+    let v = sym (c .before .before .before .before .before .before .answers-at .ensures) ∙ c .before .before .before .before .before .if2 .taken in
+    let t = sym (c .before .before .before .before .stands-at .ensures) ∙ c .before .before .target .given .1 in
+    simp (w, v, t, c .targeted .ensures)
+
+-- src/lib.rt:117:9
+returns-3 : tie.Need-returns-3
+unfolding decided
+returns-3 c =
+    let w = sym (c .before .before .before .before .before .before .before .held-away .ensures) ∙ c .before .before .before .before .before .before .if1 .left in
+    let v = sym (c .before .before .before .before .before .answers-at .ensures) ∙ c .before .before .before .before .if2 .taken in
+    let t = sym (c .before .before .before .stands-at .ensures) ∙ c .before .refusal .given .1 in
+    simp (w, v, t)
+
+-- src/lib.rt:98:1
+returns-4 : tie.Need-returns-4
+unfolding decided
+returns-4 c =
+    let w = sym (c .before .before .before .held-away .ensures) ∙ c .before .before .if1 .left in
+    let v = sym (c .before .answers-at .ensures) ∙ c .if2 .left in
+    simp (w, v)
+
+pub decide-spec : {M : Type 1} → statement M
+decide-spec =
+    tie.close
+    (tie.spec
+    held-away-requires
+    returns
+    answers-at-requires
+    stands-at-requires
+    enum-known-target
+    targeted-requires
+    enum-known-refusal
+    returns-2
+    returns-3
+    returns-4)

@@ -1,0 +1,40 @@
+use mathlib.Core.Path.{_≡_, sym, _∙_, ap}
+use Rattle.card.specs.Perform.{plainCore}
+use borrow.Author.Needs.{needs}
+use Rattle.card.proofs.plain_write.Statement.{statement}
+use Rattle.card.proofs.plain_write.Tie as tie
+use Rattle.card.proofs.plain_write.Reads as reads
+use Rattle.card.proofs.plain_write.Lts as lts
+use Rattle.registers.proofs.Phase.runs.Reads as runs-reads
+use Rattle.registers.proofs.State.register_set.Reads as register-set-reads
+
+-- src/lib.rt:134:9
+returns : tie.Need-returns
+unfolding plainCore
+returns c = simp (c .if1 .taken)
+
+-- src/lib.rt:136:8
+runs-requires : tie.Need-runs-requires
+runs-requires c κs = search needs
+
+-- src/lib.rt:137:9
+returns-2 : tie.Need-returns-2
+unfolding plainCore
+returns-2 c =
+    let w = sym (c .before .runs .ensures) ∙ c .if2 .taken in
+    simp (c .before .before .if1 .left, w)
+
+-- src/lib.rt:139:9
+register-set-requires : tie.Need-register-set-requires
+register-set-requires c κs = search needs
+
+-- src/lib.rt:127:1
+returns-3 : tie.Need-returns-3
+unfolding plainCore
+returns-3 c =
+    let w = sym (c .before .before .runs .ensures) ∙ c .before .if2 .left in
+    simp (c .before .before .before .if1 .left, w, c .register-set .ensures)
+
+pub plain-write-spec : {M : Type 1} → statement M
+plain-write-spec =
+    tie.close (tie.spec returns runs-requires returns-2 register-set-requires returns-3)

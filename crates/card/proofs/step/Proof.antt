@@ -1,0 +1,122 @@
+use mathlib.Core.Path.{_≡_, sym, _∙_, ap}
+use borrow.Author.Tests.{eq-eqb, ne-eqb, lt-ltb, le-ltb, le-leb, lt-leb}
+use Rattle.ground.proofs.Picks.{no, yes}
+use Rattle.card.specs.Access.{meaning}
+use Rattle.card.specs.Perform.{perform}
+use Rattle.card.specs.Step.{step, worked}
+use borrow.Author.Needs.{needs}
+use Rattle.card.proofs.step.Statement.{statement}
+use Rattle.card.proofs.step.Tie as tie
+use Rattle.card.proofs.step.Reads as reads
+use Rattle.card.proofs.step.Lts as lts
+use Rattle.card.proofs.refuse.Reads as refuse-reads
+use Rattle.card.proofs.work.Reads as work-reads
+use Rattle.geometry.proofs.Geometry.total.Reads as total-reads
+use Rattle.registers.proofs.Core.well_made.Reads as well-made-reads
+
+-- src/lib.rt:296:17
+total-requires : tie.Need-total-requires
+total-requires c κs = search needs
+
+-- src/lib.rt:296:17
+cast-total : tie.Need-cast-total
+cast-total c = search needs
+
+-- src/lib.rt:297:9
+well-made-requires : tie.Need-well-made-requires
+well-made-requires c κs = search needs
+
+-- src/lib.rt:298:9
+refuse-requires : tie.Need-refuse-requires
+refuse-requires c κs = search needs
+
+-- src/lib.rt:298:9
+returns : tie.Need-returns
+unfolding step meaning perform
+returns c =
+    let w = sym (c .before .before .well-made .ensures) ∙ no _ (c .before .if1 .taken) in
+    simp (w, c .refuse .ensures)
+
+-- src/lib.rt:300:23
+mul-if2 : tie.Need-mul-if2
+mul-if2 c = search needs
+
+-- src/lib.rt:301:9
+refuse-requires-2 : tie.Need-refuse-requires-2
+refuse-requires-2 c κs = search needs
+
+-- src/lib.rt:301:9
+returns-2 : tie.Need-returns-2
+unfolding step meaning perform
+returns-2 c =
+    let w = sym (c .before .before .before .well-made .ensures) ∙ yes _ (c .before .before .if1 .left) in
+    let n = simp (c .before .before .before .before .total .ensures) at (c .before .if2 .taken) in
+    simp (w, ne-eqb _ _ n, c .refuse2 .ensures)
+
+-- src/lib.rt:304:9
+refuse-requires-3 : tie.Need-refuse-requires-3
+refuse-requires-3 c κs = search needs
+
+-- src/lib.rt:304:9
+returns-3 : tie.Need-returns-3
+unfolding step meaning perform
+returns-3 c =
+    let w = sym (c .before .before .before .before .well-made .ensures) ∙ yes _ (c .before .before .before .if1 .left) in
+    let s = simp (c .before .before .before .before .before .total .ensures) at (c .before .before .if2 .left) in
+    let n = simp (c .before .before .before .before .before .total .ensures) at (c .before .if3 .taken) in
+    simp (w, eq-eqb _ _ s, ne-eqb _ _ n, c .refuse3 .ensures)
+
+-- src/lib.rt:307:9
+refuse-requires-4 : tie.Need-refuse-requires-4
+refuse-requires-4 c κs = search needs
+
+-- src/lib.rt:307:9
+returns-4 : tie.Need-returns-4
+unfolding step meaning perform
+returns-4 c =
+    let w = sym (c .before .before .before .before .before .well-made .ensures) ∙ yes _ (c .before .before .before .before .if1 .left) in
+    let s = simp (c .before .before .before .before .before .before .total .ensures) at (c .before .before .before .if2 .left) in
+    let n = simp (c .before .before .before .before .before .before .total .ensures) at (c .before .before .if3 .left) in
+    simp (w, eq-eqb _ _ s, eq-eqb _ _ n, ne-eqb _ _ (c .before .if4 .taken), c .refuse4 .ensures)
+
+-- src/lib.rt:309:5
+work-requires : tie.Need-work-requires
+work-requires c κs = search needs
+
+-- src/lib.rt:279:1
+same-length : tie.Need-same-length
+same-length c = search needs
+
+-- src/lib.rt:279:1
+same-length-2 : tie.Need-same-length-2
+same-length-2 c = search needs
+
+-- src/lib.rt:279:1
+returns-5 : tie.Need-returns-5
+unfolding step meaning worked
+returns-5 c =
+    let w = sym (c .before .before .before .before .before .before .before .before .before .before .before .before .well-made .ensures) ∙ yes _ (c .before .before .before .before .before .before .before .before .before .before .before .if1 .left) in
+    let s = simp (c .before .before .before .before .before .before .before .before .before .before .before .before .before .total .ensures) at (c .before .before .before .before .before .before .before .before .before .before .if2 .left) in
+    let n = simp (c .before .before .before .before .before .before .before .before .before .before .before .before .before .total .ensures) at (c .before .before .before .before .before .before .before .before .before .if3 .left) in
+    simp (w, eq-eqb _ _ s, eq-eqb _ _ n, eq-eqb _ _ (c .before .before .before .before .before .before .before .before .if4 .left)) (c .before .before .before .before .work .ensures)
+
+pub step-spec : {M : Type 1} → statement M
+step-spec =
+    tie.close
+    (tie.spec
+    total-requires
+    cast-total
+    well-made-requires
+    refuse-requires
+    returns
+    mul-if2
+    refuse-requires-2
+    returns-2
+    refuse-requires-3
+    returns-3
+    refuse-requires-4
+    returns-4
+    work-requires
+    same-length
+    same-length-2
+    returns-5)

@@ -1,0 +1,64 @@
+-- What an access means: 01, "Answers", the rows 12, 2, 3, 5, 8, 7, 6, 9, 10 in this order, then what stands there.
+use Prim.Native.Nat.{ℕ, _*_, _%_}
+use mathlib.Core.Bool.{Bool, true, false, not}
+use mathlib.Core.List.{List}
+use lib.Dec.{eqb}
+use lib.ListN.{length, getD}
+use Rattle.ground.specs.Choice.{pick}
+use Rattle.answers.specs.declared.Refusal.{Refusal}
+use Rattle.answers.specs.declared.Refusal.the-variants.{NotWellMade, StoreLength, MarksLength, TupleBufferLength, HeldBySreset, SpaceSilent}
+use Rattle.maps.specs.declared.Target.{Target}
+use Rattle.maps.specs.declared.Target.the-variants.{Tuple, Option, Named, Data}
+use Rattle.maps.specs.declared.Standing.{Standing}
+use Rattle.maps.specs.Spaces.{answersAt}
+use Rattle.maps.specs.Maps.{standsAt}
+use Rattle.registers.specs.declared.State.{State}
+use Rattle.registers.specs.State.{Machine, sresetIn, indexIn}
+use Rattle.registers.specs.WellMade.{wellMade, totalIn}
+use Rattle.card.specs.declared.Meaning.{Meaning}
+use Rattle.card.specs.declared.Meaning.the-variants.{TupleByte, ReadOption, WriteOption, ReadRegister, WriteRegister, ReadData, WriteData}
+
+-- an access: any space, width, address and value, and the tuple buffer that is lent with it
+pub record Access : Type 0 where
+  pub space : ℕ
+  pub width : ℕ
+  pub write : Bool
+  pub address : ℕ
+  pub value : ℕ
+  pub tuples : List ℕ
+
+-- what stands there is read or written; a byte write's value is at most 255 here
+abbrev pub targeted : Target → Bool → ℕ → List ℕ → Meaning
+targeted (Tuple n) write value tuples = TupleByte (getD tuples n 0)
+targeted Option write value tuples = pick write (WriteOption (value % 256)) ReadOption
+targeted (Named r) write value tuples = pick write (WriteRegister r (value % 256)) (ReadRegister r)
+targeted (Data port) write value tuples = pick write (WriteData port value) (ReadData port)
+
+abbrev pub standing : Standing → Bool → ℕ → List ℕ → Meaning
+standing (Standing.There t) write value tuples = targeted t write value tuples
+standing (Standing.Refused r) write value tuples = Meaning.Refused r
+
+-- row 8: held by SRESET, and the access is not to attribute 200H
+unfoldable pub heldAway : ℕ → ℕ → ℕ → Bool
+heldAway option space address = pick (sresetIn option) (pick (eqb space 0) (not (eqb address 0x200)) true) false
+
+-- rows 8, 7, then 6, 9, 10
+unfoldable pub decided : State → Access → Meaning
+decided s a =
+    pick (heldAway (s .option) (a .space) (a .address)) (Meaning.Refused HeldBySreset)
+    (pick (answersAt (a .space) (s .made .mode) (indexIn (s .option)))
+    (standing (standsAt (a .space) (indexIn (s .option)) (a .address) (a .width) (a .write) (a .value)) (a .write) (a .value) (a .tuples))
+    (Meaning.Refused SpaceSilent))
+
+-- rows 12, 2, 3, 5 before them
+unfoldable pub meaning : Machine → Access → Meaning
+meaning m a =
+    pick (wellMade (m .phase) (m .state))
+    (pick (eqb (length (m .store)) (512 * totalIn (m .state)))
+    (pick (eqb (length (m .marks)) (totalIn (m .state)))
+    (pick (eqb (length (a .tuples)) 256)
+    (decided (m .state) a)
+    (Meaning.Refused TupleBufferLength))
+    (Meaning.Refused MarksLength))
+    (Meaning.Refused StoreLength))
+    (Meaning.Refused NotWellMade)

@@ -1,0 +1,68 @@
+-- The opening: refusals 1, 2, 3, 5, 4 in this order; else power-on.
+use Prim.Native.Nat.{ℕ, _*_}
+use mathlib.Core.Bool.{Bool, true, false}
+use mathlib.Core.List.{List}
+use lib.Dec.{eqb, leb}
+use lib.ListN.{length, replicate}
+use Rattle.ground.specs.Choice.{pick}
+use Rattle.answers.specs.declared.Outcome.{Outcome}
+use Rattle.answers.specs.declared.Refusal.{Refusal}
+use Rattle.answers.specs.declared.Refusal.the-variants.{GeometryOrMode, StoreLength, MarksLength, TupleBufferLength, MarkAboveTwo}
+use Rattle.geometry.specs.declared.Geometry.{Geometry}
+use Rattle.geometry.specs.Limits.{fits, totalOf}
+use Rattle.maps.specs.declared.Mode.{Mode}
+use Rattle.maps.specs.declared.Mode.the-variants.{PcCard, TrueIde}
+use Rattle.sectors.specs.Marks.{marksFit}
+use Rattle.registers.specs.declared.Phase.the-variants.{Idle}
+use Rattle.registers.specs.declared.State.{State}
+use Rattle.registers.specs.PowerOn.{powerOn}
+use Rattle.card.specs.declared.Card.{Card}
+use Rattle.card.specs.declared.Answer.{Answer}
+
+-- "Mode: 0 PC Card, 1 True IDE."
+abbrev pub modeOf : ℕ → Mode
+modeOf mode = pick (eqb mode 0) PcCard TrueIde
+
+-- "a refused opening gives the all-zero card"
+abbrev pub noGeometry : Geometry
+noGeometry = record { cylinders = 0; heads = 0; sectors = 0 }
+
+abbrev pub zeroState : State
+zeroState = record {
+  made = record { mode = PcCard; default = noGeometry };
+  current = noGeometry;
+  registers = record { status = 0; error = 0; count = 0; address = record { sector = 0; low = 0; high = 0; head = 0 } };
+  option = 0;
+  control = record { held = false; masked = false };
+  mark = false;
+  code = 0;
+}
+
+unfoldable pub zeros : List ℕ
+zeros = replicate 512 0
+
+abbrev pub zeroCard : Card
+zeroCard = record { phase = Idle; state = zeroState; buffer = zeros }
+
+abbrev pub openRefused : Refusal → Answer
+openRefused r = record { outcome = Outcome.Refused r; line = false; card = zeroCard }
+
+-- power-on: index 0, buffer zeros
+abbrev pub powered : Geometry → Mode → Card
+powered g mode = record { phase = Idle; state = powerOn (record { mode = mode; default = g }) 0; buffer = zeros }
+
+unfoldable pub opened : Geometry → ℕ → List ℕ → List ℕ → List ℕ → Answer
+opened g mode store marks tuples =
+    pick (fits g)
+    (pick (leb mode 1)
+    (pick (eqb (length store) (512 * totalOf g))
+    (pick (eqb (length marks) (totalOf g))
+    (pick (eqb (length tuples) 256)
+    (pick (marksFit marks)
+    (record { outcome = Outcome.Accepted 0; line = false; card = powered g (modeOf mode) })
+    (openRefused MarkAboveTwo))
+    (openRefused TupleBufferLength))
+    (openRefused MarksLength))
+    (openRefused StoreLength))
+    (openRefused GeometryOrMode))
+    (openRefused GeometryOrMode)

@@ -1,0 +1,144 @@
+// The opening.
+use super::Answer;
+use super::Card;
+use answers::Outcome;
+use answers::Refusal;
+use geometry::Address;
+use geometry::Geometry;
+use maps::Mode;
+use registers::Control;
+use registers::Made;
+use registers::Phase;
+use registers::Registers;
+use registers::State;
+ghost use mathlib.Core.Path.{_≡_};
+ghost use Rattle.card.specs.Opening.{modeOf, zeroState, zeros, openRefused, powered, opened};
+
+fn mode_of(mode: u16) -> Mode
+    ensures { λ r. ⌜ r ≡ modeOf mode ⌝ }
+{
+    if mode == 0 {
+        return Mode::PcCard;
+    }
+    Mode::TrueIde
+}
+
+fn zero_state() -> State
+    ensures { λ r. ⌜ r ≡ zeroState ⌝ }
+{
+    let none = Geometry {
+        cylinders: 0,
+        heads: 0,
+        sectors: 0,
+    };
+    State {
+        made: Made {
+            mode: Mode::PcCard,
+            default: none,
+        },
+        current: none,
+        registers: Registers {
+            status: 0,
+            error: 0,
+            count: 0,
+            address: Address {
+                sector: 0,
+                low: 0,
+                high: 0,
+                head: 0,
+            },
+        },
+        option: 0,
+        control: Control {
+            held: false,
+            masked: false,
+        },
+        mark: false,
+        code: 0,
+    }
+}
+
+fn zero_bytes() -> [u8; 512]
+    ensures { λ r. ⌜ r ≡ zeros ⌝ }
+{
+    [0u8; 512]
+}
+
+// 01: a refused opening gives the all-zero card.
+fn open_refused(refusal: Refusal) -> Answer
+    ensures { λ r. ⌜ r ≡ openRefused refusal ⌝ }
+{
+    let state = zero_state();
+    let buffer = zero_bytes();
+    Answer {
+        outcome: Outcome::Refused(refusal),
+        line: false,
+        card: Card {
+            phase: Phase::Idle,
+            state: state,
+            buffer: buffer,
+        },
+    }
+}
+
+fn powered(geometry: Geometry, mode: Mode) -> Card
+    ensures { λ r. ⌜ r ≡ powered geometry mode ⌝ }
+{
+    let made = Made {
+        mode: mode,
+        default: geometry,
+    };
+    let state = made.power_on(0);
+    let buffer = zero_bytes();
+    Card {
+        phase: Phase::Idle,
+        state: state,
+        buffer: buffer,
+    }
+}
+
+impl Card {
+    // Any C, H, S and mode, with any store, marks and tuple buffer.
+    pub fn open(
+        cylinders: u16,
+        heads: u16,
+        sectors: u16,
+        mode: u16,
+        store: &[u8],
+        marks: &[u8],
+        tuples: &[u8],
+    ) -> Answer
+        ensures { λ r. ⌜ r ≡ opened (record { cylinders = cylinders; heads = heads; sectors = sectors }) mode (now (store .entry)) (now (marks .entry)) (now (tuples .entry)) ⌝ }
+    {
+        let geometry = Geometry {
+            cylinders: cylinders,
+            heads: heads,
+            sectors: sectors,
+        };
+        if !geometry.fits() {
+            return open_refused(Refusal::GeometryOrMode);
+        }
+        if 1 < mode {
+            return open_refused(Refusal::GeometryOrMode);
+        }
+        let total = geometry.total() as usize;
+        if store.len() != 512 * total {
+            return open_refused(Refusal::StoreLength);
+        }
+        if marks.len() != total {
+            return open_refused(Refusal::MarksLength);
+        }
+        if tuples.len() != 256 {
+            return open_refused(Refusal::TupleBufferLength);
+        }
+        if !sectors::marks_fit(marks) {
+            return open_refused(Refusal::MarkAboveTwo);
+        }
+        let card = powered(geometry, mode_of(mode));
+        Answer {
+            outcome: Outcome::Accepted(0),
+            line: false,
+            card: card,
+        }
+    }
+}
