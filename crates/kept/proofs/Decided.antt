@@ -1,0 +1,91 @@
+-- What the refusals before an access leave: an option that may be written, and no register written while SRESET holds.
+use Prim.Native.Nat.{ℕ, _%_, _<_, _≤_}
+use mathlib.Core.Bool.{Bool, true, false}
+use mathlib.Core.Path.{_≡_, refl}
+use native.Mathlib.Omega.{arith}
+use lib.Dec.{eqb}
+use lib.ListN.{length}
+use borrow.Author.Tests.{eqb-true, ne-eqb, le-leb}
+use Rattle.ground.specs.Choice.{pick}
+use Rattle.ground.proofs.Picks.{pick-elim}
+use Rattle.maps.specs.declared.Mode.{Mode}
+use Rattle.maps.specs.declared.Mode.the-variants.{PcCard, TrueIde}
+use Rattle.maps.specs.declared.Target.the-variants.{Tuple, Option, Named, Data}
+use Rattle.maps.specs.declared.Standing.{Standing}
+use Rattle.maps.specs.Spaces.{answersAt}
+use Rattle.maps.specs.Maps.{standsAt}
+use Rattle.maps.proofs.Standings.{Fits, stands-fits}
+use Rattle.registers.specs.declared.State.{State}
+use Rattle.registers.specs.State.{Machine, sresetIn, indexIn}
+use Rattle.registers.specs.WellMade.{wellMade, indexFits, sresetFits}
+use Rattle.card.specs.declared.Meaning.{Meaning}
+use Rattle.card.specs.declared.Meaning.the-variants.{TupleByte, ReadOption, WriteOption, ReadRegister, WriteRegister, ReadData, WriteData}
+use Rattle.card.specs.Access.{Access, standing, heldAway, decided, meaning}
+
+abbrev pub Allowed : Meaning → State → Type 0
+Allowed (Meaning.Refused r) s = Unit {0}
+Allowed (TupleByte b) s = Unit {0}
+Allowed ReadOption s = Unit {0}
+Allowed (WriteOption v) s = (indexFits v ≡ true) × (sresetFits (s .made .mode) v ≡ true)
+Allowed (ReadRegister r) s = Unit {0}
+Allowed (WriteRegister r v) s = (sresetIn (s .option) ≡ false) × (v < 256)
+Allowed (ReadData port) s = Unit {0}
+Allowed (WriteData port v) s = Unit {0}
+
+-- attribute memory answers in mode 0 only
+sreset-fits : (mode : Mode) (space index v : ℕ) → space ≡ 0 → answersAt space mode index ≡ true → sresetFits mode v ≡ true
+unfolding answersAt sresetFits
+sreset-fits PcCard space index v z e = refl
+sreset-fits TrueIde space index v z e = let t = eqb-true space 3 e in absurd (omega arith)
+
+index-fits : (v : ℕ) → v % 64 ≤ 3 → indexFits (v % 256) ≡ true
+unfolding indexFits
+index-fits v h = le-leb (v % 256 % 64) 3 (omega arith)
+
+-- outside attribute memory nothing is reached while SRESET holds
+not-away : (b : Bool) → pick b true false ≡ false → b ≡ false
+not-away true e = e
+not-away false e = e
+
+free : (option space address : ℕ) → (space ≡ 0 → ⊥) → heldAway option space address ≡ false → sresetIn option ≡ false
+unfolding heldAway
+free option space address n e = not-away (sresetIn option) (rw (ne-eqb space 0 n) at e)
+
+stands-allowed : (t : Standing) (s : State) (a : Access) → Fits t (a .space) (a .width) (a .write) (a .value) →
+    heldAway (s .option) (a .space) (a .address) ≡ false →
+    answersAt (a .space) (s .made .mode) (indexIn (s .option)) ≡ true →
+    Allowed (standing t (a .write) (a .value) (a .tuples)) s
+stands-allowed (Standing.There (Tuple n)) s a f h e = tt
+stands-allowed (Standing.There Option) s a f h e =
+    pick-elim (λ (k : Meaning). Allowed k s) (a .write) _ _
+    (λ w. (index-fits (a .value) (f .1 w), sreset-fits (s .made .mode) (a .space) (indexIn (s .option)) (a .value % 256) (f .0) e))
+    (λ w. tt)
+stands-allowed (Standing.There (Named r)) s a f h e =
+    pick-elim (λ (k : Meaning). Allowed k s) (a .write) _ _
+    (λ w. (free (s .option) (a .space) (a .address) (f .0) h, omega arith))
+    (λ w. tt)
+stands-allowed (Standing.There (Data port)) s a f h e = pick-elim (λ (k : Meaning). Allowed k s) (a .write) _ _ (λ w. tt) (λ w. tt)
+stands-allowed (Standing.Refused r) s a f h e = tt
+
+pub decided-allowed : (s : State) (a : Access) → Allowed (decided s a) s
+unfolding decided
+decided-allowed s a =
+    pick-elim (λ (k : Meaning). Allowed k s) (heldAway (s .option) (a .space) (a .address)) _ _
+    (λ h. tt)
+    (λ h. pick-elim (λ (k : Meaning). Allowed k s) (answersAt (a .space) (s .made .mode) (indexIn (s .option))) _ _
+    (λ e. stands-allowed (standsAt (a .space) (indexIn (s .option)) (a .address) (a .width) (a .write) (a .value)) s a
+    (stands-fits (a .space) (indexIn (s .option)) (a .address) (a .width) (a .write) (a .value)) h e)
+    (λ e. tt))
+
+pub meaning-allowed : (m : Machine) (a : Access) → Allowed (meaning m a) (m .state)
+unfolding meaning
+meaning-allowed m a =
+    pick-elim (λ (k : Meaning). Allowed k (m .state)) (wellMade (m .phase) (m .state)) _ _
+    (λ e. pick-elim (λ (k : Meaning). Allowed k (m .state)) (eqb (length (m .store)) _) _ _
+    (λ e. pick-elim (λ (k : Meaning). Allowed k (m .state)) (eqb (length (m .marks)) _) _ _
+    (λ e. pick-elim (λ (k : Meaning). Allowed k (m .state)) (eqb (length (a .tuples)) 256) _ _
+    (λ e. decided-allowed (m .state) a)
+    (λ e. tt))
+    (λ e. tt))
+    (λ e. tt))
+    (λ e. tt)

@@ -1,0 +1,106 @@
+-- How a command ends and a transfer begins, and what the tests before a sector can say.
+use Prim.Native.Nat.{ℕ, _%_, _≤_}
+use mathlib.Core.Bool.{Bool, true, false, not}
+use mathlib.Core.Path.{_≡_, refl, ap, _∙_}
+use mathlib.Core.List.{List}
+use native.Mathlib.Omega.{arith}
+use lib.Dec.{eqb}
+use lib.ListN.{getD}
+use borrow.Author.Tests.{eqb-true, eqb-false, le-leb, eq-eqb}
+use Rattle.ground.proofs.Picks.{pick-elim}
+use Rattle.geometry.specs.declared.Located.{Located}
+use Rattle.geometry.specs.declared.Spot.{Spot}
+use Rattle.ground.specs.Choice.{every}
+use Rattle.registers.specs.declared.Load.{Load}
+use Rattle.registers.specs.declared.Load.the-variants.{Sectors}
+use Rattle.registers.specs.declared.Made.{Made}
+use Rattle.registers.specs.declared.State.{State}
+use Rattle.registers.specs.State.{Machine, coreOf}
+use Rattle.registers.specs.WellMade.{found, locatedIn, atRest, statusFits, heldIn, holdFits, wordsFit, sectorsFit, loadFits, runFits}
+use Rattle.commands.specs.declared.End.{End}
+use Rattle.commands.specs.declared.Tested.{Tested}
+use Rattle.commands.specs.declared.Tested.the-variants.{Sound, Fails}
+use Rattle.commands.specs.declared.Way.{Way}
+use Rattle.commands.specs.declared.Way.the-variants.{In, Out}
+use Rattle.commands.specs.Ends.{endStatus, ended}
+use Rattle.commands.specs.Before.{testedOf, markTested}
+use Rattle.commands.specs.Steps.{begun, passed}
+use Rattle.kept.proofs.Registers.{Stands, Runs, Small, Left, load-same}
+use Rattle.kept.proofs.Resets.{at-rest}
+use Rattle.kept.proofs.Lent.{Lent}
+
+-- a state in which a command can end, and one in which a transfer can begin
+abbrev pub Fine : Made → State → Type 0
+Fine d s = Stands d s × Small s
+
+abbrev pub Ready : Made → State → Type 0
+Ready d s = Fine d s × (heldIn s ≡ false)
+
+-- "1..256 sectors left, agreeing with Sector Count modulo 256"
+abbrev pub Agrees : ℕ → State → Type 0
+Agrees left s = (1 ≤ left) × (left ≤ 256) × (left % 256 ≡ s .registers .count)
+
+-- a machine's change: what it leaves of the card, and of what is lent
+abbrev pub Next : Made → Machine → Machine → Type 0
+Next d m n = Left d (coreOf n) × Lent m n
+
+end-rests : (e : End) → atRest (endStatus e) ≡ true
+unfolding atRest
+end-rests End.Good = refl
+end-rests End.BadHeadOrSector = refl
+end-rests End.BadCylinder = refl
+end-rests End.BadLba = refl
+end-rests End.Unreadable = refl
+end-rests End.WriteFault = refl
+end-rests End.BadGeometry = refl
+end-rests End.NoSuchCommand = refl
+
+pub ended-left : (e : End) (mark : Bool) (d : Made) (s : State) → Fine d s → Left d (ended e mark s)
+ended-left e mark d s f = (f .0, at-rest (ended e mark s .state) (end-rests e), f .1)
+
+begun-runs : (way : Way) (load : Load) (first : Bool) (s : State) → heldIn s ≡ false → loadFits load s ≡ true → Runs (begun way load first s .phase) (begun way load first s .state)
+unfolding statusFits holdFits wordsFit runFits heldIn
+begun-runs In load first s h e = (refl, ap not h, refl, load-same load s (begun In load first s .state) refl refl e)
+begun-runs Out load first s h e = (refl, ap not h, refl, load-same load s (begun Out load first s .state) refl refl e)
+
+pub begun-left : (way : Way) (load : Load) (first : Bool) (d : Made) (s : State) → Ready d s → loadFits load s ≡ true → Left d (begun way load first s)
+begun-left way load first d s r e = (r .0 .0, begun-runs way load first s (r .1) e, r .0 .1)
+
+pub sectors-fit : (left : ℕ) (s : State) → found (locatedIn s) ≡ true → Agrees left s → loadFits (Sectors left) s ≡ true
+unfolding loadFits sectorsFit every
+sectors-fit left s g a = rw (g, le-leb _ _ (a .0), le-leb _ _ (a .1), eq-eqb _ _ (a .2))
+
+-- what a sector's tests can say
+pub address-elim : (P : Tested → Type 0) (l : Located) → ((spot : Spot) → found l ≡ true → P (Sound spot)) → ((e : End) → P (Fails e)) → P (testedOf l)
+unfolding found
+address-elim P (Located.Good spot) f g = f spot refl
+address-elim P Located.BadHeadOrSector f g = g _
+address-elim P Located.BadCylinder f g = g _
+address-elim P Located.BadLba f g = g _
+
+pub mark-elim : (P : Tested → Type 0) (allows : ℕ → Bool) (e : End) (marks : List ℕ) (l : Located) →
+    ((spot : Spot) → found l ≡ true → P (Sound spot)) → ((e : End) → P (Fails e)) → P (markTested allows e (testedOf l) marks)
+mark-elim P allows e marks l f g =
+    address-elim (λ (t : Tested). P (markTested allows e t marks)) l
+    (λ spot h. pick-elim P (allows (getD marks (spot .index) 0)) _ _ (λ x. f spot h) (λ x. g e))
+    g
+
+pub passed-fine : (left : ℕ) (d : Made) (s : State) → Fine d s → Fine d (passed left s)
+unfolding passed
+passed-fine left d s f =
+    pick-elim (λ (x : State). Fine d x) (eqb left 0) _ _ (λ e. (f .0, omega arith)) (λ e. (f .0, omega arith))
+
+passed-held : (left : ℕ) (s : State) → heldIn (passed left s) ≡ heldIn s
+unfolding passed heldIn
+passed-held left s = pick-elim (λ (x : State). heldIn x ≡ heldIn s) (eqb left 0) _ _ (λ e. refl) (λ e. refl)
+
+pub passed-ready : (left : ℕ) (d : Made) (s : State) → Ready d s → Ready d (passed left s)
+passed-ready left d s r = (passed-fine left d s (r .0), passed-held left s ∙ r .1)
+
+pub passed-count : (left : ℕ) (s : State) → left % 256 ≡ passed left s .registers .count
+unfolding passed
+passed-count left s =
+    pick-elim (λ (x : State). left % 256 ≡ x .registers .count) (eqb left 0) _ _ (λ e. let z = eqb-true left 0 e in omega arith) (λ e. refl)
+
+pub passed-agrees : (left : ℕ) (s : State) → eqb left 0 ≡ false → left ≤ 255 → Agrees left (passed left s)
+passed-agrees left s e l = let n = eqb-false left 0 e in (omega arith, omega arith, passed-count left s)

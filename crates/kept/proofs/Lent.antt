@@ -1,0 +1,65 @@
+-- What is lent keeps its length: a sector read, a sector stored, a part of a word written.
+use Prim.Native.Nat.{ℕ, _+_, _*_, _/_, _%_, _<_, _≤_}
+use mathlib.Core.Path.{_≡_, refl, _∙_}
+use mathlib.Core.List.{List, _++_}
+use native.Mathlib.Omega.{arith}
+use lib.Dec.{ltb}
+use lib.ListN.{length, set, take, drop, length-set, length-append, length-drop}
+use lib.Seq.{length-take-le}
+use borrow.Author.Tests.{ltb-true}
+use Rattle.ground.proofs.Picks.{pick-elim}
+use Rattle.sectors.specs.Sectors.{sectorOf, withSector, bufferRead, Kept, stored}
+use Rattle.registers.specs.State.{Machine}
+use Rattle.commands.specs.declared.Part.{Part}
+use Rattle.commands.specs.declared.Part.the-variants.{Low, High, Both}
+use Rattle.commands.specs.Halves.{partWritten, lowAt, highAt}
+
+-- what a change leaves of a machine whose buffer has 512 bytes
+abbrev pub Lengths : Machine → Machine → Type 0
+Lengths m n = (length (n .store) ≡ length (m .store)) × (length (n .marks) ≡ length (m .marks)) × (length (n .buffer) ≡ 512)
+
+abbrev pub Lent : Machine → Machine → Type 0
+Lent m n = length (m .buffer) ≡ 512 → Lengths m n
+
+-- a sector inside the store ends inside it
+inside : (i n : ℕ) → i < n / 512 → 512 * i + 512 ≤ n
+inside i n h = omega arith
+
+sector-length : (store : List ℕ) (i : ℕ) → i < length store / 512 → length (sectorOf store i) ≡ 512
+unfolding sectorOf
+sector-length store i h =
+    let w = inside i (length store) h in
+    let d = length-drop (512 * i) store in
+    length-take-le 512 (drop (512 * i) store) (omega arith)
+
+replaced-length : (store : List ℕ) (i : ℕ) (bytes : List ℕ) → length bytes ≡ 512 → i < length store / 512 → length (withSector store i bytes) ≡ length store
+unfolding withSector
+replaced-length store i bytes e h =
+    let w = inside i (length store) h in
+    let d = length-drop (512 * i + 512) store in
+    let t = length-take-le (512 * i) store (omega arith) in
+    let a = length-append (take (512 * i) store) (bytes ++ drop (512 * i + 512) store) in
+    let b = length-append bytes (drop (512 * i + 512) store) in
+    omega arith
+
+pub buffer-read : (store : List ℕ) (i : ℕ) (b : List ℕ) → length b ≡ 512 → length (bufferRead store i b) ≡ 512
+unfolding bufferRead
+buffer-read store i b e =
+    pick-elim (λ (x : List ℕ). length x ≡ 512) (ltb i (length store / 512)) _ _
+    (λ h. sector-length store i (ltb-true _ _ h))
+    (λ h. e)
+
+pub stored-lengths : (store marks : List ℕ) (i : ℕ) (bytes : List ℕ) → length bytes ≡ 512 →
+    (length (stored store marks i bytes .store) ≡ length store) × (length (stored store marks i bytes .marks) ≡ length marks)
+unfolding stored
+stored-lengths store marks i bytes e =
+    pick-elim (λ (k : Kept). (length (k .store) ≡ length store) × (length (k .marks) ≡ length marks)) (ltb i (length store / 512)) _ _
+    (λ h. pick-elim (λ (k : Kept). (length (k .store) ≡ length store) × (length (k .marks) ≡ length marks)) (ltb i (length marks)) _ _
+    (λ g. (replaced-length store i bytes e (ltb-true _ _ h), length-set marks i 0))
+    (λ g. (refl, refl)))
+    (λ h. (refl, refl))
+
+pub part-length : (part : Part) (words value : ℕ) (b : List ℕ) → length (partWritten part words value b) ≡ length b
+part-length Low words value b = length-set b (lowAt words) (value % 256)
+part-length High words value b = length-set b (highAt words) (value % 256)
+part-length Both words value b = length-set (set b (lowAt words) (value % 256)) (highAt words) (value / 256) ∙ length-set b (lowAt words) (value % 256)

@@ -1,0 +1,13 @@
+pub mod Registers
+pub mod Resets
+pub mod Lent
+pub mod Ends
+pub mod Steps
+pub mod Runs
+pub mod Data
+pub mod Table
+pub mod Decided
+pub mod Perform
+pub mod Step
+pub mod Doors
+pub mod Opening

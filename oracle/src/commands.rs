@@ -1,0 +1,447 @@
+//! The commands of 01's table, and what follows the last byte of a sector.
+
+use crate::card::{Card, Geometry, Lent, Phase, DATA, FAILED, FAULT, IDLE};
+use crate::cover;
+use crate::mutants::on;
+
+pub const ABRT: u8 = 0x04;
+pub const IDNF: u8 = 0x10;
+pub const UNC: u8 = 0x40;
+
+/// The rows of the command table.
+#[derive(Clone, Copy, PartialEq, Eq, Debug)]
+pub enum Row {
+    Read,
+    Write,
+    Verify,
+    Erase,
+    Identify,
+    ReadBuffer,
+    WriteBuffer,
+    Parameters,
+    Diagnose,
+    Recalibrate,
+    Seek,
+    Sense,
+    Other,
+}
+
+pub fn row(opcode: u8) -> Row {
+    match opcode {
+        0x20 | 0x21 => Row::Read,
+        0x30 | 0x31 => Row::Write,
+        0x40 | 0x41 => Row::Verify,
+        0xC0 => Row::Erase,
+        0xEC => Row::Identify,
+        0xE4 => Row::ReadBuffer,
+        0xE8 => Row::WriteBuffer,
+        0x91 => Row::Parameters,
+        0x90 => Row::Diagnose,
+        0x10..=0x1F => Row::Recalibrate,
+        0x70..=0x7F => Row::Seek,
+        0x03 => Row::Sense,
+        _ => Row::Other,
+    }
+}
+
+impl Card {
+    /// A Command write outside a hold.
+    pub fn command(&mut self, opcode: u8, lent: &mut Lent) {
+        let row = row(opcode);
+        cover::command(self, opcode, row);
+        if on(22) && self.phase == Phase::Out && self.sectors {
+            self.store_buffer(lent);
+        }
+        self.mark = false;
+        self.stop_transfer();
+        if row == Row::Sense {
+            return self.sense();
+        }
+        if row != Row::Recalibrate || !on(23) {
+            self.error = 0;
+        }
+        self.code = 0;
+        match row {
+            Row::Read | Row::Write | Row::Verify | Row::Erase => self.sector_command(row, lent),
+            Row::Identify => self.identify(),
+            Row::ReadBuffer => self.offer(),
+            Row::WriteBuffer => self.ask(),
+            Row::Parameters => self.parameters(),
+            Row::Diagnose => self.diagnose(),
+            Row::Seek => self.seek(),
+            Row::Recalibrate => self.good(row),
+            Row::Other | Row::Sense => self.fail(row, FAILED, ABRT, 0x20),
+        }
+    }
+
+    /// A command's good end that is not the good end of reading data.
+    fn good(&mut self, row: Row) {
+        self.end(row, 0, 0);
+        self.status = IDLE;
+        self.mark = true;
+    }
+
+    fn fail(&mut self, row: Row, status: u8, error: u8, code: u8) {
+        self.error = error;
+        self.code = code;
+        self.end(row, error, code);
+        self.status = status;
+        self.mark = true;
+    }
+
+    fn end(&mut self, row: Row, error: u8, code: u8) {
+        cover::end(row, self.lba(), error, code);
+        self.stop_transfer();
+    }
+
+    /// The buffer becomes ready for the host to read.
+    fn offer(&mut self) {
+        self.phase = Phase::In;
+        self.words = 0;
+        self.status = DATA;
+        self.mark = true;
+    }
+
+    /// The host is asked for the buffer's content.
+    fn ask(&mut self) {
+        self.phase = Phase::Out;
+        self.words = 0;
+        self.status = DATA;
+    }
+
+    fn sense(&mut self) {
+        self.error = self.code;
+        cover::sense(self.code);
+        if on(24) {
+            self.code = 0;
+        }
+        let status = self.status;
+        self.stop_transfer();
+        self.status = if on(25) { status } else { IDLE };
+        self.mark = true;
+        cover::end(Row::Sense, false, 0, 0);
+    }
+
+    fn diagnose(&mut self) {
+        self.count = 1;
+        self.sector = 1;
+        self.cyl_low = 0;
+        self.cyl_high = 0;
+        self.head &= if on(26) { 0x40 } else { 0 };
+        if on(57) {
+            self.current = self.default;
+        }
+        self.good(Row::Diagnose);
+        self.error = 1;
+    }
+
+    fn parameters(&mut self) {
+        let s = self.count as u16;
+        let h = (self.head & 0x0F) as u16 + 1;
+        let track = (h * s) as u64;
+        let all = if on(58) { self.current } else { self.default };
+        if s == 0 || track > all.sectors() {
+            return self.fail(Row::Parameters, FAILED, ABRT, 0x21);
+        }
+        let c = (self.default.sectors() / track) as u16;
+        self.current = Geometry::new(c, h, s);
+        self.good(Row::Parameters);
+    }
+
+    fn seek(&mut self) {
+        let test = if self.lba() { self.locate().map(|_| ()) } else { self.track() };
+        match test {
+            Ok(()) => self.good(Row::Seek),
+            Err(code) => self.fail(Row::Seek, FAILED, IDNF, code),
+        }
+    }
+
+    /// Seek's test in CHS: head and cylinder only.
+    fn track(&self) -> Result<(), u8> {
+        if on(27) {
+            return self.locate().map(|_| ());
+        }
+        if (self.head & 0x0F) as u16 >= self.current.h {
+            Err(0x21)
+        } else if self.cylinder() >= self.current.c {
+            Err(0x2F)
+        } else {
+            Ok(())
+        }
+    }
+}
+
+// ---------------------------------------------------------------- addresses
+
+impl Card {
+    fn cylinder(&self) -> u16 {
+        u16::from_le_bytes([self.cyl_low, self.cyl_high])
+    }
+
+    fn set_cylinder(&mut self, c: u16) {
+        [self.cyl_low, self.cyl_high] = c.to_le_bytes();
+    }
+
+    fn lba_number(&self) -> u32 {
+        u32::from_le_bytes([self.sector, self.cyl_low, self.cyl_high, self.head & 0x0F])
+    }
+
+    /// The sector that the registers name, or the code of the address error.
+    pub fn locate(&self) -> Result<usize, u8> {
+        if self.lba() {
+            let of = if on(28) { self.current } else { self.default };
+            let lba = self.lba_number();
+            return if (lba as u64) < of.sectors() { Ok(lba as usize) } else { Err(0x2F) };
+        }
+        let g = if on(29) { self.default } else { self.current };
+        let (c, h, s) = (self.cylinder(), (self.head & 0x0F) as u16, self.sector as u16);
+        if on(30) && c >= g.c {
+            return Err(0x2F);
+        }
+        if h >= g.h || s < 1 || s > g.s {
+            return Err(0x21);
+        }
+        if c >= g.c {
+            return Err(0x2F);
+        }
+        Ok((c as usize * g.h as usize + h as usize) * g.s as usize + s as usize - 1)
+    }
+
+    /// The next address: LBA by one; CHS advances sector, head, cylinder.
+    fn advance(&mut self) {
+        if self.lba() {
+            let next = self.lba_number() + 1;
+            cover::lba_carry(next);
+            let [sector, low, high, head] = next.to_le_bytes();
+            self.sector = sector;
+            if !on(31) {
+                (self.cyl_low, self.cyl_high) = (low, high);
+            }
+            self.head = self.head & 0xF0 | head & 0x0F;
+            return;
+        }
+        if (self.sector as u16) < self.current.s {
+            self.sector += 1;
+            return;
+        }
+        self.sector = 1;
+        self.advance_track();
+    }
+
+    fn advance_track(&mut self) {
+        let h = (self.head & 0x0F) as u16;
+        if h + 1 < self.current.h {
+            self.head += 1;
+            return;
+        }
+        self.head &= if on(59) { 0xE0 } else { 0xF0 };
+        let high = self.cyl_high;
+        self.set_cylinder(self.cylinder().wrapping_add(1));
+        cover::cylinder_carry(high, self.cyl_high);
+        if on(32) {
+            self.cyl_high = high;
+        }
+    }
+}
+
+// ---------------------------------------------------------------- sector commands
+
+impl Card {
+    fn sector_command(&mut self, row: Row, lent: &mut Lent) {
+        self.left = match self.count {
+            0 if on(33) => 1,
+            0 => 256,
+            n => n as u16,
+        };
+        match row {
+            Row::Read => self.read_sector(lent),
+            Row::Write => self.ask_sector(),
+            _ => while self.quiet_sector(row, lent) {},
+        }
+    }
+
+    /// Makes the present sector ready to be read, or ends in error.
+    fn read_sector(&mut self, lent: &mut Lent) {
+        let Some(at) = self.sound(Row::Read, lent) else {
+            return;
+        };
+        self.buffer.copy_from_slice(&lent.store[512 * at..512 * at + 512]);
+        self.sectors = true;
+        self.offer();
+    }
+
+    /// Asks for the present sector of a write, if there is such a sector.
+    fn ask_sector(&mut self) {
+        match self.locate() {
+            Err(code) => self.fail(Row::Write, FAILED, IDNF, code),
+            Ok(_) => {
+                self.sectors = true;
+                self.ask();
+            }
+        }
+    }
+
+    /// One sector of Verify or Erase; true if there is more to do.
+    fn quiet_sector(&mut self, row: Row, lent: &mut Lent) -> bool {
+        let done = match row {
+            Row::Erase => self.erase_sector(lent),
+            _ => self.sound(row, lent).is_some(),
+        };
+        done && !self.one_done(row)
+    }
+
+    fn erase_sector(&mut self, lent: &mut Lent) -> bool {
+        let at = match self.locate() {
+            Ok(at) => at,
+            Err(code) => {
+                self.fail(Row::Erase, FAILED, IDNF, code);
+                return false;
+            }
+        };
+        if on(34) {
+            self.buffer = [0xFF; 512];
+        }
+        self.put_sector(Row::Erase, at, &[0xFF; 512], lent)
+    }
+
+    /// The present sector's place if its address and then its mark let it be read.
+    fn sound(&mut self, row: Row, lent: &Lent) -> Option<usize> {
+        match self.locate() {
+            Err(code) => self.fail(row, FAILED, IDNF, code),
+            Ok(at) => {
+                cover::mark(row, lent.marks[at]);
+                let bad = match lent.marks[at] {
+                    0 => false,
+                    2 => on(35),
+                    1 => true,
+                    _ => !on(36),
+                };
+                if !bad {
+                    return Some(at);
+                }
+                self.unreadable(row);
+            }
+        }
+        None
+    }
+
+    fn unreadable(&mut self, row: Row) {
+        if on(37) {
+            self.buffer = [0; 512];
+        }
+        self.fail(row, FAILED, UNC, 0x11);
+    }
+
+    /// Stores one sector and sets its mark to 0, or ends with a write fault.
+    fn put_sector(&mut self, row: Row, at: usize, bytes: &[u8; 512], lent: &mut Lent) -> bool {
+        cover::mark(row, lent.marks[at]);
+        if lent.marks[at] == 2 {
+            self.fail(row, FAULT, ABRT, 0x03);
+            return false;
+        }
+        lent.store[512 * at..512 * at + 512].copy_from_slice(bytes);
+        if !on(38) {
+            lent.marks[at] = 0;
+        }
+        true
+    }
+
+    /// Counts one sector as done. At the last one the command ends well and this is
+    /// true; else the registers name the next sector.
+    fn one_done(&mut self, row: Row) -> bool {
+        self.left = self.left.saturating_sub(1);
+        self.count = self.left as u8;
+        if self.left == 0 {
+            self.good_sectors(row);
+            return true;
+        }
+        self.advance();
+        false
+    }
+
+    fn good_sectors(&mut self, row: Row) {
+        if on(39) {
+            self.advance();
+        }
+        if row == Row::Read && !on(40) || row == Row::Verify && on(60) {
+            self.good_read(row);
+        } else {
+            self.good(row);
+        }
+    }
+
+    /// The good end of reading data leaves the mark as it is.
+    fn good_read(&mut self, row: Row) {
+        self.end(row, 0, 0);
+        self.status = IDLE;
+    }
+}
+
+// ---------------------------------------------------------------- the last byte
+
+impl Card {
+    /// All 512 bytes of the present sector or buffer have moved.
+    pub fn sector_moved(&mut self, lent: &mut Lent) {
+        match (self.phase, self.sectors) {
+            (Phase::In, true) => self.sector_was_read(lent),
+            (Phase::Out, true) => self.sector_was_written(lent),
+            (Phase::In, false) => self.good_read(Row::ReadBuffer),
+            _ => self.good(Row::WriteBuffer),
+        }
+    }
+
+    fn sector_was_read(&mut self, lent: &mut Lent) {
+        if !self.one_done(Row::Read) {
+            self.read_sector(lent);
+        }
+    }
+
+    fn sector_was_written(&mut self, lent: &mut Lent) {
+        if self.store_buffer(lent) && !self.one_done(Row::Write) {
+            self.ask_sector();
+            // A second or later sector is asked for; an error end sets the mark as well.
+            self.mark |= !on(41);
+        }
+    }
+
+    fn store_buffer(&mut self, lent: &mut Lent) -> bool {
+        let bytes = self.buffer;
+        match self.locate() {
+            Ok(at) => self.put_sector(Row::Write, at, &bytes, lent),
+            Err(_) => false,
+        }
+    }
+}
+
+// ---------------------------------------------------------------- Identify
+
+impl Card {
+    fn identify(&mut self) {
+        for (i, word) in self.identify_words().into_iter().enumerate() {
+            self.buffer[2 * i..2 * i + 2].copy_from_slice(&word.to_le_bytes());
+        }
+        self.offer();
+        cover::identify();
+    }
+
+    fn identify_words(&self) -> [u16; 256] {
+        let mut w = [0u16; 256];
+        let (all, now) = (self.default, self.current);
+        let n = all.sectors() as u32;
+        let capacity = now.sectors() as u32;
+        let high = |x: u32| (x >> 16) as u16;
+        let low = |x: u32| x as u16;
+        w[0] = 0x848A;
+        (w[1], w[3], w[6]) = (all.c, all.h, all.s);
+        (w[7], w[8]) = if on(42) { (low(n), high(n)) } else { (high(n), low(n)) };
+        for blank in (10..=19).chain(23..=46) {
+            w[blank] = 0x2020;
+        }
+        w[49] = 0x0200;
+        w[53] = 1;
+        (w[54], w[55], w[56]) = (now.c, now.h, now.s);
+        (w[57], w[58]) = if on(43) { (low(n), high(n)) } else { (low(capacity), high(capacity)) };
+        (w[60], w[61]) = (low(n), high(n));
+        w
+    }
+}

@@ -1,0 +1,280 @@
+//! Runs other programs on every generated input and compares what they print.
+
+use std::io::{Read, Write};
+use std::process::{Child, Command, Stdio};
+use std::sync::atomic::{AtomicUsize, Ordering::Relaxed};
+use std::sync::mpsc;
+use std::sync::Mutex;
+use std::thread;
+use std::time::Duration;
+
+use crate::cover;
+use crate::gen::{self, Case};
+use crate::mutants::{switch, CHANGES};
+use crate::session;
+use crate::trial;
+use crate::trials;
+
+const PATIENCE: Duration = Duration::from_secs(60);
+const SHOWN: usize = 10;
+
+type Player = fn(&[u8]) -> String;
+
+/// Inputs of one sort, with what this program prints for them.
+struct Suite {
+    cases: Vec<Case>,
+    texts: Vec<String>,
+    play: Player,
+}
+
+impl Suite {
+    fn sessions(seed: u64) -> Suite {
+        Suite::new(gen::sessions(seed), session::play, cover::SESSIONS)
+    }
+
+    fn trials(seed: u64) -> Suite {
+        Suite::new(trials::trials(seed), trial::play, cover::TRIALS)
+    }
+
+    fn new(cases: Vec<Case>, play: Player, column: usize) -> Suite {
+        cover::count_for(column);
+        let texts = cases.iter().map(|c| play(&c.bytes)).collect();
+        cover::count_for(cover::OFF);
+        Suite { cases, texts, play }
+    }
+
+    /// Answers to accesses in all texts.
+    fn accesses(&self) -> usize {
+        let is_access = |l: &&str| l.starts_with("A ") || l.contains(" R ") || l.contains(" W ");
+        self.texts.iter().map(|t| t.lines().filter(is_access).count()).sum()
+    }
+}
+
+/// `oracle compare CARDRUN [TRIAL]`: true if nothing differs and everything is reached.
+pub fn compare(seed: u64, cardrun: &str, trial: Option<&str>) -> bool {
+    let mut totals = run_suite("sessions", &Suite::sessions(seed), cardrun);
+    if let Some(program) = trial {
+        let (passed, failed) = run_suite("trials", &Suite::trials(seed), program);
+        totals = (totals.0 + passed, totals.1 + failed);
+    }
+    let (reached, missed) = cover::table(trial.is_some());
+    println!("coverage: {reached} rows reached, {missed} missed");
+    println!("{} passed, {} failed", totals.0 + reached, totals.1 + missed);
+    totals.1 + missed == 0
+}
+
+/// The table alone, with no other program.
+pub fn coverage(seed: u64) -> bool {
+    for (name, suite) in [("sessions", Suite::sessions(seed)), ("trials", Suite::trials(seed))] {
+        println!("{}: {}, {} accesses", name, suite.cases.len(), suite.accesses());
+    }
+    let (reached, missed) = cover::table(true);
+    println!("{reached} passed, {missed} failed");
+    missed == 0
+}
+
+// ---------------------------------------------------------------- one suite
+
+fn run_suite(name: &str, suite: &Suite, program: &str) -> (usize, usize) {
+    let next = AtomicUsize::new(0);
+    let faults = Mutex::new(Vec::new());
+    thread::scope(|scope| {
+        for _ in 0..2 {
+            scope.spawn(|| loop {
+                let i = next.fetch_add(1, Relaxed);
+                if i >= suite.cases.len() {
+                    return;
+                }
+                if let Err(why) = one(program, &suite.cases[i], &suite.texts[i]) {
+                    faults.lock().unwrap().push((i, why));
+                }
+            });
+        }
+    });
+    let mut faults = faults.into_inner().unwrap();
+    faults.sort();
+    for (i, why) in faults.iter().take(SHOWN) {
+        println!("{}: {why}", suite.cases[*i].name);
+    }
+    if faults.len() > SHOWN {
+        println!("... and {} more", faults.len() - SHOWN);
+    }
+    let passed = suite.cases.len() - faults.len();
+    println!(
+        "{name}: {}, {} accesses, {} differ",
+        suite.cases.len(),
+        suite.accesses(),
+        faults.len()
+    );
+    (passed, faults.len())
+}
+
+fn one(program: &str, case: &Case, expected: &str) -> Result<(), String> {
+    let got = run(program, &case.bytes)?;
+    if got == expected.as_bytes() {
+        return Ok(());
+    }
+    Err(difference(case, expected, &String::from_utf8_lossy(&got)))
+}
+
+/// The command, after the launcher that ORACLE_LAUNCHER names, if any.
+fn command(program: &str) -> Command {
+    let launcher = std::env::var("ORACLE_LAUNCHER").unwrap_or_default();
+    let mut words = launcher.split_whitespace().chain([program]);
+    let mut command = Command::new(words.next().unwrap_or(program));
+    command.args(words);
+    command
+}
+
+/// What a program prints for an input.
+fn run(program: &str, input: &[u8]) -> Result<Vec<u8>, String> {
+    let mut command = command(program);
+    command.stdin(Stdio::piped()).stdout(Stdio::piped()).stderr(Stdio::null());
+    let mut child = command.spawn().map_err(|e| format!("can't run {program}: {e}"))?;
+    let mut stdin = child.stdin.take().ok_or("no standard input")?;
+    let mut stdout = child.stdout.take().ok_or("no standard output")?;
+    let (sender, receiver) = mpsc::channel();
+    thread::scope(|scope| {
+        // A program may stop reading early, so a failed write says nothing.
+        scope.spawn(move || drop(stdin.write_all(input)));
+        scope.spawn(move || {
+            let mut bytes = Vec::new();
+            let _ = stdout.read_to_end(&mut bytes);
+            let _ = sender.send(bytes);
+        });
+        let got = receiver.recv_timeout(PATIENCE);
+        if got.is_err() {
+            let _ = child.kill();
+        }
+        let ended = ended(&mut child);
+        let late = |_| format!("no answer in {} seconds", PATIENCE.as_secs());
+        got.map_err(late).and_then(|bytes| ended.map(|()| bytes))
+    })
+}
+
+fn ended(child: &mut Child) -> Result<(), String> {
+    let status = child.wait().map_err(|e| e.to_string())?;
+    match status.code() {
+        Some(_) => Ok(()),
+        None => Err(format!("ended by a signal: {status}")),
+    }
+}
+
+// ---------------------------------------------------------------- telling a difference
+
+fn difference(case: &Case, expected: &str, got: &str) -> String {
+    let (want, have): (Vec<&str>, Vec<&str>) =
+        (expected.split('\n').collect(), got.split('\n').collect());
+    let at = (0..).find(|&i| want.get(i) != have.get(i)).unwrap_or(0);
+    let line = |of: &[&str]| match of.get(at) {
+        Some(l) => format!("\"{}\"", l.chars().take(120).collect::<String>()),
+        None => "the end".to_string(),
+    };
+    let mut text = format!("line {} should be {} and is {}", at + 1, line(&want), line(&have));
+    if case.name.starts_with("trial-") {
+        text.push_str(&trial_records(&case.bytes, at));
+    } else {
+        text.push_str(&session_records(&case.bytes, at));
+    }
+    text
+}
+
+/// The accesses up to the one of a line.
+fn session_records(bytes: &[u8], line: usize) -> String {
+    let near = line.saturating_sub(3)..line;
+    let told =
+        near.filter_map(|n| Some(format!("\n    access {}: {}", n + 1, record_at(bytes, n)?)));
+    told.collect()
+}
+
+/// The records up to the one that prints a line.
+fn trial_records(bytes: &[u8], line: usize) -> String {
+    let records = bytes.len() / 16;
+    let printed = |k: usize| trial::play(&bytes[..16 * k]).lines().count() - 2;
+    let (mut low, mut high) = (0, records);
+    while low < high {
+        let middle = (low + high) / 2;
+        (low, high) = if printed(middle) > line { (low, middle) } else { (middle + 1, high) };
+    }
+    let near = low.saturating_sub(3)..low.min(records);
+    let told = near.map(|k| {
+        let words = trial::words(&bytes[16 * k..16 * k + 16]).map(|w| format!("{w:04X}"));
+        format!("\n    record {k}: {}", words.join(" "))
+    });
+    told.collect()
+}
+
+/// An access of a session in words, the first being number 0.
+fn record_at(bytes: &[u8], number: usize) -> Option<String> {
+    let mut place = 12;
+    for _ in 0..number {
+        place += session::record(bytes.get(place..)?, false).ok()?.1;
+    }
+    let session::Record::Access(a) = session::record(bytes.get(place..)?, false).ok()?.0 else {
+        return None;
+    };
+    let space = ["attribute", "memory", "I/O", "True IDE"][a.space as usize];
+    let width = if a.width == 1 { "byte" } else { "word" };
+    Some(match a.write {
+        true => format!("{width} write of {:04X}H to {space} {:03X}H", a.value, a.address),
+        false => format!("{width} read of {space} {:03X}H", a.address),
+    })
+}
+
+// ---------------------------------------------------------------- mutants
+
+/// `oracle mutants`: each small change of this program has to be found.
+pub fn mutants(seed: u64) -> bool {
+    let suites = [Suite::sessions(seed), Suite::trials(seed)];
+    let found: Vec<Option<String>> = thread::scope(|scope| {
+        let halves = [0, 1].map(|odd| {
+            let suites = &suites;
+            scope.spawn(move || {
+                let numbers = (1..=CHANGES.len()).filter(|n| n % 2 == odd);
+                numbers.map(|n| (n, find(n, suites))).collect::<Vec<_>>()
+            })
+        });
+        let mut all: Vec<_> = halves.into_iter().flat_map(|h| h.join().unwrap()).collect();
+        all.sort();
+        all.into_iter().map(|(_, f)| f).collect()
+    });
+    for (i, f) in found.iter().enumerate() {
+        let by = f.as_deref().unwrap_or("NOT FOUND");
+        println!("{:2} {}: {by}", i + 1, CHANGES[i]);
+    }
+    let passed = found.iter().flatten().count();
+    println!("{passed} passed, {} failed", found.len() - passed);
+    passed == found.len()
+}
+
+/// The inputs that tell a mutant from this program.
+fn find(number: usize, suites: &[Suite]) -> Option<String> {
+    switch(number);
+    let mut first = None;
+    for suite in suites {
+        let by =
+            (0..suite.cases.len()).find(|&i| (suite.play)(&suite.cases[i].bytes) != suite.texts[i]);
+        if let Some(i) = by {
+            first = Some(suite.cases[i].name.clone());
+            break;
+        }
+    }
+    switch(0);
+    first
+}
+
+// ---------------------------------------------------------------- files
+
+/// `oracle gen SEED DIR`: every input and what it should print, as files.
+pub fn write_files(seed: u64, dir: &str) -> std::io::Result<usize> {
+    std::fs::create_dir_all(dir)?;
+    let mut count = 0;
+    for suite in [Suite::sessions(seed), Suite::trials(seed)] {
+        for (case, text) in suite.cases.iter().zip(&suite.texts) {
+            std::fs::write(format!("{dir}/{}.bin", case.name), &case.bytes)?;
+            std::fs::write(format!("{dir}/{}.txt", case.name), text)?;
+            count += 1;
+        }
+    }
+    Ok(count)
+}

@@ -1,0 +1,338 @@
+//! The sessions of the comparison, from a seed.
+
+use crate::broken;
+use crate::card::{Access, Geometry, Half, Phase};
+use crate::host::{Host, Style, STYLES};
+use crate::story::EDGES;
+
+pub struct Case {
+    pub name: String,
+    pub bytes: Vec<u8>,
+}
+
+impl Case {
+    pub fn new(name: String, bytes: Vec<u8>) -> Case {
+        Case { name, bytes }
+    }
+}
+
+/// Geometries of at most 32 sectors.
+pub const SMALL: [(u16, u16, u16); 12] = [
+    (4, 2, 4),
+    (1, 1, 1),
+    (32, 1, 1),
+    (1, 1, 32),
+    (1, 16, 2),
+    (2, 16, 1),
+    (3, 3, 3),
+    (5, 2, 3),
+    (7, 1, 4),
+    (2, 2, 7),
+    (31, 1, 1),
+    (1, 4, 8),
+];
+
+pub fn geometry(g: (u16, u16, u16)) -> Geometry {
+    Geometry::new(g.0, g.1, g.2)
+}
+
+const LONG: usize = 600;
+const SHORT: usize = 300;
+
+/// All sessions of a seed.
+pub fn sessions(seed: u64) -> Vec<Case> {
+    let mut all = Vec::new();
+    opcodes(seed, &mut all);
+    sweeps(seed, &mut all);
+    transfers(seed, &mut all);
+    addresses(seed, &mut all);
+    parameters(seed, &mut all);
+    wanderings(seed, &mut all);
+    broken::files(seed, &mut all);
+    all
+}
+
+/// A seed of its own for each session of a group.
+pub fn sub_seed(seed: u64, group: u64, number: usize) -> u64 {
+    seed.wrapping_mul(1_000_003) ^ group << 40 ^ (number as u64) << 4
+}
+
+fn finish(name: String, host: Host, all: &mut Vec<Case>) {
+    all.push(Case::new(name, host.out));
+}
+
+/// A host in one of the five maps; 4 is True IDE.
+fn host_in(map: u8, g: Geometry, seed: u64) -> Host {
+    let mut host = Host::session(seed, g, (map == 4) as u16);
+    host.go_to(map);
+    host
+}
+
+// ---------------------------------------------------------------- states
+
+/// What the card is kept in while something is tried on it.
+#[derive(Clone, Copy, PartialEq, Eq, Debug)]
+pub enum State {
+    Idle,
+    In,
+    Out,
+    InLow,
+    InHigh,
+    OutLow,
+    OutHigh,
+    Hold,
+    Sreset,
+}
+
+pub const STATES: [State; 9] = [
+    State::Idle,
+    State::In,
+    State::Out,
+    State::InLow,
+    State::InHigh,
+    State::OutLow,
+    State::OutHigh,
+    State::Hold,
+    State::Sreset,
+];
+
+fn in_state(host: &Host, state: State) -> bool {
+    let k = &host.card;
+    let transfer = (k.phase, k.half);
+    let free = !k.hold && !k.sreset;
+    match state {
+        State::Idle => free && !k.running(),
+        State::In => transfer == (Phase::In, Half::Nothing),
+        State::Out => transfer == (Phase::Out, Half::Nothing),
+        State::InLow => transfer == (Phase::In, Half::Low),
+        State::InHigh => transfer == (Phase::In, Half::High),
+        State::OutLow => transfer == (Phase::Out, Half::Low),
+        State::OutHigh => transfer == (Phase::Out, Half::High),
+        State::Hold => k.hold && !k.sreset,
+        State::Sreset => k.sreset,
+    }
+}
+
+/// Brings the card into a map and a state, if it isn't there.
+pub fn bring(host: &mut Host, map: u8, state: State) {
+    if state == State::Sreset {
+        if !host.card.sreset {
+            host.option(0x80 | map & 3);
+        }
+        return;
+    }
+    if map < 4 && host.card.option() != map {
+        host.option(map);
+    }
+    if in_state(host, state) {
+        return;
+    }
+    if host.card.hold {
+        host.put(0xE, 0);
+    }
+    match state {
+        State::Hold => drop(host.put(0xE, 4)),
+        State::Idle => drop(host.put(7, 0x10)),
+        _ => begin(host, state),
+    }
+}
+
+/// Begins a transfer and moves half a word if the state wants it.
+fn begin(host: &mut Host, state: State) {
+    let writing = matches!(state, State::Out | State::OutLow | State::OutHigh);
+    let opcode =
+        if writing { host.rng.pick(&[0x30, 0xE8]) } else { host.rng.pick(&[0x20, 0xEC, 0xE4]) };
+    host.put(7, 0x90);
+    host.put(7, opcode);
+    match state {
+        State::InLow | State::OutLow => host.data_byte(0),
+        State::InHigh | State::OutHigh if host.wide_map() => host.data_byte(9),
+        _ => {}
+    }
+}
+
+/// Can the state be reached in the map?
+fn possible(map: u8, state: State) -> bool {
+    match state {
+        State::InHigh | State::OutHigh => map < 2,
+        State::Sreset => map < 4,
+        _ => true,
+    }
+}
+
+// ---------------------------------------------------------------- groups
+
+/// Every opcode in every map, idle and in both directions.
+fn opcodes(seed: u64, all: &mut Vec<Case>) {
+    for map in 0..5u8 {
+        for (k, state) in [State::Idle, State::In, State::Out].into_iter().enumerate() {
+            for quarter in 0..4usize {
+                let number = 16 * map as usize + 4 * k + quarter;
+                let mut host =
+                    host_in(map, geometry(SMALL[number % 12]), sub_seed(seed, 1, number));
+                for opcode in 64 * quarter..64 * quarter + 64 {
+                    one_opcode(&mut host, map, state, opcode as u8);
+                }
+                finish(format!("opcodes-map{map}-{state:?}-{quarter}"), host, all);
+            }
+        }
+    }
+}
+
+fn one_opcode(host: &mut Host, map: u8, state: State, opcode: u8) {
+    bring(host, map, state);
+    if state == State::Idle && host.rng.flip() {
+        host.aim();
+    }
+    host.put(7, opcode);
+    for offset in [7, 1, 2, 3, 6, 0xF] {
+        host.get(offset);
+    }
+    host.transfer(3, Style::Mixed);
+    host.sense();
+}
+
+/// Every edge address of every space in every map and state.
+fn sweeps(seed: u64, all: &mut Vec<Case>) {
+    let mut number = 0;
+    for map in 0..5u8 {
+        for state in STATES.into_iter().filter(|&s| possible(map, s)) {
+            for space in 0..4u8 {
+                number += 1;
+                let mut host = host_in(map, geometry((4, 2, 4)), sub_seed(seed, 2, number));
+                sweep(&mut host, map, state, space);
+                finish(format!("sweep-map{map}-{state:?}-space{space}"), host, all);
+            }
+        }
+    }
+}
+
+fn sweep(host: &mut Host, map: u8, state: State, space: u8) {
+    for address in EDGES {
+        for (width, write) in [(1, false), (1, true), (2, false), (2, true)] {
+            bring(host, map, state);
+            let value = match (write, width) {
+                (false, _) => 0,
+                (true, 1) => host.rng.pick(&[0, 1, 2, 3, 4, 0x7F, 0x83, 0xEC, 0xE8]),
+                _ => host.rng.next() as u16,
+            };
+            host.access(Access { space, width, write, address, value });
+        }
+    }
+}
+
+/// Whole transfers in every map and style, read back.
+fn transfers(seed: u64, all: &mut Vec<Case>) {
+    let mut number = 0;
+    for map in 0..5u8 {
+        for style in STYLES {
+            for noise in [0, 20] {
+                number += 1;
+                let g = geometry(SMALL[number % 12]);
+                let mut host = host_in(map, g, sub_seed(seed, 3, number));
+                whole_transfers(&mut host, map, style, noise);
+                finish(format!("transfer-map{map}-{style:?}-{noise}"), host, all);
+            }
+        }
+    }
+}
+
+fn whole_transfers(host: &mut Host, map: u8, style: Style, noise: usize) {
+    let n = host.card.default.sectors() as usize;
+    let count = n.min(2);
+    let first = host.rng.below(n + 1 - count);
+    for opcode in [0x30, 0x20, 0xE8, 0xE4, 0xEC, 0x31, 0x21] {
+        host.name_sector(first, opcode % 2 == 1);
+        host.put(2, count as u8);
+        host.put(7, opcode);
+        host.look();
+        host.noise = noise;
+        while host.card.running() && !host.full {
+            host.rest_of_sector(style);
+            host.look();
+        }
+        host.noise = 0;
+        if map < 4 && host.card.option() != map {
+            host.go_to(map);
+        }
+    }
+}
+
+/// Every command with an address at every limit, in CHS and LBA.
+fn addresses(seed: u64, all: &mut Vec<Case>) {
+    let mut number = 0;
+    for g in SMALL {
+        for opcode in [0x20, 0x30, 0x40, 0xC0, 0x70, 0x7F] {
+            number += 1;
+            let map = (number % 5) as u8;
+            let mut host = host_in(map, geometry(g), sub_seed(seed, 4, number));
+            all_chs(&mut host, opcode);
+            all_lba(&mut host, opcode);
+            finish(format!("address-{}-{}-{}-{opcode:02X}", g.0, g.1, g.2), host, all);
+        }
+    }
+}
+
+fn all_chs(host: &mut Host, opcode: u8) {
+    let g = host.card.current;
+    for c in [0, g.c - 1, g.c, 0x100] {
+        for h in [0, g.h - 1, g.h, 15] {
+            for s in [0, 1, g.s, g.s + 1, 255] {
+                host.set_chs(c, h as u8, s as u8);
+                try_address(host, opcode);
+            }
+        }
+    }
+}
+
+fn all_lba(host: &mut Host, opcode: u8) {
+    let n = host.card.default.sectors() as u32;
+    for lba in [0, n - 1, n, n + 1, 0xFF, 0x100, 0xFFFF, 0x1_0000, 0x100_0000, 0xFFF_FFFF] {
+        host.set_lba(lba);
+        try_address(host, opcode);
+    }
+}
+
+fn try_address(host: &mut Host, opcode: u8) {
+    let count = host.rng.pick(&[1, 2, 0, 200]);
+    host.put(2, count);
+    host.put(7, opcode);
+    for offset in [7, 1, 2, 3, 4, 5, 6] {
+        host.get(offset);
+    }
+    host.sense();
+}
+
+/// 91H with many counts and nibbles, on several geometries.
+fn parameters(seed: u64, all: &mut Vec<Case>) {
+    for (number, g) in SMALL.into_iter().enumerate() {
+        for round in 0..2 {
+            let map = ((number + round) % 5) as u8;
+            let mut host = host_in(map, geometry(g), sub_seed(seed, 5, 2 * number + round));
+            while !host.full {
+                host.parameters_story();
+                if host.rng.percent(10) {
+                    host.write_and_read();
+                }
+            }
+            finish(format!("parameters-{}-{}-{}-{round}", g.0, g.1, g.2), host, all);
+        }
+    }
+}
+
+fn wanderings(seed: u64, all: &mut Vec<Case>) {
+    for number in 0..LONG + SHORT {
+        let g = geometry(SMALL[number % 12]);
+        let mode = (number % 5 == 4) as u16;
+        let mut host = Host::session(sub_seed(seed, 6, number), g, mode);
+        if number >= LONG {
+            host.limit = 200 + host.rng.below(3000);
+        }
+        if mode == 0 {
+            host.go_to((number % 4) as u8);
+        }
+        host.wander();
+        let kind = if number < LONG { "long" } else { "short" };
+        finish(format!("wander-{kind}-{number}"), host, all);
+    }
+}

@@ -1,0 +1,215 @@
+//! The register file: reads and writes, the two resets, and the data register.
+
+use crate::card::{moves, touch, Access, Card, Half, Lent, Moves, Phase, Touch, IDLE};
+use crate::cover;
+use crate::maps::Place;
+use crate::mutants::on;
+
+impl Card {
+    pub fn read(&mut self, place: Place, a: &Access, lent: &mut Lent) -> u16 {
+        match place {
+            Place::Tuple(i) => lent.tuples[i] as u16,
+            Place::Option => self.option() as u16,
+            Place::Register(offset) => self.read_register(offset, a, lent),
+        }
+    }
+
+    pub fn write(&mut self, place: Place, a: &Access, lent: &mut Lent) {
+        match place {
+            Place::Tuple(_) => {}
+            Place::Option => self.write_option(a.value as u8),
+            Place::Register(offset) => self.write_register(offset, a, lent),
+        }
+    }
+
+    /// The Configuration Option Register reads as last written.
+    pub fn option(&self) -> u8 {
+        (self.sreset as u8) << 7 | self.setting
+    }
+
+    fn read_register(&mut self, offset: u8, a: &Access, lent: &mut Lent) -> u16 {
+        cover::register(self, offset, a);
+        if offset == 7 || offset == 0xE && on(11) {
+            self.mark = false;
+        }
+        if self.hold {
+            return if a.width == 2 && !on(12) { 0x8080 } else { 0x80 };
+        }
+        if let Some(touch) = touch(offset, a.width) {
+            return self.read_data(touch, lent);
+        }
+        self.register(offset) as u16
+    }
+
+    fn register(&self, offset: u8) -> u8 {
+        match offset {
+            2 => self.count,
+            3 => self.sector,
+            4 => self.cyl_low,
+            5 => self.cyl_high,
+            6 => self.head | 0xA0,
+            7 | 0xE => self.status,
+            0xF => self.drive_address(),
+            _ => self.error,
+        }
+    }
+
+    fn drive_address(&self) -> u8 {
+        let writing = self.phase == Phase::Out && (self.sectors || !on(13));
+        let drive_1 = self.head & 0x10 != 0;
+        let head = (!self.head & 0x0F) << 2;
+        let drive = if drive_1 { 0x01 } else { 0x02 };
+        let gate = if writing { 0 } else { 0x40 };
+        gate | head | drive
+    }
+
+    fn write_register(&mut self, offset: u8, a: &Access, lent: &mut Lent) {
+        cover::register(self, offset, a);
+        let value = a.value as u8;
+        if offset == 0xE {
+            return self.write_control(value);
+        }
+        if self.hold {
+            return;
+        }
+        if let Some(touch) = touch(offset, a.width) {
+            return self.write_data(touch, a.value, lent);
+        }
+        match offset {
+            7 => self.command(value, lent),
+            2..=6 if !self.running() || on(14) => self.set_register(offset, value),
+            _ => {}
+        }
+    }
+
+    fn set_register(&mut self, offset: u8, value: u8) {
+        match offset {
+            2 => self.count = value,
+            3 => self.sector = value,
+            4 => self.cyl_low = value,
+            5 => self.cyl_high = value,
+            _ => self.head = value & 0x5F,
+        }
+    }
+}
+
+// ---------------------------------------------------------------- resets
+
+impl Card {
+    /// Entering a reset: the transfer ends with Status 50H, the mark is cleared.
+    fn enter_reset(&mut self) {
+        if self.running() {
+            self.status = IDLE;
+        }
+        self.stop_transfer();
+        self.mark = false;
+    }
+
+    fn write_option(&mut self, value: u8) {
+        let setting = value & 0x7F;
+        cover::option_write(self, value);
+        match (self.sreset, value & 0x80 != 0) {
+            (false, true) => {
+                self.enter_reset();
+                self.sreset = true;
+                self.setting = setting;
+            }
+            (true, false) => self.leave_sreset(setting),
+            _ => self.setting = setting,
+        }
+        if on(17) && self.running() {
+            self.enter_reset();
+        }
+    }
+
+    fn leave_sreset(&mut self, setting: u8) {
+        let (hold, buffer) = (self.hold, self.buffer);
+        self.power_on(if on(15) { 0 } else { setting });
+        self.hold = hold && on(16);
+        if on(18) {
+            self.buffer = buffer;
+        }
+    }
+
+    fn write_control(&mut self, value: u8) {
+        cover::control_write(self, value);
+        match (self.hold, value & 4 != 0) {
+            (false, true) => {
+                self.enter_reset();
+                self.hold = true;
+            }
+            (true, false) => self.leave_hold(),
+            _ => {}
+        }
+        self.mask = value & 2 != 0;
+    }
+
+    fn leave_hold(&mut self) {
+        let (code, current) = (self.code, self.current);
+        self.first_registers();
+        self.hold = false;
+        if on(19) {
+            self.code = code;
+        }
+        if on(20) {
+            self.current = current;
+        }
+        if on(21) {
+            self.buffer = [0; 512];
+        }
+    }
+}
+
+// ---------------------------------------------------------------- data
+
+impl Card {
+    fn read_data(&mut self, touch: Touch, lent: &mut Lent) -> u16 {
+        if self.phase != Phase::In {
+            cover::no_transfer(false, self.phase, touch);
+            return if touch == Touch::Word { 0xFFFF } else { 0xFF };
+        }
+        let Some(what) = moves(self.half, touch) else {
+            return 0;
+        };
+        let at = 2 * self.words as usize;
+        let (low, high) = (self.buffer[at] as u16, self.buffer[at + 1] as u16);
+        self.moved(what, lent);
+        match what {
+            Moves::Low => low,
+            Moves::High => high,
+            Moves::Both => high << 8 | low,
+        }
+    }
+
+    fn write_data(&mut self, touch: Touch, value: u16, lent: &mut Lent) {
+        if self.phase != Phase::Out {
+            return cover::no_transfer(true, self.phase, touch);
+        }
+        let Some(what) = moves(self.half, touch) else {
+            return;
+        };
+        let at = 2 * self.words as usize;
+        let [low, high] = value.to_le_bytes();
+        match what {
+            Moves::Low => self.buffer[at] = low,
+            Moves::High => self.buffer[at + 1] = low,
+            Moves::Both => self.buffer[at..at + 2].copy_from_slice(&[low, high]),
+        }
+        self.moved(what, lent);
+    }
+
+    /// Keeps account of what has moved; the second half of word 255 ends the sector.
+    fn moved(&mut self, what: Moves, lent: &mut Lent) {
+        let whole = what == Moves::Both || self.half != Half::Nothing;
+        if !whole {
+            self.half = if what == Moves::Low { Half::Low } else { Half::High };
+            return;
+        }
+        self.half = Half::Nothing;
+        self.words += 1;
+        if self.words == 256 {
+            self.words = 0;
+            self.sector_moved(lent);
+        }
+    }
+}

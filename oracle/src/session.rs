@@ -1,0 +1,146 @@
+//! The session file, and the text that `cardrun` prints for it.
+
+use std::fmt::Write;
+
+use crate::card::{Access, Card, Geometry, Lent};
+use crate::cover::{self, Break};
+use crate::mutants::on;
+
+const LONGEST: usize = 32_768;
+const MOST_SECTORS: u64 = 32;
+
+/// A sound record.
+pub enum Record {
+    Opening([u16; 4]),
+    Access(Access),
+}
+
+/// Everything `cardrun` prints for a file.
+pub fn play(file: &[u8]) -> String {
+    let mut text = String::from("n op answer value\n");
+    if file.len() > LONGEST {
+        bad(if on(47) { file.len() } else { LONGEST }, Break::TooLong, &mut text);
+    } else {
+        run(file, &mut text);
+    }
+    text
+}
+
+fn run(file: &[u8], text: &mut String) {
+    let fields = match record(file, true) {
+        Ok((Record::Opening(fields), _)) => fields,
+        Ok(_) => return,
+        Err(why) => return bad(0, why, text),
+    };
+    let g = Geometry::new(fields[0], fields[1], fields[2]);
+    let n = if g.sectors() > MOST_SECTORS { 0 } else { g.sectors() as usize };
+    let (mut store, mut marks) = (vec![0; 512 * n], vec![0; n]);
+    let mut lent = Lent { store: &mut store, marks: &mut marks, tuples: &[0xFF; 256] };
+    cover::opening(g, fields[3]);
+    let card = if n == 0 { None } else { Some(Card::open(g, fields[3], &lent)) };
+    match card {
+        Some((answer, card)) if answer.number == 0 => steps(file, card, &mut lent, text),
+        Some((answer, _)) => refused(answer.number, text),
+        None => {
+            cover::refusal(1);
+            refused(1, text)
+        }
+    }
+}
+
+fn refused(number: u8, text: &mut String) {
+    let _ = writeln!(text, "open {number}");
+}
+
+fn bad(place: usize, why: Break, text: &mut String) {
+    cover::broken(why);
+    cover::refusal(17);
+    let _ = writeln!(text, "bad {place}");
+}
+
+/// The records after the opening.
+fn steps(file: &[u8], mut card: Card, lent: &mut Lent, text: &mut String) {
+    let mut place = 12;
+    let mut number = 0u64;
+    while place < file.len() {
+        let (access, length) = match record(&file[place..], false) {
+            Ok((Record::Access(access), length)) => (access, length),
+            Ok((Record::Opening(_), length)) => {
+                place += length;
+                continue;
+            }
+            Err(why) => return bad(if on(48) { place + 2 } else { place }, why, text),
+        };
+        let answer = card.access(lent, &access);
+        if answer.number == 0 || !on(49) {
+            number += 1;
+        }
+        let value = match (answer.number, access.write) {
+            (0, true) => access.value,
+            (0, false) => answer.value,
+            (_, write) => {
+                if write && on(50) {
+                    access.value
+                } else {
+                    0
+                }
+            }
+        };
+        let letter = if access.write { 'W' } else { 'R' };
+        let _ = writeln!(text, "{number} {letter} {} {value:04X}", answer.number);
+        place += length;
+    }
+}
+
+fn word(bytes: &[u8], at: usize) -> u16 {
+    u16::from_le_bytes([bytes[at], bytes[at + 1]])
+}
+
+/// The record that begins here, and its length; or what is broken about it.
+pub fn record(rest: &[u8], first: bool) -> Result<(Record, usize), Break> {
+    if rest.is_empty() {
+        return Err(Break::Empty);
+    }
+    if rest.len() < 4 {
+        return Err(Break::HeadCut);
+    }
+    let (length, kind) = (word(rest, 0) as usize, word(rest, 2));
+    let right = match kind {
+        1 => 12,
+        2 => 10,
+        3 => 8,
+        _ => return Err(Break::Kind),
+    };
+    match (first, kind) {
+        (true, 2 | 3) => return Err(Break::OpeningMissing),
+        (false, 1) if !on(51) => return Err(Break::SecondOpening),
+        _ => {}
+    }
+    if length != right {
+        return Err(Break::length(kind));
+    }
+    if rest.len() < length {
+        return Err(Break::cut(kind));
+    }
+    let body = &rest[4..length];
+    let record = match kind {
+        1 => Record::Opening([word(body, 0), word(body, 2), word(body, 4), word(body, 6)]),
+        _ => Record::Access(access(body, kind == 2)?),
+    };
+    Ok((record, length))
+}
+
+fn access(body: &[u8], write: bool) -> Result<Access, Break> {
+    let (space, width, address) = (body[0], body[1], word(body, 2));
+    let value = if write { word(body, 4) } else { 0 };
+    if space > 3 {
+        return Err(Break::space(write));
+    }
+    if !(1..=2).contains(&width) {
+        return Err(Break::width(write));
+    }
+    if width == 1 && value > 255 && !on(52) {
+        return Err(Break::ByteValue);
+    }
+    Ok(Access { space, width, write, address, value })
+}

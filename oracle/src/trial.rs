@@ -1,0 +1,275 @@
+//! Plays a trial input (TRIAL.md): what no session file shows.
+
+use std::fmt::Write;
+
+use crate::card::{Access, Answer, Card, Geometry, Half, Lent, Phase};
+use crate::tuples::{self, Entry};
+
+pub const STORE: usize = 524_288;
+pub const MARKS: usize = 1_024;
+pub const TUPLES: usize = 512;
+pub const BODIES: usize = 1_024;
+pub const LIST: usize = 256;
+
+pub struct Bench {
+    card: Card,
+    store: Vec<u8>,
+    marks: Vec<u8>,
+    tuples: Vec<u8>,
+    bodies: Vec<u8>,
+    list: Vec<Entry>,
+    lent: Lengths,
+    text: String,
+}
+
+#[derive(Default)]
+struct Lengths {
+    store: usize,
+    marks: usize,
+    tuples: usize,
+    bodies: usize,
+    list: usize,
+}
+
+/// The text for a trial input.
+pub fn play(input: &[u8]) -> String {
+    let mut bench = Bench {
+        card: Card::zero(),
+        store: vec![0; STORE],
+        marks: vec![0; MARKS],
+        tuples: vec![0xFF; TUPLES],
+        bodies: vec![0; BODIES],
+        list: vec![Entry::default(); LIST],
+        lent: Lengths::default(),
+        text: String::new(),
+    };
+    for record in input.chunks_exact(16) {
+        bench.step(record);
+    }
+    bench.show();
+    bench.text
+}
+
+pub fn words(record: &[u8]) -> [u16; 8] {
+    std::array::from_fn(|i| u16::from_le_bytes([record[2 * i], record[2 * i + 1]]))
+}
+
+impl Bench {
+    fn step(&mut self, record: &[u8]) {
+        let w = words(record);
+        let (place, bytes) = (w[1] as usize, &record[6..6 + w[2].min(8) as usize]);
+        match w[0] {
+            1 => self.open(&w),
+            2 => put(&mut self.marks, place, w[2] as u8),
+            3 => self.accesses(&w),
+            4 => set_field(&mut self.card, w[1], w[2]),
+            5 => self.fill(&w),
+            6 => self.read_chain(),
+            7 => self.write_list(),
+            8 => self.lend(&w),
+            9 => put_all(&mut self.tuples, place, bytes),
+            10 => put_all(&mut self.bodies, place, bytes),
+            11 => put(&mut self.list, place, Entry { code: w[2] as u8, start: w[3], length: w[4] }),
+            12 => self.show(),
+            _ => {}
+        }
+    }
+
+    fn lend(&mut self, w: &[u16; 8]) {
+        let store = w[2] as usize | (w[3] as usize) << 16;
+        self.lent = Lengths {
+            store: store.min(STORE),
+            marks: (w[1] as usize).min(MARKS),
+            tuples: (w[4] as usize).min(TUPLES),
+            bodies: (w[5] as usize).min(BODIES),
+            list: (w[6] as usize).min(LIST),
+        };
+    }
+
+    fn open(&mut self, w: &[u16; 8]) {
+        let lent = Lent {
+            store: &mut self.store[..self.lent.store],
+            marks: &mut self.marks[..self.lent.marks],
+            tuples: &self.tuples[..self.lent.tuples],
+        };
+        let (answer, card) = Card::open(Geometry::new(w[1], w[2], w[3]), w[4], &lent);
+        self.card = card;
+        self.answer(answer);
+    }
+
+    fn accesses(&mut self, w: &[u16; 8]) {
+        let mut access = Access {
+            space: w[1] as u8,
+            width: w[2] as u8,
+            write: w[3] != 0,
+            address: w[4],
+            value: w[5],
+        };
+        for _ in 0..w[6].clamp(1, 256) {
+            let mut lent = Lent {
+                store: &mut self.store[..self.lent.store],
+                marks: &mut self.marks[..self.lent.marks],
+                tuples: &self.tuples[..self.lent.tuples],
+            };
+            let answer = self.card.access(&mut lent, &access);
+            self.answer(answer);
+            access.value = next_value(&access, w[7]);
+        }
+    }
+
+    fn fill(&mut self, w: &[u16; 8]) {
+        let at = 512 * w[1] as usize;
+        if at < STORE {
+            for (k, byte) in self.store[at..at + 512].iter_mut().enumerate() {
+                *byte = (w[2] as usize + k * w[3] as usize) as u8;
+            }
+        }
+    }
+
+    fn read_chain(&mut self) {
+        let list = &mut self.list[..self.lent.list];
+        let result = tuples::read(&self.tuples[..self.lent.tuples], list);
+        let (number, value) = match result {
+            Ok(count) => (0, count),
+            Err(number) => (number, 0),
+        };
+        let sum = list_sum(list);
+        let _ = writeln!(self.text, "R {number:02X} {value:04X} {sum:04X}");
+        for e in &list[..value as usize] {
+            let _ = writeln!(self.text, "E {:02X} {:04X} {:04X}", e.code, e.start, e.length);
+        }
+    }
+
+    fn write_list(&mut self) {
+        let buffer = &mut self.tuples[..self.lent.tuples];
+        let result =
+            tuples::write(&self.list[..self.lent.list], &self.bodies[..self.lent.bodies], buffer);
+        let number = result.err().unwrap_or(0);
+        let _ = writeln!(self.text, "W {number:02X} 0000 {:04X}", sum(buffer));
+        hex_line('T', buffer, &mut self.text);
+    }
+
+    fn show(&mut self) {
+        let _ = writeln!(
+            self.text,
+            "S {:04X} {:04X} {:04X} {:04X}",
+            sum(&self.store[..self.lent.store]),
+            sum(&self.card.buffer),
+            sum(&self.tuples[..self.lent.tuples]),
+            list_sum(&self.list[..self.lent.list]),
+        );
+        hex_line('M', &self.marks[..self.lent.marks], &mut self.text);
+    }
+
+    /// The A line.
+    fn answer(&mut self, a: Answer) {
+        let k = &self.card;
+        let text = &mut self.text;
+        let _ = write!(text, "A {:02X} {:04X} {}", a.number, a.value, a.line as u8);
+        let control = (k.hold as u8) << 2 | (k.mask as u8) << 1;
+        let registers = [
+            k.status,
+            k.error,
+            k.count,
+            k.sector,
+            k.cyl_low,
+            k.cyl_high,
+            k.head,
+            k.option(),
+            control,
+            k.code,
+        ];
+        for byte in registers {
+            let _ = write!(text, " {byte:02X}");
+        }
+        let now = k.current;
+        let _ = write!(text, " {} {:04X} {:02X} {:02X}", k.mark as u8, now.c, now.h, now.s);
+        let (phase, half) = (k.phase as u8, k.half as u8);
+        let _ = writeln!(text, " {phase} {half} {:04X} {:04X}", k.words, k.left);
+    }
+}
+
+pub fn next_value(a: &Access, step: u16) -> u16 {
+    let next = a.value.wrapping_add(step);
+    if a.width == 2 {
+        next
+    } else {
+        next % 256
+    }
+}
+
+fn put<T>(row: &mut [T], place: usize, value: T) {
+    if let Some(cell) = row.get_mut(place) {
+        *cell = value;
+    }
+}
+
+fn put_all(row: &mut [u8], place: usize, bytes: &[u8]) {
+    for (k, &byte) in bytes.iter().enumerate() {
+        put(row, place + k, byte);
+    }
+}
+
+/// Sets one field of a card value (kind 4).
+pub fn set_field(k: &mut Card, field: u16, value: u16) {
+    let byte = value as u8;
+    let bit = value & 1 == 1;
+    match field {
+        1 => k.default.c = value,
+        2 => k.default.h = byte as u16,
+        3 => k.default.s = byte as u16,
+        4 => k.current.c = value,
+        5 => k.current.h = byte as u16,
+        6 => k.current.s = byte as u16,
+        7 => k.setting = byte & 0x7F,
+        8 => k.sreset = bit,
+        9 => k.hold = bit,
+        10 => k.mask = bit,
+        11 => k.mark = bit,
+        12 => k.status = byte,
+        13 => k.error = byte,
+        14 => k.count = byte,
+        15 => k.sector = byte,
+        16 => k.cyl_low = byte,
+        17 => k.cyl_high = byte,
+        18 => k.head = byte & 0x5F,
+        19 => k.code = byte,
+        20..=22 if k.phase != Phase::Idle => set_transfer_field(k, field, value),
+        _ => {}
+    }
+}
+
+fn set_transfer_field(k: &mut Card, field: u16, value: u16) {
+    match (field, value) {
+        (20, 0) => k.half = Half::Nothing,
+        (20, 1) => k.half = Half::Low,
+        (20, 2) => k.half = Half::High,
+        (21, _) => k.words = value,
+        (22, _) if k.sectors => k.left = value,
+        _ => {}
+    }
+}
+
+fn sum_of(bytes: impl Iterator<Item = u8>) -> u32 {
+    bytes.fold(0, |sum, b| (31 * sum + b as u32 + 1) % 65_521)
+}
+
+fn sum(bytes: &[u8]) -> u32 {
+    sum_of(bytes.iter().copied())
+}
+
+fn list_sum(list: &[Entry]) -> u32 {
+    let five = |e: &Entry| {
+        let ([s0, s1], [l0, l1]) = (e.start.to_le_bytes(), e.length.to_le_bytes());
+        [e.code, s0, s1, l0, l1]
+    };
+    sum_of(list.iter().flat_map(five))
+}
+
+fn hex_line(letter: char, bytes: &[u8], text: &mut String) {
+    let _ = write!(text, "{letter} ");
+    for byte in bytes {
+        let _ = write!(text, "{byte:02X}");
+    }
+    text.push('\n');
+}
