@@ -1,0 +1,137 @@
+-- Laws of a tuple chain.
+--     skip          the chain of bytes of which the first k are a body is the chain of what comes after them
+--     chain-step    the chain at a place, by what `stepAt` finds there; `past`: beyond the buffer it is broken
+--     forward       a step goes forward
+use mathlib.Core.Path.{_≡_, refl, sym, _∙_, ap}
+use mathlib.Core.Bool.{Bool, true, false}
+use mathlib.Core.List.{List, [], _∷_}
+use Prim.Native.Nat.{ℕ, zero, suc, _+_, _<_, _≤_}
+use native.Mathlib.Omega.{arith}
+use native.Mathlib.Nat.{add-zero}
+use native.Mathlib.Numerals.{add-one}
+use lib.ListN.{length, getD, drop, drop-of-length-le, length-drop}
+use lib.Seq.{drop-cons, drop-drop}
+use lib.Dec.{leb, ltb, eqb}
+use borrow.Author.Tests.{ltb-true, ltb-false, le-leb, lt-leb, leb-true, leb-false}
+use Rattle.ground.specs.Choice.{pick}
+use Rattle.tuples.specs.Chain.{Chain, stop, grow, entry, endOf, stepAt, chainFrom, chainAt}
+use Rattle.tuples.specs.declared.Entry.{Entry}
+use Rattle.tuples.specs.declared.Step.{Step}
+use Rattle.tuples.specs.declared.Step.the-variants.{Tuple, Null, End, Broken}
+
+pub yes-no : {A : Type 0} → true ≡ false → A
+yes-no p = let z : _≡_ {A = ℕ} 0 1 = cc in let n : ⊥ = omega arith in absurd n
+
+pub none : {A : Type 0} (e : Entry) (es : List Entry) → [] ≡ e ∷ es → A
+none e es p = let z : _≡_ {A = ℕ} 0 1 = cc in let n : ⊥ = omega arith in absurd n
+
+pub skip : (k : ℕ) (r : List ℕ) (at : ℕ) → chainFrom k r at ≡ chainFrom 0 (drop k r) (at + k)
+unfolding chainFrom
+skip zero r at = ap (chainFrom 0 r) (sym (add-zero at))
+skip (suc k) [] at = refl
+skip (suc k) (b ∷ r) at = skip k r (at + 1) ∙ ap (chainFrom 0 (drop k r)) (omega arith)
+
+-- the chain after a body of n bytes that starts at a
+pub body : (s : List ℕ) (a n : ℕ) → chainFrom n (drop a s) a ≡ chainAt s (a + n)
+body s a n = skip n (drop a s) a ∙ ap (λ (l : List ℕ). chainFrom 0 l (a + n)) (drop-drop n a s)
+
+-- beyond the buffer the chain is broken
+pub past : (s : List ℕ) (at : ℕ) → length s ≤ at → chainAt s at ≡ stop false
+unfolding chainFrom
+past s at h = ap (λ (l : List ℕ). chainFrom 0 l at) (drop-of-length-le s h)
+
+-- how a chain goes on from what stands at a place
+abbrev pub after : List ℕ → ℕ → Step → Chain
+after s at (Tuple e) = grow e (chainAt s (endOf e))
+after s at Null = chainAt s (at + 1)
+after s at End = stop true
+after s at Broken = stop false
+
+after-pick : (s : List ℕ) (at : ℕ) (t : Bool) (a b : Step) → after s at (pick t a b) ≡ pick t (after s at a) (after s at b)
+after-pick s at true a b = refl
+after-pick s at false a b = refl
+
+pick-same : {A : Type 0} (t : Bool) (a : A) → pick t a a ≡ a
+pick-same true a = refl
+pick-same false a = refl
+
+pick-stop : (t : Bool) → stop t ≡ pick t (stop true) (stop false)
+pick-stop true = refl
+pick-stop false = refl
+
+-- the first two bytes of a part that has them
+two : (s : List ℕ) (at : ℕ) → at + 1 < length s → drop at s ≡ getD s at 0 ∷ (getD s (at + 1) 0 ∷ drop (at + 2) s)
+two s at h =
+    let more : suc (suc at) ≡ at + 2 = omega arith in
+    drop-cons s at 0 (omega arith)
+    ∙ ap (λ (l : List ℕ). getD s at 0 ∷ l) (drop-cons s (suc at) 0 (omega arith) ∙ ap (λ (k : ℕ). getD s k 0 ∷ drop (suc (suc at)) s) (sym (add-one at)) ∙ ap (λ (k : ℕ). getD s (at + 1) 0 ∷ drop k s) more)
+
+-- a body fits where its end does
+fits-by : (s : List ℕ) (a n : ℕ) → a ≤ length s → (t : Bool) → leb (a + n) (length s) ≡ t → leb n (length (drop a s)) ≡ leb (a + n) (length s)
+fits-by s a n h true e = let f : n ≤ length (drop a s) = omega (arith, length-drop a s, leb-true (a + n) (length s) e) in le-leb _ _ f ∙ sym e
+fits-by s a n h false e = let f : length (drop a s) < n = omega (arith, length-drop a s, leb-false (a + n) (length s) e) in lt-leb _ _ f ∙ sym e
+
+-- what stands at a place within the buffer
+abbrev within : List ℕ → ℕ → Step
+within s at =
+    pick (eqb (getD s at 0) 255) End
+    (pick (eqb (getD s at 0) 0) Null
+    (pick (leb (at + 2 + getD s (at + 1) 0) (length s)) (Tuple (entry (getD s at 0) (at + 2) (getD s (at + 1) 0))) Broken))
+
+-- a place with a byte after it
+inner : (s : List ℕ) (at : ℕ) → at + 1 < length s → chainAt s at ≡ after s at (within s at)
+unfolding chainFrom
+inner s at h =
+    let b = getD s at 0 in
+    let n = getD s (at + 1) 0 in
+    let more : suc (at + 1) ≡ at + 2 = omega arith in
+    ap (λ (l : List ℕ). chainFrom 0 l at) (two s at h)
+    ∙ ap (λ (X : Chain). pick (eqb b 255) (stop true) (pick (eqb b 0) X (pick (leb n (length (drop (at + 2) s))) (grow (entry b (at + 2) n) (chainFrom n (drop (at + 2) s) (at + 2))) (stop false))))
+    (ap (λ (l : List ℕ). chainFrom 0 l (at + 1)) (sym (drop-cons s (at + 1) 0 h ∙ ap (λ (k : ℕ). n ∷ drop k s) more)))
+    ∙ ap (λ (t : Bool). pick (eqb b 255) (stop true) (pick (eqb b 0) (chainAt s (at + 1)) (pick t (grow (entry b (at + 2) n) (chainFrom n (drop (at + 2) s) (at + 2))) (stop false))))
+    (fits-by s (at + 2) n (omega arith) (leb (at + 2 + n) (length s)) refl)
+    ∙ ap (λ (X : Chain). pick (eqb b 255) (stop true) (pick (eqb b 0) (chainAt s (at + 1)) (pick (leb (at + 2 + n) (length s)) (grow (entry b (at + 2) n) X) (stop false)))) (body s (at + 2) n)
+    ∙ simp after-pick
+
+-- the last byte
+last : (s : List ℕ) (at : ℕ) → at < length s → length s ≤ at + 1 → chainAt s at ≡ after s at (within s at)
+unfolding chainFrom
+last s at h m =
+    let b = getD s at 0 in
+    let short : length s < at + 2 + getD s (at + 1) 0 = omega arith in
+    let end : length s ≤ suc at = omega arith in
+    ap (λ (l : List ℕ). chainFrom 0 l at) (drop-cons s at 0 h ∙ ap (λ (l : List ℕ). b ∷ l) (drop-of-length-le s end))
+    ∙ pick-stop (eqb b 255)
+    ∙ simp (after-pick, lt-leb _ _ short, past s (at + 1) m, pick-same)
+
+by-next : (s : List ℕ) (at : ℕ) → at < length s → (t : Bool) → ltb (at + 1) (length s) ≡ t → chainAt s at ≡ after s at (within s at)
+by-next s at h true e = inner s at (ltb-true (at + 1) (length s) e)
+by-next s at h false e = last s at h (ltb-false (at + 1) (length s) e)
+
+by-place : (s : List ℕ) (at : ℕ) (t : Bool) → ltb at (length s) ≡ t → chainAt s at ≡ after s at (stepAt s at)
+by-place s at true e = rw e (by-next s at (ltb-true at (length s) e) (ltb (at + 1) (length s)) refl)
+by-place s at false e = rw e (past s at (ltb-false at (length s) e))
+
+pub chain-step : (s : List ℕ) (at : ℕ) → chainAt s at ≡ after s at (stepAt s at)
+chain-step s at = by-place s at (ltb at (length s)) refl
+
+-- the place that a step leads to
+abbrev pub ahead : Step → ℕ → ℕ
+ahead (Tuple e) d = endOf e
+ahead Null d = d
+ahead End d = d
+ahead Broken d = d
+
+ahead-pick : (t : Bool) (a b : Step) (d : ℕ) → ahead (pick t a b) d ≡ pick t (ahead a d) (ahead b d)
+ahead-pick true a b d = refl
+ahead-pick false a b d = refl
+
+less-pick : (at : ℕ) (t : Bool) (a b : ℕ) → at < a → at < b → at < pick t a b
+less-pick at true a b p q = p
+less-pick at false a b p q = q
+
+pub forward : (s : List ℕ) (at : ℕ) → at < ahead (stepAt s at) (at + 1)
+forward s at =
+    let one : at < at + 1 = omega arith in
+    let more : at < at + 2 + getD s (at + 1) 0 = omega arith in
+    simp ahead-pick (less-pick at (ltb at (length s)) _ _ (less-pick at (eqb (getD s at 0) 255) _ _ one (less-pick at (eqb (getD s at 0) 0) _ _ one (less-pick at (leb (at + 2 + getD s (at + 1) 0) (length s)) _ _ more one))) one)

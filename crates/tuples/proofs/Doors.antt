@@ -1,0 +1,127 @@
+-- What the two functions with plain parameters hand out, by what the reader and the writer promise.
+--     held-place, handed-held     after reading, a place holds the chain's entry of its number, or what the list held
+--     made-is           the first places of an array that one entry was stored in are the list to be written
+--     back-refused, back-written      a refused reading is the answer, and else the writing of the entries read
+use mathlib.Core.Path.{_≡_, refl, sym, _∙_, ap}
+use mathlib.Core.Bool.{Bool, true, false}
+use mathlib.Core.List.{List, [], _∷_, _++_}
+use Prim.Native.Nat.{ℕ, zero, suc, _+_, _-_, _<_, _≤_}
+use native.Mathlib.Omega.{arith}
+use lib.ListN.{length, getD, take, drop, set, replicate, length-replicate}
+use lib.Seq.{take-at, take-suc-set}
+use lib.Dec.{ltb, leb, eqb}
+use borrow.Author.Tests.{ltb-false, ne-eqb}
+use Rattle.ground.specs.Choice.{pick}
+use Rattle.answers.specs.Answers.{outcomeValue}
+use Rattle.answers.specs.declared.Outcome.{Outcome}
+use Rattle.answers.specs.declared.Outcome.the-variants.{Accepted, Refused}
+use Rattle.tuples.specs.Chain.{noEntry, chainAt}
+use Rattle.tuples.specs.Read.{readOutcome, readList, filled, unlessRefused, refused, handed, heldAfter, atMost}
+use Rattle.tuples.specs.Write.{made, lastPlace, Writes, WritesBack, writeOutcome, backOutcome, filledUp, tupleBytes}
+use Rattle.tuples.specs.declared.Entry.{Entry}
+use Rattle.tuples.proofs.Chains.{yes-no}
+use Rattle.tuples.proofs.Filling.{all}
+use Rattle.tuples.proofs.Bounds.{bounds}
+use Rattle.tuples.proofs.Rows.{drop-rep}
+
+-- ---- what a place holds after reading
+beyond-rep : {A : Type 0} (m j : ℕ) (x : A) → getD (replicate m x) j x ≡ x
+beyond-rep zero j x = refl
+beyond-rep (suc m) zero x = refl
+beyond-rep (suc m) (suc j) x = beyond-rep m j x
+
+take-rep : {A : Type 0} (j m : ℕ) (x : A) → j ≤ m → take j (replicate m x) ≡ replicate j x
+take-rep zero m x h = refl
+take-rep (suc j) zero x h = let z : ⊥ = omega arith in absurd z
+take-rep (suc j) (suc m) x h = ap (λ l. x ∷ l) (take-rep j m x (omega arith))
+
+-- what stands after the entries is as good as nothing
+getD-rep : {A : Type 0} (es : List A) (m j : ℕ) (x : A) → getD (es ++ replicate m x) j x ≡ getD es j x
+getD-rep [] m j x = beyond-rep m j x
+getD-rep (e ∷ es) m zero x = refl
+getD-rep (e ∷ es) m (suc j) x = getD-rep es m j x
+
+beyond : {A : Type 0} (es : List A) (j : ℕ) (x : A) → length es ≤ j → getD es j x ≡ x
+beyond [] j x h = refl
+beyond (e ∷ es) zero x h = let z : ⊥ = omega arith in absurd z
+beyond (e ∷ es) (suc j) x h = beyond es j x (omega arith)
+
+-- a place of the list is the chain's entry of its number, or what the list held
+by-answer : (s : List ℕ) (m j : ℕ) (x : Entry) (o : Outcome) → readOutcome s m ≡ o → getD (unlessRefused o (filled (all s) (replicate m x)) (replicate m x)) j x ≡ getD (unlessRefused o (all s) []) j x
+by-answer s m j x (Accepted n) e =
+    ap (λ (l : List Entry). getD (all s ++ l) j x) (drop-rep (length (all s)) m x) ∙ getD-rep (all s) (m - length (all s)) j x
+by-answer s m j x (Refused y) e = beyond-rep m j x
+
+place-holds : (s : List ℕ) (m j : ℕ) (x : Entry) → getD (readList s (replicate m x)) j x ≡ getD (unlessRefused (readOutcome s m) (all s) []) j x
+place-holds s m j x =
+    ap (λ (k : ℕ). getD (unlessRefused (readOutcome s k) (filled (all s) (replicate m x)) (replicate m x)) j x) (length-replicate m x) ∙ by-answer s m j x (readOutcome s m) refl
+
+few : (s : List ℕ) (m : ℕ) (x : Entry) (o : Outcome) → readOutcome s m ≡ o → length (unlessRefused o (all s) []) ≤ 127
+few s m x (Accepted n) e = bounds s (replicate m x) .few n (ap (readOutcome s) (length-replicate m x) ∙ e) .1
+few s m x (Refused y) e = omega arith
+
+by-number : (es : List Entry) (i : ℕ) (x : Entry) → length es ≤ 127 → (t : Bool) → ltb i 255 ≡ t → getD es (pick t i 255) x ≡ getD es i x
+by-number es i x h true e = refl
+by-number es i x h false e =
+    let far : length es ≤ i = omega (arith, ltb-false i 255 e) in
+    let near : length es ≤ 255 = omega arith in
+    beyond es 255 x near ∙ sym (beyond es i x far)
+
+-- in an array of 256, of which the first m places were lent, all numbers from 255 on name the last place
+held-place : (s : List ℕ) (m i : ℕ) (x : Entry) → getD (readList s (replicate m x) ++ replicate (256 - m) x) (atMost i 255) x ≡ getD (readList s (replicate m x)) i x
+held-place s m i x =
+    getD-rep (readList s (replicate m x)) (256 - m) (atMost i 255) x
+    ∙ place-holds s m (atMost i 255) x
+    ∙ by-number (unlessRefused (readOutcome s m) (all s) []) i x (few s m x (readOutcome s m) refl) (ltb i 255) refl
+    ∙ sym (place-holds s m i x)
+
+-- an array of 256 places of x, of which the first m were lent
+module _ (s : List ℕ) (places i m p : ℕ) (x : Entry) (ls zs : List Entry) (em : m ≡ atMost places 256) (most : m ≤ 256) (all-x : ls ≡ replicate 256 x) where
+  pub lent : take m ls ≡ replicate m x
+  lent = ap (take m) all-x ∙ take-rep m 256 x most
+
+  pub held-outcome : (r : Outcome) → r ≡ readOutcome s (length (take m ls)) → r ≡ readOutcome s (atMost places 256)
+  held-outcome r e = e ∙ ap (λ (l : List Entry). readOutcome s (length l)) lent ∙ ap (readOutcome s) (length-replicate m x ∙ em)
+
+  pub held-entry : p ≡ atMost i 255 → zs ≡ readList s (take m ls) → getD (zs ++ drop m ls) p x ≡ heldAfter s places x i .entry
+  held-entry ep e =
+      ap (λ (j : ℕ). getD (zs ++ drop m ls) j x) ep
+      ∙ ap (λ (l : List Entry). getD (l ++ drop m ls) (atMost i 255) x) (e ∙ ap (readList s) lent)
+      ∙ ap (λ (l : List Entry). getD (readList s (replicate m x) ++ l) (atMost i 255) x) (ap (drop m) all-x ∙ drop-rep m 256 x)
+      ∙ held-place s m i x
+      ∙ ap (λ (j : ℕ). getD (readList s (replicate j x)) i x) em
+
+pub handed-held : (s : List ℕ) (i : ℕ) → heldAfter s 127 noEntry i ≡ handed s i
+handed-held s i = λ j. record { outcome = readOutcome s 127; entry = place-holds s 127 i noEntry j }
+
+-- ---- a list that was made
+pub made-is : (n : ℕ) (e f : Entry) → n ≤ 256 → take n (set (replicate 256 e) (lastPlace n) f) ≡ made n e f
+unfolding made
+made-is zero e f h = refl
+made-is (suc j) e f h =
+    let less : j < length (replicate 256 e) = omega (arith, length-replicate 256 e) in
+    let one : suc j - 1 ≡ j = omega arith in
+    let back : lastPlace (suc j) ≡ j = ap (λ (t : Bool). pick t 255 (suc j - 1)) (ne-eqb (suc j) 0 (λ q. let z : ⊥ = omega (arith, q) in z)) ∙ one in
+    let room : j ≤ 256 = omega arith in
+    ap (λ (k : ℕ). take (suc j) (set (replicate 256 e) k f)) back ∙ take-suc-set (replicate 256 e) j f less ∙ ap (λ (l : List Entry). l ++ (f ∷ [])) (take-rep j 256 e room)
+
+-- ---- written back
+pub back-refused : (s os : List ℕ) (o : Outcome) → o ≡ readOutcome s 127 → refused o ≡ true → WritesBack s os o os
+back-refused s os (Accepted n) e h = yes-no (sym h)
+back-refused s os (Refused x) e h =
+    let w = writeOutcome s (all s) (length os) in
+    let b : Refused x ≡ backOutcome s (length os) = ap (λ (o : Outcome). unlessRefused o w o) e in
+    (b, ap (λ (o : Outcome). unlessRefused o (filledUp (tupleBytes s (all s))) os) b)
+
+pub read-all : (s : List ℕ) (ls : List Entry) (o : Outcome) → length ls ≡ 127 → o ≡ readOutcome s 127 → refused o ≡ false → take (outcomeValue o) (readList s ls) ≡ all s
+read-all s ls (Refused x) l e h = yes-no h
+read-all s ls (Accepted n) l e h =
+    let f = e ∙ ap (readOutcome s) (sym l) in
+    ap (λ (o : Outcome). take n (unlessRefused o (filled (all s) ls) ls)) (sym f)
+    ∙ take-at (all s) (drop (length (all s)) ls) n (sym (bounds s ls .few n (sym f) .0))
+
+pub back-written : (s os : List ℕ) (o r : Outcome) (z : List ℕ) → o ≡ readOutcome s 127 → refused o ≡ false → Writes s (all s) os r z → WritesBack s os r z
+back-written s os (Refused x) r z e h w = yes-no h
+back-written s os (Accepted n) r z e h w =
+    let b : writeOutcome s (all s) (length os) ≡ backOutcome s (length os) = ap (λ (o : Outcome). unlessRefused o (writeOutcome s (all s) (length os)) o) e in
+    (w .0 ∙ b, w .1 ∙ ap (λ (o : Outcome). unlessRefused o (filledUp (tupleBytes s (all s))) os) b)

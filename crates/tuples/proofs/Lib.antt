@@ -1,0 +1,12 @@
+pub mod Chains
+pub mod Counts
+pub mod Goods
+pub mod Filling
+pub mod Bounds
+pub mod Rows
+pub mod Pages
+pub mod Doors
+pub mod RoundTrip
+pub mod Theorems
+pub mod LinkFF
+pub mod OnlyOne

@@ -1,0 +1,163 @@
+-- The page that is made tuple by tuple is what the writer is to write.
+--     pages-bad, ends     the marks and the bytes of a page that all tuples of a list were added to
+--     puts-writes         so what is done with that page is the writer's promise
+use mathlib.Core.Path.{_≡_, refl, sym, _∙_, ap}
+use mathlib.Core.Bool.{Bool, true, false}
+use mathlib.Core.List.{List, [], _∷_, _++_, append-assoc, append-nil}
+use Prim.Native.Nat.{ℕ, _+_, _≤_, _<_}
+use native.Mathlib.Omega.{arith}
+use lib.ListN.{length, drop, set, length-append}
+use lib.Seq.{paste}
+use lib.Dec.{leb, eqb}
+use borrow.Author.Tests.{leb-true, leb-false}
+use Rattle.ground.specs.Choice.{pick}
+use Rattle.answers.specs.declared.Outcome.{Outcome}
+use Rattle.answers.specs.declared.Outcome.the-variants.{Accepted, Refused}
+use Rattle.answers.specs.declared.Refusal.the-variants.{TupleBufferLength, TuplesTooLong, TupleBad}
+use Rattle.tuples.specs.Read.{unlessRefused}
+use Rattle.tuples.specs.Page.{page, newPage, withTuple, addedTo, pages, putOutcome, Puts}
+use Rattle.tuples.specs.Write.{good, bodyOf, tupleBytes, allGood, filledUp, writeOutcome, Writes}
+use Rattle.tuples.specs.declared.Entry.{Entry}
+use Rattle.tuples.specs.declared.Page.{Page}
+use Rattle.tuples.proofs.Rows.{put}
+use Rattle.tuples.proofs.Goods.{Good, is-good, both-of, long-body}
+
+-- ---- the marks
+bad-pick : (t u : Bool) (b : Bool) → pick u (pick t b true) true ≡ pick (pick t u false) b true
+bad-pick true u b = refl
+bad-pick false true b = refl
+bad-pick false false b = refl
+
+field-bad : (t u : Bool) (a b c : Page) → pick t (pick u a b) c .bad ≡ pick t (pick u (a .bad) (b .bad)) (c .bad)
+field-bad true true a b c = refl
+field-bad true false a b c = refl
+field-bad false u a b c = refl
+
+pick-same : (t : Bool) (b : Bool) → pick t b b ≡ b
+pick-same true b = refl
+pick-same false b = refl
+
+pages-bad : (bs : List ℕ) (w : Page) (es : List Entry) → pages bs w es .bad ≡ pick (allGood bs es) (w .bad) true
+unfolding pages addedTo allGood
+pages-bad bs w [] = refl
+pages-bad bs w (e ∷ es) =
+    pages-bad bs (addedTo bs w e) es
+    ∙ ap (λ (b : Bool). pick (allGood bs es) b true) (field-bad (good bs e) (leb (w .at + 2 + e .length) 255) (withTuple bs w e) (page (w .bytes) (w .at) (w .bad) true) (page (w .bytes) (w .at) true (w .over)) ∙ ap (λ (b : Bool). pick (good bs e) b true) (pick-same (leb (w .at + 2 + e .length) 255) (w .bad)))
+    ∙ bad-pick (good bs e) (allGood bs es) (w .bad)
+
+over-of : (t u : Bool) (a b c : Page) → a .over ≡ true → b .over ≡ true → c .over ≡ true → pick t (pick u a b) c .over ≡ true
+over-of true true a b c p q r = p
+over-of true false a b c p q r = q
+over-of false u a b c p q r = r
+
+pages-over : (bs : List ℕ) (w : Page) (es : List Entry) → w .over ≡ true → pages bs w es .over ≡ true
+unfolding pages addedTo
+pages-over bs w [] h = h
+pages-over bs w (e ∷ es) h = pages-over bs (addedTo bs w e) es (over-of (good bs e) (leb (w .at + 2 + e .length) 255) _ _ _ h refl h)
+
+-- ---- a page that holds the bytes p
+record Laid (w : Page) (p : List ℕ) : Type 0 where
+  its-at : w .at ≡ length p
+  its-bytes : w .bytes ≡ filledUp p
+  its-over : w .over ≡ false
+  small : length p ≤ 255
+
+record Ends (bs : List ℕ) (w : Page) (es : List Entry) (p : List ℕ) : Type 0 where
+  fit-over : length p + length (tupleBytes bs es) ≤ 255 → pages bs w es .over ≡ false
+  fit-bytes : length p + length (tupleBytes bs es) ≤ 255 → pages bs w es .bytes ≡ filledUp (p ++ tupleBytes bs es)
+  full : 255 < length p + length (tupleBytes bs es) → pages bs w es .over ≡ true
+
+tuple-of : List ℕ → Entry → List ℕ
+tuple-of bs e = e .code ∷ (e .length ∷ bodyOf bs e)
+
+long-tuple : (bs : List ℕ) (e : Entry) → Good bs e → length (tuple-of bs e) ≡ 2 + e .length
+unfolding tuple-of
+long-tuple bs e g = omega (arith, long-body bs e g)
+
+laid-tuple : (bs : List ℕ) (w : Page) (e : Entry) (p : List ℕ) → Good bs e → Laid w p → w .at + 2 + e .length ≤ 255 → Laid (withTuple bs w e) (p ++ tuple-of bs e)
+unfolding tuple-of
+laid-tuple bs w e p g l fits =
+    let lt : length (p ++ tuple-of bs e) ≡ length p + 2 + e .length = length-append p (tuple-of bs e) ∙ (let z : length p + length (tuple-of bs e) ≡ length p + 2 + e .length = omega (arith, long-tuple bs e g) in z) in
+    record {
+      its-at = omega (arith, lt, l .its-at);
+      its-bytes = ap (λ (b : List ℕ). paste (set (set b (w .at) (e .code)) (w .at + 1) (e .length)) (w .at + 2) (drop (e .start) bs) (e .length)) (l .its-bytes)
+          ∙ ap (λ (j : ℕ). paste (set (set (filledUp p) j (e .code)) (j + 1) (e .length)) (j + 2) (drop (e .start) bs) (e .length)) (l .its-at)
+          ∙ put p (drop (e .start) bs) (e .code) (e .length) (long-body bs e g) (omega (arith, l .its-at));
+      its-over = l .its-over;
+      small = omega (arith, lt, l .its-at);
+    }
+
+-- the tuples go on one after the other
+module _ (bs : List ℕ) where
+  by-room : (w : Page) (e : Entry) (es : List Entry) (p : List ℕ) (t : Bool) → leb (w .at + 2 + e .length) 255 ≡ t → Good bs e → good bs e ≡ true → Laid w p
+      → ((w′ : Page) → Laid w′ (p ++ tuple-of bs e) → Ends bs w′ es (p ++ tuple-of bs e)) → Ends bs w (e ∷ es) p
+  unfolding pages addedTo tupleBytes tuple-of
+  by-room w e es p true h g gt l ih =
+      let r = ih (withTuple bs w e) (laid-tuple bs w e p g l (leb-true (w .at + 2 + e .length) 255 h)) in
+      let is : addedTo bs w e ≡ withTuple bs w e = simp (gt, h) in
+      let row : (p ++ tuple-of bs e) ++ tupleBytes bs es ≡ p ++ tupleBytes bs (e ∷ es) = append-assoc p (tuple-of bs e) (tupleBytes bs es) in
+      let size : length (p ++ tuple-of bs e) + length (tupleBytes bs es) ≡ length p + length (tupleBytes bs (e ∷ es)) =
+      sym (length-append (p ++ tuple-of bs e) (tupleBytes bs es)) ∙ ap length row ∙ length-append p (tupleBytes bs (e ∷ es)) in
+      record {
+        fit-over = λ f. ap (λ (v : Page). pages bs v es .over) is ∙ r .fit-over (omega (arith, size));
+        fit-bytes = λ f. ap (λ (v : Page). pages bs v es .bytes) is ∙ r .fit-bytes (omega (arith, size)) ∙ ap filledUp row;
+        full = λ f. ap (λ (v : Page). pages bs v es .over) is ∙ r .full (omega (arith, size));
+      }
+  by-room w e es p false h g gt l ih =
+      let is : addedTo bs w e ≡ page (w .bytes) (w .at) (w .bad) true = simp (gt, h) in
+      let wide : 255 < length p + length (tupleBytes bs (e ∷ es)) = omega (arith, leb-false (w .at + 2 + e .length) 255 h, l .its-at, long-body bs e g, length-append (bodyOf bs e) (tupleBytes bs es)) in
+      record {
+        fit-over = λ f. let z : ⊥ = omega arith in absurd z;
+        fit-bytes = λ f. let z : ⊥ = omega arith in absurd z;
+        full = λ f. ap (λ (v : Page). pages bs v es .over) is ∙ pages-over bs (page (w .bytes) (w .at) (w .bad) true) es refl;
+      }
+
+  ends : (es : List Entry) (w : Page) (p : List ℕ) → allGood bs es ≡ true → Laid w p → Ends bs w es p
+  unfolding pages tupleBytes allGood
+  ends [] w p h l = record { fit-over = λ f. l .its-over; fit-bytes = λ f. l .its-bytes ∙ ap filledUp (sym (append-nil p)); full = λ f. let z : ⊥ = omega (arith, l .small) in absurd z }
+  ends (e ∷ es) w p h l =
+      let gs = both-of (good bs e) (allGood bs es) h in
+      by-room w e es p (leb (w .at + 2 + e .length) 255) refl (is-good bs e (gs .0)) (gs .0) l (λ w′ l′. ends es w′ (p ++ tuple-of bs e) (gs .1) l′)
+
+  started : Laid newPage []
+  started = record { its-at = refl; its-bytes = refl; its-over = refl; small = omega arith }
+
+  -- ---- "Writing checks 5, 15, 14."
+  module _ (es : List Entry) (out : List ℕ) where
+    abbrev made : Page
+    made = pages bs newPage es
+
+    -- two answers are the same, and so are the bytes that they leave
+    abbrev Same : Outcome → Outcome → Type 0
+    Same o p = (o ≡ p) × (unlessRefused o (made .bytes) out ≡ unlessRefused p (filledUp (tupleBytes bs es)) out)
+
+    by-size : allGood bs es ≡ true → (t : Bool) → leb (length (tupleBytes bs es)) 255 ≡ t → Same (pick (made .over) (Refused TuplesTooLong) (Accepted 0)) (pick t (Accepted 0) (Refused TuplesTooLong))
+    by-size g true h =
+        let r = ends es newPage [] g started in
+        let f : 0 + length (tupleBytes bs es) ≤ 255 = omega (arith, leb-true (length (tupleBytes bs es)) 255 h) in
+        (simp (r .fit-over f), simp (r .fit-over f) (r .fit-bytes f))
+    by-size g false h =
+        let r = ends es newPage [] g started in
+        let f : 255 < 0 + length (tupleBytes bs es) = omega (arith, leb-false (length (tupleBytes bs es)) 255 h) in
+        (simp (r .full f), simp (r .full f))
+
+    by-good : (t : Bool) → allGood bs es ≡ t
+        → Same (pick (made .bad) (Refused TupleBad) (pick (made .over) (Refused TuplesTooLong) (Accepted 0))) (pick t (pick (leb (length (tupleBytes bs es)) 255) (Accepted 0) (Refused TuplesTooLong)) (Refused TupleBad))
+    by-good true g =
+        let b : made .bad ≡ false = pages-bad bs newPage es ∙ ap (λ (t : Bool). pick t false true) g in
+        let r = by-size g (leb (length (tupleBytes bs es)) 255) refl in
+        (simp b (r .0), simp b (r .1))
+    by-good false g =
+        let b : made .bad ≡ true = pages-bad bs newPage es ∙ ap (λ (t : Bool). pick t false true) g in
+        (simp b, simp b)
+
+    by-length : (t : Bool) (o p : Outcome) → Same o p → Same (pick t o (Refused TupleBufferLength)) (pick t p (Refused TupleBufferLength))
+    by-length true o p s = s
+    by-length false o p s = (refl, refl)
+
+    -- what is done with the page is the writer's promise
+    pub puts-writes : (r : Outcome) (z : List ℕ) → Puts made out r z → Writes bs es out r z
+    unfolding putOutcome writeOutcome
+    puts-writes r z p =
+        let s = by-length (eqb (length out) 256) _ _ (by-good (allGood bs es) refl) in
+        (p .0 ∙ s .0, p .1 ∙ s .1)

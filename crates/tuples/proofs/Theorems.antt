@@ -1,0 +1,134 @@
+-- Theorems about the reader and the writer, stated over their promises `Reads`, `Writes` and `WritesBack`.
+--     written-reads-back      "Reading back gives the same codes and bodies, starts apart"
+--     read-then-written-back  "writing back equals the chain up to its end mark, null (00H) tuples dropped"; `door-written-back`: the function that does both does it
+--     most-read               at most 127 entries in 256 bytes
+use mathlib.Core.Path.{_≡_, refl, sym, _∙_, ap, subst}
+use mathlib.Core.Bool.{Bool, true, false}
+use mathlib.Core.List.{List, [], _∷_, _++_, map}
+use Prim.Native.Nat.{ℕ, suc, _-_, _≤_}
+use native.Mathlib.Omega.{arith}
+use lib.ListN.{length, take, drop, replicate, length-append, length-replicate}
+use lib.Seq.{take-at}
+use lib.Dec.{leb, eqb}
+use borrow.Author.Tests.{leb-true, eqb-true, le-leb, eq-eqb}
+use Rattle.ground.specs.Choice.{pick}
+use Rattle.answers.specs.declared.Outcome.{Outcome}
+use Rattle.answers.specs.declared.Outcome.the-variants.{Accepted, Refused}
+use Rattle.answers.specs.declared.Refusal.the-variants.{TupleBufferLength, ListTooShort, ChainBroken, TuplesTooLong, TupleBad}
+use Rattle.tuples.specs.Chain.{Chain, chainFrom, chainAt}
+use Rattle.tuples.specs.Read.{readOutcome, counted, filled, unlessRefused, refused, Reads}
+use Rattle.tuples.specs.Write.{bodyOf, tupleBytes, allGood, filledUp, writeOutcome, backOutcome, nullsDropped, Writes, WritesBack}
+use Rattle.tuples.specs.declared.Entry.{Entry}
+use Rattle.tuples.proofs.Filling.{all}
+use Rattle.tuples.proofs.Bounds.{not-both, most-entries}
+use Rattle.tuples.proofs.Doors.{back-written}
+use Rattle.tuples.proofs.RoundTrip.{laid, whole, reads-back, codes, same-codes, same-count, same-bodies, back}
+
+-- ---- what an accepted answer says
+pub record ReadWell (s : List ℕ) (places n : ℕ) : Type 0 where
+  pub sized : length s ≡ 256
+  pub enough : 127 ≤ places
+  pub ended : chainAt s 0 .ended ≡ true
+  pub count : n ≡ length (all s)
+
+read-by : (s : List ℕ) (places n : ℕ) (t u v : Bool) → eqb (length s) 256 ≡ t → leb 127 places ≡ u → chainAt s 0 .ended ≡ v
+    → pick t (pick u (pick v (Accepted (length (all s))) (Refused ChainBroken)) (Refused ListTooShort)) (Refused TupleBufferLength) ≡ Accepted n → ReadWell s places n
+read-by s places n true true true a b c p = let q : length (all s) ≡ n = cc in record { sized = eqb-true (length s) 256 a; enough = leb-true 127 places b; ended = c; count = sym q }
+read-by s places n true true false a b c p = not-both ChainBroken n p
+read-by s places n true false v a b c p = not-both ListTooShort n p
+read-by s places n false u v a b c p = not-both TupleBufferLength n p
+
+pub read-well : (s : List ℕ) (places n : ℕ) → readOutcome s places ≡ Accepted n → ReadWell s places n
+unfolding readOutcome
+read-well s places n p = read-by s places n (eqb (length s) 256) (leb 127 places) (chainAt s 0 .ended) refl refl refl p
+
+pub record WrittenWell (bs : List ℕ) (es : List Entry) : Type 0 where
+  pub all-good : allGood bs es ≡ true
+  pub short : length (tupleBytes bs es) ≤ 255
+
+write-by : (bs : List ℕ) (es : List Entry) (v : ℕ) (t g l : Bool) → allGood bs es ≡ g → leb (length (tupleBytes bs es)) 255 ≡ l
+    → pick t (pick g (pick l (Accepted 0) (Refused TuplesTooLong)) (Refused TupleBad)) (Refused TupleBufferLength) ≡ Accepted v → WrittenWell bs es
+write-by bs es v true true true a b p = record { all-good = a; short = leb-true (length (tupleBytes bs es)) 255 b }
+write-by bs es v true true false a b p = not-both TuplesTooLong v p
+write-by bs es v true false l a b p = not-both TupleBad v p
+write-by bs es v false g l a b p = not-both TupleBufferLength v p
+
+pub written-well : (bs : List ℕ) (es : List Entry) (places v : ℕ) → writeOutcome bs es places ≡ Accepted v → WrittenWell bs es
+unfolding writeOutcome
+written-well bs es places v p = write-by bs es v (eqb places 256) (allGood bs es) (leb (length (tupleBytes bs es)) 255) refl refl p
+
+-- the list that an accepted reading leaves starts with the chain's entries
+pub entries-first : (s : List ℕ) (ls : List Entry) (r : Outcome) (zs : List Entry) → Reads s ls r zs → (n : ℕ) → r ≡ Accepted n → take n zs ≡ all s
+entries-first s ls r zs e n p =
+    let q = sym (e .0) ∙ p in
+    ap (take n) (e .1 ∙ ap (λ (o : Outcome). unlessRefused o (filled (all s) ls) ls) q) ∙ take-at (all s) (drop (length (all s)) ls) n (sym (read-well s (length ls) n q .count))
+
+-- ---- what was written reads back
+written-chain : (bs : List ℕ) (es : List Entry) → allGood bs es ≡ true → length (tupleBytes bs es) ≤ 255 → chainAt (filledUp (tupleBytes bs es)) 0 ≡ whole (laid 0 es)
+written-chain bs es g h =
+    let m : ℕ = 255 - length (tupleBytes bs es) in
+    let e : 256 - length (tupleBytes bs es) ≡ suc m = omega arith in
+    ap (λ (j : ℕ). chainFrom 0 (tupleBytes bs es ++ replicate j 255) 0) e ∙ reads-back bs es m 0 g
+
+written-length : (ts : List ℕ) → length ts ≤ 255 → length (filledUp ts) ≡ 256
+written-length ts h =
+    let R : List ℕ = replicate (256 - length ts) 255 in
+    let l : length R ≡ 256 - length ts = length-replicate (256 - length ts) 255 in
+    omega (arith, length-append ts R, l)
+
+abbrev SameTuples : List ℕ → List Entry → List ℕ → Outcome → List Entry → Type 0
+SameTuples bs es z r zs = (r ≡ Accepted (length es)) × ((codes (take (length es) zs) ≡ codes es) × (map (bodyOf z) (take (length es) zs) ≡ map (bodyOf bs) es))
+
+of-page : (bs : List ℕ) (es ls : List Entry) (r : Outcome) (zs : List Entry) → allGood bs es ≡ true → length (tupleBytes bs es) ≤ 255 → 127 ≤ length ls
+    → Reads (filledUp (tupleBytes bs es)) ls r zs → SameTuples bs es (filledUp (tupleBytes bs es)) r zs
+unfolding readOutcome
+of-page bs es ls r zs g h l e =
+    let z = filledUp (tupleBytes bs es) in
+    let c = written-chain bs es g h in
+    let many : length (all z) ≡ length es = ap (λ (k : Chain). length (k .entries)) c ∙ same-count es 0 in
+    let ok : r ≡ Accepted (length es) = e .0 ∙ simp (eq-eqb _ _ (written-length (tupleBytes bs es) h), le-leb _ _ l, ap (λ (k : Chain). k .ended) c, many) in
+    let those : take (length es) zs ≡ laid 0 es = entries-first z ls r zs e (length es) ok ∙ ap (λ (k : Chain). k .entries) c in
+    (ok, (ap codes those ∙ same-codes es 0, ap (map (bodyOf z)) those ∙ same-bodies bs es [] (replicate (256 - length (tupleBytes bs es)) 255) 0 refl g))
+
+pub written-reads-back : (bs : List ℕ) (es : List Entry) (out : List ℕ) (r : Outcome) (z : List ℕ) → Writes bs es out r z → (v : ℕ) → r ≡ Accepted v
+    → (ls : List Entry) (r′ : Outcome) (zs : List Entry) → 127 ≤ length ls → Reads z ls r′ zs → SameTuples bs es z r′ zs
+written-reads-back bs es out r z w v p ls r′ zs l e =
+    let q = sym (w .0) ∙ p in
+    let ok = written-well bs es (length out) v q in
+    let is : z ≡ filledUp (tupleBytes bs es) = w .1 ∙ ap (λ (o : Outcome). unlessRefused o (filledUp (tupleBytes bs es)) out) q in
+    subst (λ (y : List ℕ). Reads y ls r′ zs → SameTuples bs es y r′ zs) (sym is) (of-page bs es ls r′ zs (ok .all-good) (ok .short) l) e
+
+-- ---- what was read is written back
+abbrev Plain : List ℕ → Outcome → List ℕ → Type 0
+Plain s r z = (r ≡ Accepted 0) × (z ≡ filledUp (nullsDropped 0 s))
+
+of-chain : (s out : List ℕ) (r : Outcome) (z : List ℕ) → length s ≡ 256 → chainAt s 0 .ended ≡ true → length out ≡ 256 → Writes s (all s) out r z → Plain s r z
+unfolding writeOutcome
+of-chain s out r z ls c lo w =
+    let b = back s 0 s 0 refl c in
+    let short : length (tupleBytes s (all s)) ≤ 255 = omega (arith, b .short) in
+    let o : writeOutcome s (all s) (length out) ≡ Accepted 0 = simp (eq-eqb _ _ lo, b .all-good, le-leb _ _ short) in
+    (w .0 ∙ o, w .1 ∙ ap (λ (o : Outcome). unlessRefused o (filledUp (tupleBytes s (all s))) out) o ∙ ap filledUp (sym (b .same)))
+
+pub read-then-written-back : (s : List ℕ) (ls : List Entry) (r : Outcome) (zs : List Entry) → Reads s ls r zs → (n : ℕ) → r ≡ Accepted n
+    → (out : List ℕ) (r′ : Outcome) (z : List ℕ) → length out ≡ 256 → Writes s (take n zs) out r′ z → Plain s r′ z
+read-then-written-back s ls r zs e n p out r′ z lo w =
+    let ok = read-well s (length ls) n (sym (e .0) ∙ p) in
+    of-chain s out r′ z (ok .sized) (ok .ended) lo (subst (λ (es : List Entry). Writes s es out r′ z) (entries-first s ls r zs e n p) w)
+
+pub door-written-back : (s out : List ℕ) (r : Outcome) (z : List ℕ) → WritesBack s out r z → length s ≡ 256 → chainAt s 0 .ended ≡ true → length out ≡ 256 → Plain s r z
+unfolding readOutcome
+door-written-back s out r z w ls c lo =
+    let o : readOutcome s 127 ≡ Accepted (length (all s)) = simp (eq-eqb _ _ ls, c) in
+    let b : backOutcome s (length out) ≡ writeOutcome s (all s) (length out) = ap (λ (o : Outcome). unlessRefused o (writeOutcome s (all s) (length out)) o) o in
+    of-chain s out r z ls c lo (w .0 ∙ b, w .1 ∙ ap (λ (o : Outcome). unlessRefused o (filledUp (tupleBytes s (all s))) out) b)
+
+-- the function that does both does what the reader and then the writer do
+pub door-does-both : (s : List ℕ) (ls : List Entry) (r : Outcome) (zs : List Entry) → Reads s ls r zs → length ls ≡ 127 → (n : ℕ) → r ≡ Accepted n
+    → (out : List ℕ) (r′ : Outcome) (z : List ℕ) → Writes s (take n zs) out r′ z → WritesBack s out r′ z
+door-does-both s ls r zs e l n p out r′ z w =
+    back-written s out r r′ z (e .0 ∙ ap (readOutcome s) l) (ap refused p) (subst (λ (es : List Entry). Writes s es out r′ z) (entries-first s ls r zs e n p) w)
+
+-- ---- how many there are
+pub most-read : (s : List ℕ) (ls : List Entry) (r : Outcome) (zs : List Entry) → Reads s ls r zs → (n : ℕ) → r ≡ Accepted n → n ≤ 127
+most-read s ls r zs e n p = let ok = read-well s (length ls) n (sym (e .0) ∙ p) in omega (arith, ok .count, most-entries s (ok .sized) (ok .ended))

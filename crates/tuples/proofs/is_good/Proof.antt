@@ -1,0 +1,27 @@
+use borrow.Author.Tests.{ne-eqb}
+use Rattle.ground.proofs.Tests.{tests}
+use borrow.Author.Needs.{needs}
+use Rattle.tuples.proofs.is_good.Statement.{statement}
+use Rattle.tuples.proofs.is_good.Tie as tie
+use Rattle.tuples.proofs.is_good.Reads as reads
+use Rattle.tuples.proofs.is_good.Lts as lts
+use Rattle.tuples.proofs.Entry.end.Reads as end-reads
+
+-- src/lib.rt:194:9
+returns : tie.Need-returns
+returns c = search tests
+
+-- src/lib.rt:197:9
+returns-2 : tie.Need-returns-2
+returns-2 c = search tests
+
+-- src/lib.rt:199:5
+end-requires : tie.Need-end-requires
+end-requires c κs = search needs
+
+-- src/lib.rt:190:1
+returns-3 : tie.Need-returns-3
+returns-3 c = simp (ne-eqb _ _ (c .before .before .before .if1 .left), ne-eqb _ _ (c .before .if2 .left), c .end .ensures)
+
+pub is-good-spec : {M : Type 1} → statement M
+is-good-spec = tie.close (tie.spec returns returns-2 end-requires returns-3)

@@ -1,0 +1,93 @@
+use Rattle.tuples.specs.Page.{putOutcome}
+use Rattle.ground.proofs.Lists.{copy-more, copy-all}
+use lib.ListN.{length, take}
+use native.Mathlib.Omega.{arith}
+use borrow.Author.Tests.{eq-eqb, ne-eqb}
+use borrow.Author.Needs.{needs}
+use Prim.Native.Nat.{_≤_, _-_}
+use mathlib.Core.Path.{_≡_}
+use Rattle.tuples.proofs.put_page.Statement.{statement}
+use Rattle.tuples.proofs.put_page.Tie as tie
+use Rattle.tuples.proofs.put_page.Reads as reads
+use Rattle.tuples.proofs.put_page.Lts as lts
+
+abbrev Inv-loop : tie.InvT-loop
+Inv-loop out₀ bad over bytes j₀ out j = (j ≤ 256) × (length out ≡ 256) × (take j out ≡ take j bytes)
+
+abbrev μ-loop : tie.MeasureT-loop
+μ-loop out₀ bad over bytes j₀ out j = 256 - j
+
+-- src/lib.rt:249:9
+returns : tie.Need-returns Inv-loop μ-loop
+unfolding putOutcome
+returns c = (simp (ne-eqb _ _ (c .if1 .taken)), simp (ne-eqb _ _ (c .if1 .taken)))
+
+-- src/lib.rt:253:9
+returns-2 : tie.Need-returns-2 Inv-loop μ-loop
+unfolding putOutcome
+returns-2 c = (simp (eq-eqb _ _ (c .before .if1 .left), c .if2 .taken), simp (eq-eqb _ _ (c .before .if1 .left), c .if2 .taken))
+
+-- src/lib.rt:257:9
+returns-3 : tie.Need-returns-3 Inv-loop μ-loop
+unfolding putOutcome
+returns-3 c = (simp (eq-eqb _ _ (c .before .before .if1 .left), c .before .if2 .left, c .if3 .taken), simp (eq-eqb _ _ (c .before .before .if1 .left), c .before .if2 .left, c .if3 .taken))
+
+-- src/lib.rt:261:5
+loop-holds : tie.Need-loop-holds Inv-loop μ-loop
+loop-holds c = (search needs, search needs, search needs)
+
+-- src/lib.rt:262:18
+array-read-out : tie.Need-array-read-out Inv-loop μ-loop
+array-read-out c = search needs
+
+-- src/lib.rt:262:9
+slice-write-out : tie.Need-slice-write-out Inv-loop μ-loop
+slice-write-out c = search needs
+
+-- src/lib.rt:263:9
+add-j : tie.Need-add-j Inv-loop μ-loop
+add-j c = search needs
+
+-- src/lib.rt:261:5
+loop-less : tie.Need-loop-less Inv-loop μ-loop
+loop-less c = search needs
+
+-- src/lib.rt:261:5
+loop-again : tie.Need-loop-again Inv-loop μ-loop
+loop-again c =
+    let l = c .before .loop in
+    let long : length (c .before .before .before .before .before .before .args .w .bytes) ≡ 256 = search needs in
+    (search needs, search needs, copy-more (l .j) (c .before .before .before .before .before .before .args .w .bytes) (l .out) (omega arith) (omega arith) (l .inv .2))
+
+-- src/lib.rt:245:1
+same-length : tie.Need-same-length Inv-loop μ-loop
+same-length c = search needs
+
+-- src/lib.rt:245:1
+returns-4 : tie.Need-returns-4 Inv-loop μ-loop
+unfolding putOutcome
+returns-4 c =
+    let l = c .before .loop in
+    let w = c .before .before .before .before .before .before .args .w in
+    let long : length (w .bytes) ≡ 256 = search needs in
+    let e : l .j ≡ 256 = omega arith in
+    let all : l .out ≡ w .bytes = copy-all 256 (w .bytes) (l .out) (omega arith) (omega arith) (rw e at (l .inv .2)) in
+    (simp (eq-eqb _ _ (c .before .before .before .before .before .if1 .left), c .before .before .before .before .if2 .left, c .before .before .before .if3 .left), simp (eq-eqb _ _ (c .before .before .before .before .before .if1 .left), c .before .before .before .before .if2 .left, c .before .before .before .if3 .left) all)
+
+pub put-page-spec : {M : Type 1} → statement M
+put-page-spec =
+    tie.close
+    (tie.spec
+    Inv-loop
+    μ-loop
+    returns
+    returns-2
+    returns-3
+    loop-holds
+    array-read-out
+    slice-write-out
+    add-j
+    loop-less
+    loop-again
+    same-length
+    returns-4)

@@ -1,0 +1,4 @@
+pub mod Chain
+pub mod Read
+pub mod Write
+pub mod Page

@@ -1,0 +1,48 @@
+-- The page that the writer makes tuple by tuple, and what is done with it.
+use Prim.Native.Nat.{ℕ, _+_}
+use mathlib.Core.Path.{_≡_}
+use mathlib.Core.Bool.{Bool, true, false}
+use mathlib.Core.List.{List, [], _∷_}
+use lib.ListN.{length, drop, set, replicate}
+use lib.Seq.{paste}
+use lib.Dec.{leb, eqb}
+use Rattle.ground.specs.Choice.{pick}
+use Rattle.answers.specs.declared.Outcome.{Outcome}
+use Rattle.answers.specs.declared.Outcome.the-variants.{Accepted, Refused}
+use Rattle.answers.specs.declared.Refusal.the-variants.{TupleBufferLength, TuplesTooLong, TupleBad}
+use Rattle.tuples.specs.declared.Entry.{Entry}
+use Rattle.tuples.specs.declared.Page.{Page}
+use Rattle.tuples.specs.Read.{unlessRefused}
+use Rattle.tuples.specs.Write.{good}
+
+abbrev pub page : List ℕ → ℕ → Bool → Bool → Page
+page bs at bad over = record { bytes = bs; at = at; bad = bad; over = over }
+
+abbrev pub newPage : Page
+newPage = page (replicate 256 255) 0 false false
+
+-- the page with a tuple's code, link and body at its place
+abbrev pub withTuple : List ℕ → Page → Entry → Page
+withTuple bs w e =
+    page (paste (set (set (w .bytes) (w .at) (e .code)) (w .at + 1) (e .length)) (w .at + 2) (drop (e .start) bs) (e .length)) (w .at + 2 + e .length) (w .bad) (w .over)
+
+-- one tuple more; a bad one, or one that goes beyond 255 bytes, is only marked, so the marks speak of the whole list
+unfoldable pub addedTo : List ℕ → Page → Entry → Page
+addedTo bs w e =
+    pick (good bs e)
+    (pick (leb (w .at + 2 + e .length) 255) (withTuple bs w e) (page (w .bytes) (w .at) (w .bad) true))
+    (page (w .bytes) (w .at) true (w .over))
+
+unfoldable pub pages : List ℕ → Page → List Entry → Page
+pages bs w [] = w
+pages bs w (e ∷ es) = pages bs (addedTo bs w e) es
+
+-- "Writing checks 5, 15, 14."
+unfoldable pub putOutcome : Page → ℕ → Outcome
+putOutcome w n = pick (eqb n 256) (pick (w .bad) (Refused TupleBad) (pick (w .over) (Refused TuplesTooLong) (Accepted 0))) (Refused TupleBufferLength)
+
+abbrev pub putList : Page → List ℕ → List ℕ
+putList w out = unlessRefused (putOutcome w (length out)) (w .bytes) out
+
+abbrev pub Puts : Page → List ℕ → Outcome → List ℕ → Type 0
+Puts w out r z = (r ≡ putOutcome w (length out)) × (z ≡ putList w out)

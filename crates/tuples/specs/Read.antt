@@ -1,0 +1,63 @@
+-- 01, "Tuples" and "Answers": what the reader answers and what it leaves in the lent list.
+use Prim.Native.Nat.{ℕ}
+use mathlib.Core.Path.{_≡_}
+use mathlib.Core.Bool.{Bool, true, false}
+use mathlib.Core.List.{List, [], _++_}
+use lib.ListN.{length, getD, drop, replicate}
+use lib.Dec.{leb, ltb, eqb}
+use Rattle.ground.specs.Choice.{pick}
+use Rattle.answers.specs.Answers.{outcomeValue}
+use Rattle.answers.specs.declared.Outcome.{Outcome}
+use Rattle.answers.specs.declared.Outcome.the-variants.{Accepted, Refused}
+use Rattle.answers.specs.declared.Refusal.the-variants.{TupleBufferLength, ListTooShort, ChainBroken}
+use Rattle.tuples.specs.declared.Checked.{Checked}
+use Rattle.tuples.specs.declared.Entry.{Entry}
+use Rattle.tuples.specs.declared.Handed.{Handed}
+use Rattle.tuples.specs.Chain.{Chain, chainAt, noEntry}
+
+-- "The reader's value is its entry count"; "tuple chain runs past byte 255 or has no end mark"
+abbrev pub counted : Chain → Outcome
+counted c = pick (c .ended) (Accepted (length (c .entries))) (Refused ChainBroken)
+
+-- "Tuple reading checks 5, 16, 13."
+unfoldable pub readOutcome : List ℕ → ℕ → Outcome
+readOutcome s places = pick (eqb (length s) 256) (pick (leb 127 places) (counted (chainAt s 0)) (Refused ListTooShort)) (Refused TupleBufferLength)
+
+-- "Every refusal … changes nothing"
+abbrev pub unlessRefused {ℓ} : {A : Type ℓ} → Outcome → A → A → A
+unlessRefused (Accepted value) new old = new
+unlessRefused (Refused refusal) new old = old
+
+abbrev pub refused : Outcome → Bool
+refused (Accepted value) = false
+refused (Refused refusal) = true
+
+-- "fills a lent list of entries …. Places after the last entry keep what they held."
+abbrev pub filled : List Entry → List Entry → List Entry
+filled es l = es ++ drop (length es) l
+
+abbrev pub readList : List ℕ → List Entry → List Entry
+readList s l = unlessRefused (readOutcome s (length l)) (filled (chainAt s 0 .entries) l) l
+
+-- the reader's promise: its answer, and the list that it leaves
+abbrev pub Reads : List ℕ → List Entry → Outcome → List Entry → Type 0
+Reads s l r z = (r ≡ readOutcome s (length l)) × (z ≡ readList s l)
+
+-- an answer, with the number of entries that it speaks of
+abbrev pub checked : Outcome → Checked
+checked o = record { outcome = o; count = outcomeValue o }
+
+-- the entry that the reader hands out by its number; past the last there is none
+abbrev pub entryAt : List ℕ → ℕ → Entry
+entryAt s i = getD (unlessRefused (readOutcome s 127) (chainAt s 0 .entries) []) i noEntry
+
+abbrev pub handed : List ℕ → ℕ → Handed
+handed s i = record { outcome = readOutcome s 127; entry = entryAt s i }
+
+abbrev pub atMost : ℕ → ℕ → ℕ
+atMost n most = pick (ltb n most) n most
+
+-- what the place of a number holds after a list of so many places, at most 256, that all held one entry was read into
+abbrev pub heldAfter : List ℕ → ℕ → Entry → ℕ → Handed
+heldAfter s places held i =
+    record { outcome = readOutcome s (atMost places 256); entry = getD (readList s (replicate (atMost places 256) held)) i held }
