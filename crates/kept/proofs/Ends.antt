@@ -25,7 +25,8 @@ use Rattle.commands.specs.declared.Way.the-variants.{In, Out}
 use Rattle.commands.specs.Ends.{endStatus, ended}
 use Rattle.commands.specs.Before.{testedOf, markTested}
 use Rattle.commands.specs.Steps.{begun, passed}
-use Rattle.kept.proofs.Registers.{Stands, Runs, Small, Left, load-same}
+use Rattle.kept.specs.Sound.{Small}
+use Rattle.kept.proofs.Registers.{Stands, Runs, Left, load-same}
 use Rattle.kept.proofs.Resets.{at-rest}
 use Rattle.kept.proofs.Lent.{Lent}
 

@@ -78,13 +78,12 @@ refused-opens q store marks =
 opening : (g : Geometry) (mode : ℕ) (store marks tuples : List ℕ) → Opens store marks (opened g mode store marks tuples)
 unfolding opened
 opening g mode store marks tuples =
-    let P : Answer → Type 0 = λ x. Opens store marks x in
-    pick-elim P (fits g) _ _
-    (λ f. pick-elim P (leb mode 1) _ _
-    (λ m. pick-elim P (eqb (length store) (512 * totalOf g)) _ _
-    (λ s. pick-elim P (eqb (length marks) (totalOf g)) _ _
-    (λ k. pick-elim P (eqb (length tuples) 256) _ _
-    (λ t. pick-elim P (marksFit marks) _ _
+    pick-elim (Opens store marks) (fits g) _ _
+    (λ f. pick-elim (Opens store marks) (leb mode 1) _ _
+    (λ m. pick-elim (Opens store marks) (eqb (length store) (512 * totalOf g)) _ _
+    (λ s. pick-elim (Opens store marks) (eqb (length marks) (totalOf g)) _ _
+    (λ k. pick-elim (Opens store marks) (eqb (length tuples) 256) _ _
+    (λ t. pick-elim (Opens store marks) (marksFit marks) _ _
     (λ w. (λ e. powered-sound g (modeOf mode) store marks f (eqb-true _ _ s) (eqb-true _ _ k), λ r e. absurd (true≢false (ap isAccepted e))))
     (λ w. refused-opens _ store marks))
     (λ t. refused-opens _ store marks))

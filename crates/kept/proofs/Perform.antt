@@ -15,7 +15,8 @@ use Rattle.commands.specs.Steps.{withState}
 use Rattle.card.specs.declared.Meaning.{Meaning}
 use Rattle.card.specs.declared.Meaning.the-variants.{TupleByte, ReadOption, WriteOption, ReadRegister, WriteRegister, ReadData, WriteData}
 use Rattle.card.specs.Perform.{optionWritten, plainWritten, registerWritten, perform}
-use Rattle.kept.proofs.Registers.{Left, Small, read-left, plain-left}
+use Rattle.kept.specs.Sound.{Small}
+use Rattle.kept.proofs.Registers.{Left, read-left, plain-left}
 use Rattle.kept.proofs.Resets.{Turned, Option, option-turned, control-turned, buffer-turned}
 use Rattle.kept.proofs.Ends.{Next}
 use Rattle.kept.proofs.Data.{data-read, data-written}

@@ -19,6 +19,7 @@ use Rattle.registers.specs.State.{core, runs, withMark}
 use Rattle.registers.specs.WellMade.{wellMade, totalIn, locatedIn, indexFits, sresetFits, statusFits, heldIn, holdFits, wordsFit, sectorsFit, loadFits, runFits}
 use Rattle.registers.specs.Values.{afterRead, registerSet}
 use Rattle.card.specs.Perform.{plainCore}
+use Rattle.kept.specs.Sound.{Small}
 
 -- the conditions that no phase enters, of a card that was made as d
 abbrev pub Stands : Made → State → Type 0
@@ -36,9 +37,6 @@ Runs p s =
     × (holdFits p (heldIn s) ≡ true)
     × (wordsFit p ≡ true)
     × (runFits p s ≡ true)
-
-abbrev pub Small : State → Type 0
-Small s = s .registers .count < 256
 
 -- what a change leaves
 abbrev pub Left : Made → Core → Type 0

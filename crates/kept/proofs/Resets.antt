@@ -19,7 +19,8 @@ use Rattle.registers.specs.State.{core, withOption, withControl, sresetIn}
 use Rattle.registers.specs.WellMade.{indexFits, sresetFits, atRest, statusFits, heldIn, holdFits, wordsFit, runFits}
 use Rattle.registers.specs.PowerOn.{powerOn}
 use Rattle.registers.specs.Resets.{turnOf, restStatus, entered, optionTurned, bufferTurned, optionTurn, controlTurned, controlWritten, bitTwo, bitOne}
-use Rattle.kept.proofs.Registers.{Stands, Runs, Small, run-same}
+use Rattle.kept.specs.Sound.{Small}
+use Rattle.kept.proofs.Registers.{Stands, Runs, run-same}
 
 -- what a reset leaves, of a Sector Count that may be any
 abbrev pub Turned : Made → State → Core → Type 0

@@ -2,6 +2,7 @@
 use Prim.Native.Nat.{ℕ, _*_}
 use mathlib.Core.Bool.{Bool, true, false}
 use mathlib.Core.Path.{_≡_, refl, sym, ap, _∙_, subst}
+use mathlib.Core.List.{List, [], _∷_}
 use lib.ListN.{length}
 use borrow.Author.Tests.{eq-eqb}
 use Rattle.geometry.specs.Limits.{totalOf}
@@ -12,7 +13,7 @@ use Rattle.registers.specs.State.{Machine, coreOf, lineOf}
 use Rattle.registers.specs.WellMade.{wellMade, totalIn}
 use Rattle.card.specs.Access.{Access, decided, meaning}
 use Rattle.card.specs.Perform.{perform}
-use Rattle.card.specs.Step.{Stepped, step, worked}
+use Rattle.card.specs.Step.{Stepped, step, worked, play}
 use Rattle.kept.specs.Sound.{Bytes, Sound}
 use Rattle.kept.proofs.Registers.{Left, apart, together}
 use Rattle.kept.proofs.Lent.{Lent}
@@ -96,3 +97,12 @@ worked-is-step m a e s k t = rw (e, eq-eqb _ _ s, eq-eqb _ _ k, eq-eqb _ _ t)
 
 pub sound-worked : (m : Machine) (a : Access) → Sound m → length (a .tuples) ≡ 256 → worked m a ≡ step m a
 sound-worked m a s t = worked-is-step m a (s .made) (s .store) (s .marks) t
+
+pub worked-made : (m : Machine) (a : Access) → Sound m → worked m a .next .state .made ≡ m .state .made
+worked-made m a s = work-next m a (s .bytes) (s .made) .0 .0 .0
+
+-- … after any list of accesses.
+pub sound-played : (l : List Access) (m : Machine) → Sound m → Sound (play m l .last)
+unfolding play
+sound-played [] m s = s
+sound-played (a ∷ l) m s = sound-played l (step m a .next) (sound-stepped m a s)

@@ -22,7 +22,8 @@ use Rattle.commands.specs.declared.Command.{Command}
 use Rattle.commands.specs.declared.Command.the-variants.{Read, Write, Verify, Erase, Identify, ReadBuffer, WriteBuffer, SetGeometry, Diagnose, Recalibrate, Seek, Sense, Other}
 use Rattle.commands.specs.Steps.{withState}
 use Rattle.commands.specs.Table.{commandOf, started, countOf, factsOf, geometrySet, diagnosed, soughtEnd, obeyed, quiet, commandGiven}
-use Rattle.kept.proofs.Registers.{Small, Left}
+use Rattle.kept.specs.Sound.{Small}
+use Rattle.kept.proofs.Registers.{Left}
 use Rattle.kept.proofs.Ends.{Fine, Ready, Agrees, Next, ended-left, begun-left}
 use Rattle.kept.proofs.Steps.{read-next, ask-left}
 use Rattle.kept.proofs.Runs.{verify-left, erase-left}

@@ -3,12 +3,16 @@ use Prim.Native.Nat.{_*_, _<_}
 use mathlib.Core.Bool.{true}
 use mathlib.Core.Path.{_≡_}
 use lib.ListN.{length}
+use Rattle.registers.specs.declared.State.{State}
 use Rattle.registers.specs.State.{Machine}
 use Rattle.registers.specs.WellMade.{wellMade, totalIn}
 
 -- the Sector Count register has eight bits; no other bound is needed
+abbrev pub Small : State → Type 0
+Small s = s .registers .count < 256
+
 abbrev pub Bytes : Machine → Type 0
-Bytes m = m .state .registers .count < 256
+Bytes m = Small (m .state)
 
 -- "Store length is 512·N, marks length N"; the buffer has 512 bytes
 pub record Sound (m : Machine) : Type 0 where
