@@ -9,9 +9,9 @@ use Rattle.registers.specs.declared.Core.{Core}
 use Rattle.registers.specs.State.{Machine, machine, core, coreOf, withCore, runs}
 use Rattle.registers.specs.Resets.{optionTurn, optionTurned, bufferTurned, controlWritten}
 use Rattle.registers.specs.Values.{valueRead, afterRead, registerSet}
-use Rattle.commands.specs.declared.Done.{Done}
+use Rattle.port.specs.declared.Done.{Done}
 use Rattle.commands.specs.Steps.{withState}
-use Rattle.commands.specs.Data.{Effect, effect, accepted, dataRead, dataWritten}
+use Rattle.port.specs.Data.{Effect, effect, accepted, dataRead, dataWritten}
 use Rattle.commands.specs.Table.{commandGiven}
 use Rattle.card.specs.declared.Meaning.{Meaning}
 use Rattle.card.specs.declared.Meaning.the-variants.{TupleByte, ReadOption, WriteOption, ReadRegister, WriteRegister, ReadData, WriteData}

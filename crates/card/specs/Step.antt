@@ -4,8 +4,8 @@ use mathlib.Core.Bool.{Bool}
 use mathlib.Core.List.{List, [], _∷_}
 use Rattle.answers.specs.declared.Outcome.{Outcome}
 use Rattle.registers.specs.State.{Machine, machine, lineOf}
-use Rattle.commands.specs.declared.Done.{Done}
-use Rattle.commands.specs.Data.{Effect}
+use Rattle.port.specs.declared.Done.{Done}
+use Rattle.port.specs.Data.{Effect}
 use Rattle.card.specs.declared.Reply.{Reply}
 use Rattle.card.specs.Access.{Access, decided, meaning}
 use Rattle.card.specs.Perform.{perform}

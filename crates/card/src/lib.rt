@@ -1,18 +1,18 @@
 // The card: opening, access and the two resets, by value; what an access means, and what it does.
 use answers::Outcome;
 use answers::Refusal;
-use commands::Done;
 use maps::Port;
 use maps::Register;
 use maps::Standing;
 use maps::Target;
+use port::Done;
 use registers::Core;
 use registers::Phase;
 use registers::State;
 ghost use mathlib.Core.Path.{_≡_};
 ghost use mathlib.Core.Bool.{Bool};
 ghost use Rattle.registers.specs.State.{machine};
-ghost use Rattle.commands.specs.Data.{effect};
+ghost use Rattle.port.specs.Data.{effect};
 ghost use Rattle.card.specs.Access.{Access, targeted, standing, heldAway, decided};
 ghost use Rattle.card.specs.Perform.{plainCore, registerWritten, registerRead, perform};
 ghost use Rattle.card.specs.Step.{replyOf, replied, worked, step};
@@ -225,9 +225,9 @@ fn perform(
             let next = write_register(core, register, value, buffer, store, marks);
             accepted(next, 0)
         }
-        Meaning::ReadData(port) => commands::data::read_data(core, port, buffer, store, marks),
+        Meaning::ReadData(port) => port::read_data(core, port, buffer, store, marks),
         Meaning::WriteData(port, value) => {
-            commands::data::write_data(core, port, value, buffer, store, marks)
+            port::write_data(core, port, value, buffer, store, marks)
         }
     }
 }

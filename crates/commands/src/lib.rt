@@ -1,6 +1,4 @@
 // The command table, and what moving data does to a running transfer: sectors are read, stored, verified and erased here.
-use answers::Outcome;
-use answers::Refusal;
 use geometry::Located;
 use geometry::Spot;
 use registers::Core;
@@ -16,7 +14,6 @@ ghost use Rattle.commands.specs.Ends.{endStatus, endError, endCode, ende
 ghost use Rattle.commands.specs.Before.{addressTest, readTest, storeTest, storeTested, sectorStored};
 ghost use Rattle.commands.specs.Steps.{idle, markBegun, phaseOf, fresh, begun, passed, readSector, nextRead, loadRead, askSector, nextAsked, loadWritten};
 
-pub mod data;
 pub mod runs;
 pub mod table;
 
@@ -44,20 +41,6 @@ pub enum Way {
     Out,
 }
 
-// What of a word an access moves.
-pub enum Part {
-    Low,
-    High,
-    Both,
-}
-
-// Whether a part may move: it is refused, leaves the word begun, or makes it whole.
-pub enum Take {
-    Refused,
-    First(Part),
-    Last(Part),
-}
-
 // The rows of the command table.
 pub enum Command {
     Read,
@@ -73,12 +56,6 @@ pub enum Command {
     Seek,
     Sense,
     Other,
-}
-
-// An access's outcome, and the card without its buffer after it.
-pub struct Done {
-    pub outcome: Outcome,
-    pub core: Core,
 }
 
 impl End {

@@ -15,13 +15,13 @@ use Rattle.registers.specs.declared.Made.{Made}
 use Rattle.registers.specs.declared.State.{State}
 use Rattle.registers.specs.State.{Machine, coreOf, withBuffer}
 use Rattle.registers.specs.WellMade.{statusFits, heldIn, holdFits, wordsFit, loadFits, runFits}
-use Rattle.commands.specs.declared.Part.{Part}
-use Rattle.commands.specs.declared.Take.{Take}
-use Rattle.commands.specs.Halves.{takeOf, partWritten, halved, nextWord}
+use Rattle.port.specs.declared.Part.{Part}
+use Rattle.port.specs.declared.Take.{Take}
+use Rattle.port.specs.Halves.{takeOf, partWritten, halved, nextWord}
 use Rattle.commands.specs.declared.Way.{Way}
 use Rattle.commands.specs.declared.Way.the-variants.{In, Out}
 use Rattle.commands.specs.Steps.{withState, phaseOf, loadRead, loadWritten}
-use Rattle.commands.specs.Data.{Effect, withPhase, wordRead, takenRead, phaseRead, dataRead, wordWritten, takenWritten, phaseWritten, dataWritten}
+use Rattle.port.specs.Data.{Effect, withPhase, wordRead, takenRead, phaseRead, dataRead, wordWritten, takenWritten, phaseWritten, dataWritten}
 use Rattle.kept.proofs.Registers.{Runs, Left}
 use Rattle.kept.proofs.Lent.{part-length}
 use Rattle.kept.proofs.Ends.{Fine, Ready, Next}

@@ -10,9 +10,9 @@ use borrow.Author.Tests.{ltb-true}
 use Rattle.ground.proofs.Picks.{pick-elim}
 use Rattle.sectors.specs.Sectors.{sectorOf, withSector, bufferRead, Kept, stored}
 use Rattle.registers.specs.State.{Machine}
-use Rattle.commands.specs.declared.Part.{Part}
-use Rattle.commands.specs.declared.Part.the-variants.{Low, High, Both}
-use Rattle.commands.specs.Halves.{partWritten, lowAt, highAt}
+use Rattle.port.specs.declared.Part.{Part}
+use Rattle.port.specs.declared.Part.the-variants.{Low, High, Both}
+use Rattle.port.specs.Halves.{partWritten, lowAt, highAt}
 
 -- what a change leaves of a machine whose buffer has 512 bytes
 abbrev pub Lengths : Machine → Machine → Type 0

@@ -1,7 +1,7 @@
 use mathlib.Core.Path.{_≡_, sym, _∙_, ap}
 use Rattle.card.specs.Perform.{perform, optionWritten}
 use Rattle.registers.specs.State.{Machine}
-use Rattle.commands.specs.Data.{accepted}
+use Rattle.port.specs.Data.{accepted}
 use borrow.Author.Needs.{needs}
 use Rattle.card.proofs.perform.Statement.{statement}
 use Rattle.card.proofs.perform.Tie as tie
@@ -10,8 +10,6 @@ use Rattle.card.proofs.perform.Lts as lts
 use Rattle.card.proofs.accepted.Reads as accepted-reads
 use Rattle.card.proofs.read_register.Reads as read-register-reads
 use Rattle.card.proofs.write_register.Reads as write-register-reads
-use Rattle.commands.proofs.data.read_data.Reads as read-data-reads
-use Rattle.commands.proofs.data.write_data.Reads as write-data-reads
 use Rattle.ground.proofs.wide.Reads as wide-reads
 use Rattle.registers.proofs.Core.write_option.Reads as write-option-reads
 

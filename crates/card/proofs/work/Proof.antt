@@ -1,6 +1,6 @@
 use mathlib.Core.Path.{_≡_, sym, _∙_, ap}
 use Rattle.card.specs.Step.{worked, stepped}
-use Rattle.commands.specs.Data.{Effect}
+use Rattle.port.specs.Data.{Effect}
 use borrow.Author.Needs.{needs}
 use Rattle.card.proofs.work.Statement.{statement}
 use Rattle.card.proofs.work.Tie as tie

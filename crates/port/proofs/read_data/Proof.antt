@@ -1,70 +1,70 @@
-use Rattle.commands.specs.Data.{dataRead}
+use Rattle.port.specs.Data.{dataRead}
 use borrow.Author.Needs.{needs}
-use Rattle.commands.proofs.data.read_data.Statement.{statement}
-use Rattle.commands.proofs.data.read_data.Tie as tie
-use Rattle.commands.proofs.data.read_data.Reads as reads
-use Rattle.commands.proofs.data.read_data.Lts as lts
-use Rattle.commands.proofs.data.absent.Reads as absent-reads
-use Rattle.commands.proofs.data.accepted.Reads as accepted-reads
-use Rattle.commands.proofs.data.held_value.Reads as held-value-reads
-use Rattle.commands.proofs.data.taken_read.Reads as taken-read-reads
+use Rattle.port.proofs.read_data.Statement.{statement}
+use Rattle.port.proofs.read_data.Tie as tie
+use Rattle.port.proofs.read_data.Reads as reads
+use Rattle.port.proofs.read_data.Lts as lts
+use Rattle.port.proofs.absent.Reads as absent-reads
+use Rattle.port.proofs.accepted.Reads as accepted-reads
+use Rattle.port.proofs.held_value.Reads as held-value-reads
+use Rattle.port.proofs.taken_read.Reads as taken-read-reads
 
--- src/data.rt:214:31
+-- src/lib.rt:214:31
 held-value-requires : tie.Need-held-value-requires
 held-value-requires c κs = search needs
 
--- src/data.rt:214:9
+-- src/lib.rt:214:9
 accepted-requires : tie.Need-accepted-requires
 accepted-requires c κs = search needs
 
--- src/data.rt:214:9
+-- src/lib.rt:214:9
 returns : tie.Need-returns
 unfolding dataRead
 returns c = simp (c .before .before .if1 .taken, c .accepted .ensures, c .before .held-value .ensures)
 
--- src/data.rt:218:39
+-- src/lib.rt:218:39
 enum-told : tie.Need-enum-told
 enum-told c = search needs
 
--- src/data.rt:218:39
+-- src/lib.rt:218:39
 absent-requires : tie.Need-absent-requires
 absent-requires c κs = search needs
 
--- src/data.rt:218:24
+-- src/lib.rt:218:24
 accepted-requires-2 : tie.Need-accepted-requires-2
 accepted-requires-2 c κs = search needs
 
--- src/data.rt:219:23
+-- src/lib.rt:219:23
 enum-known-phase : tie.Need-enum-known-phase
 enum-known-phase c = search needs
 
--- src/data.rt:219:29
+-- src/lib.rt:219:29
 taken-read-requires : tie.Need-taken-read-requires
 taken-read-requires c κs = search needs
 
--- src/data.rt:220:45
+-- src/lib.rt:220:45
 enum-told-2 : tie.Need-enum-told-2
 enum-told-2 c = search needs
 
--- src/data.rt:220:45
+-- src/lib.rt:220:45
 absent-requires-2 : tie.Need-absent-requires-2
 absent-requires-2 c κs = search needs
 
--- src/data.rt:220:30
+-- src/lib.rt:220:30
 accepted-requires-3 : tie.Need-accepted-requires-3
 accepted-requires-3 c κs = search needs
 
--- src/data.rt:208:1
+-- src/lib.rt:208:1
 returns-2 : tie.Need-returns-2
 unfolding dataRead
 returns-2 c = simp (c .before .before .before .before .if1 .left, c .before .before .enum-told .given .1, c .accepted2 .ensures, c .before .absent .ensures)
 
--- src/data.rt:208:1
+-- src/lib.rt:208:1
 returns-3 : tie.Need-returns-3
 unfolding dataRead
 returns-3 c = simp (c .before .before .before .before .before .if1 .left, c .before .before .before .phase .given .1) (simp (c .before .before .before .phase .given .1) at (c .taken-read .ensures))
 
--- src/data.rt:208:1
+-- src/lib.rt:208:1
 returns-4 : tie.Need-returns-4
 unfolding dataRead
 returns-4 c = simp (c .before .before .before .before .if1 .left, c .before .before .enum-told2 .given .1, c .accepted3 .ensures, c .before .absent2 .ensures)

@@ -11,10 +11,10 @@ use Rattle.registers.specs.declared.Transfer.{Transfer}
 use Rattle.registers.specs.declared.Phase.{Phase}
 use Rattle.registers.specs.declared.Phase.the-variants.{Idle, DataIn, DataOut}
 use Rattle.registers.specs.State.{Machine, machine, core, withCore, withBuffer}
-use Rattle.commands.specs.declared.Take.{Take}
-use Rattle.commands.specs.declared.Done.{Done}
-use Rattle.commands.specs.Halves.{takeOf, partValue, partWritten, halved, nextWord}
+use Rattle.port.specs.declared.Take.{Take}
+use Rattle.port.specs.declared.Done.{Done}
+use Rattle.port.specs.Halves.{takeOf, partValue, partWritten, halved, nextWord}
 use Rattle.commands.specs.Steps.{withState, loadRead, loadWritten}
 
 -- what an access leaves: its outcome and the machine
 pub record Effect : Type 0 where

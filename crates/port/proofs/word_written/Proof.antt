@@ -1,35 +1,34 @@
 use borrow.Author.Tests.{lt-ltb, le-ltb}
-use Rattle.commands.specs.Data.{wordWritten}
+use Rattle.port.specs.Data.{wordWritten}
 use borrow.Author.Needs.{needs}
-use Rattle.commands.proofs.data.word_written.Statement.{statement}
-use Rattle.commands.proofs.data.word_written.Tie as tie
-use Rattle.commands.proofs.data.word_written.Reads as reads
-use Rattle.commands.proofs.data.word_written.Lts as lts
-use Rattle.commands.proofs.data.next_word.Reads as next-word-reads
-use Rattle.commands.proofs.load_written.Reads as load-written-reads
+use Rattle.port.proofs.word_written.Statement.{statement}
+use Rattle.port.proofs.word_written.Tie as tie
+use Rattle.port.proofs.word_written.Reads as reads
+use Rattle.port.proofs.word_written.Lts as lts
+use Rattle.port.proofs.next_word.Reads as next-word-reads
 
--- src/data.rt:231:13
+-- src/lib.rt:231:13
 next-word-requires : tie.Need-next-word-requires
 next-word-requires c κs = search needs
 
--- src/data.rt:232:9
+-- src/lib.rt:232:9
 returns : tie.Need-returns
 unfolding wordWritten
 returns c = simp (lt-ltb _ _ (c .before .if1 .taken), c .next-word .ensures)
 
--- src/data.rt:238:5
+-- src/lib.rt:238:5
 load-written-requires : tie.Need-load-written-requires
 load-written-requires c κs = search needs
 
--- src/data.rt:226:1
+-- src/lib.rt:226:1
 same-length : tie.Need-same-length
 same-length c = search needs
 
--- src/data.rt:226:1
+-- src/lib.rt:226:1
 same-length-2 : tie.Need-same-length-2
 same-length-2 c = search needs
 
--- src/data.rt:226:1
+-- src/lib.rt:226:1
 returns-2 : tie.Need-returns-2
 unfolding wordWritten
 returns-2 c = simp (le-ltb _ _ (c .before .before .before .before .before .before .before .if1 .left)) (c .before .before .before .before .load-written .ensures)

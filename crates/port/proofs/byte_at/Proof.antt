@@ -1,30 +1,30 @@
 use mathlib.Core.Path.{sym}
 use lib.ListN.{List·getD-eq-default}
 use borrow.Author.Needs.{needs}
-use Rattle.commands.proofs.data.byte_at.Statement.{statement}
-use Rattle.commands.proofs.data.byte_at.Tie as tie
-use Rattle.commands.proofs.data.byte_at.Reads as reads
-use Rattle.commands.proofs.data.byte_at.Lts as lts
+use Rattle.port.proofs.byte_at.Statement.{statement}
+use Rattle.port.proofs.byte_at.Tie as tie
+use Rattle.port.proofs.byte_at.Reads as reads
+use Rattle.port.proofs.byte_at.Lts as lts
 use Rattle.ground.proofs.told.Reads as told-reads
 use Rattle.ground.proofs.wide.Reads as wide-reads
 
--- src/data.rt:47:5
+-- src/lib.rt:47:5
 told-requires : tie.Need-told-requires
 told-requires c κs = search needs
 
--- src/data.rt:49:29
+-- src/lib.rt:49:29
 element-copy-out-wide : tie.Need-element-copy-out-wide
 element-copy-out-wide c = search needs
 
--- src/data.rt:49:9
+-- src/lib.rt:49:9
 wide-requires : tie.Need-wide-requires
 wide-requires c κs = search needs
 
--- src/data.rt:49:9
+-- src/lib.rt:49:9
 returns : tie.Need-returns
 returns c = search needs
 
--- src/data.rt:44:1
+-- src/lib.rt:44:1
 returns-2 : tie.Need-returns-2
 returns-2 c = (sym (List·getD-eq-default (c .before .before .args .buffer .now) 0 (simp (c .before .told .ensures) (c .if1 .left))), search needs)
 

@@ -1,64 +1,64 @@
-use Rattle.commands.specs.Data.{dataWritten}
+use Rattle.port.specs.Data.{dataWritten}
 use borrow.Author.Needs.{needs}
-use Rattle.commands.proofs.data.write_data.Statement.{statement}
-use Rattle.commands.proofs.data.write_data.Tie as tie
-use Rattle.commands.proofs.data.write_data.Reads as reads
-use Rattle.commands.proofs.data.write_data.Lts as lts
-use Rattle.commands.proofs.data.accepted.Reads as accepted-reads
-use Rattle.commands.proofs.data.taken_written.Reads as taken-written-reads
+use Rattle.port.proofs.write_data.Statement.{statement}
+use Rattle.port.proofs.write_data.Tie as tie
+use Rattle.port.proofs.write_data.Reads as reads
+use Rattle.port.proofs.write_data.Lts as lts
+use Rattle.port.proofs.accepted.Reads as accepted-reads
+use Rattle.port.proofs.taken_written.Reads as taken-written-reads
 
--- src/data.rt:290:9
+-- src/lib.rt:290:9
 accepted-requires : tie.Need-accepted-requires
 accepted-requires c κs = search needs
 
--- src/data.rt:290:9
+-- src/lib.rt:290:9
 returns : tie.Need-returns
 unfolding dataWritten
 returns c = simp (c .before .if1 .taken, c .accepted .ensures)
 
--- src/data.rt:294:24
+-- src/lib.rt:294:24
 enum-told : tie.Need-enum-told
 enum-told c = search needs
 
--- src/data.rt:294:24
+-- src/lib.rt:294:24
 accepted-requires-2 : tie.Need-accepted-requires-2
 accepted-requires-2 c κs = search needs
 
--- src/data.rt:295:29
+-- src/lib.rt:295:29
 enum-told-2 : tie.Need-enum-told-2
 enum-told-2 c = search needs
 
--- src/data.rt:295:29
+-- src/lib.rt:295:29
 accepted-requires-3 : tie.Need-accepted-requires-3
 accepted-requires-3 c κs = search needs
 
--- src/data.rt:296:24
+-- src/lib.rt:296:24
 enum-known-phase : tie.Need-enum-known-phase
 enum-known-phase c = search needs
 
--- src/data.rt:296:30
+-- src/lib.rt:296:30
 taken-written-requires : tie.Need-taken-written-requires
 taken-written-requires c κs = search needs
 
--- src/data.rt:277:1
+-- src/lib.rt:277:1
 returns-2 : tie.Need-returns-2
 unfolding dataWritten
 returns-2 c = simp (c .before .before .before .if1 .left, c .before .enum-told .given .1, c .accepted2 .ensures)
 
--- src/data.rt:277:1
+-- src/lib.rt:277:1
 returns-3 : tie.Need-returns-3
 unfolding dataWritten
 returns-3 c = simp (c .before .before .before .if1 .left, c .before .enum-told2 .given .1, c .accepted3 .ensures)
 
--- src/data.rt:277:1
+-- src/lib.rt:277:1
 same-length : tie.Need-same-length
 same-length c = search needs
 
--- src/data.rt:277:1
+-- src/lib.rt:277:1
 same-length-2 : tie.Need-same-length-2
 same-length-2 c = search needs
 
--- src/data.rt:277:1
+-- src/lib.rt:277:1
 returns-4 : tie.Need-returns-4
 unfolding dataWritten
 returns-4 c = simp (c .before .before .before .before .before .before .before .before .before .before .before .if1 .left, c .before .before .before .before .before .before .before .before .before .phase .given .1) (simp (c .before .before .before .before .before .before .before .before .before .phase .given .1) at (c .before .before .before .before .taken-written .ensures))

@@ -5,10 +5,10 @@ use lib.ListN.{getD, set}
 use Rattle.maps.specs.declared.Port.{Port}
 use Rattle.registers.specs.declared.Half.{Half}
 use Rattle.registers.specs.declared.Transfer.{Transfer}
-use Rattle.commands.specs.declared.Part.{Part}
-use Rattle.commands.specs.declared.Part.the-variants.{Low, High, Both}
-use Rattle.commands.specs.declared.Take.{Take}
-use Rattle.commands.specs.declared.Take.the-variants.{Refused, First, Last}
+use Rattle.port.specs.declared.Part.{Part}
+use Rattle.port.specs.declared.Part.the-variants.{Low, High, Both}
+use Rattle.port.specs.declared.Take.{Take}
+use Rattle.port.specs.declared.Take.the-variants.{Refused, First, Last}
 
 -- "A byte at 0 or 8 moves the low half if it hasn't moved, else the high. A byte at 9 moves the high half, else refusal 11";
 -- a word moves both, where nothing has moved. `First` leaves the word begun, `Last` makes it whole.

@@ -1,7 +1,4 @@
 // The data port: words and bytes, either half first.
-use super::Done;
-use super::Part;
-use super::Take;
 use answers::Outcome;
 use answers::Refusal;
 use maps::Port;
@@ -14,9 +11,29 @@ ghost use mathlib.Core.Path.{_≡_};
 ghost use Prim.Native.Nat.{_+_, _<_};
 ghost use lib.ListN.{getD, set};
 ghost use Rattle.registers.specs.State.{machine, core};
 ghost use Rattle.commands.specs.Steps.{idle};
-ghost use Rattle.commands.specs.Halves.{takeOf, partValue, partWritten, halfOf, halved, nextWord};
-ghost use Rattle.commands.specs.Data.{effect, wordRead, takenRead, absent, heldValue, phaseRead, dataRead, wordWritten, takenWritten, phaseWritten, dataWritten};
+ghost use Rattle.port.specs.Halves.{takeOf, partValue, partWritten, halfOf, halved, nextWord};
+ghost use Rattle.port.specs.Data.{effect, wordRead, takenRead, absent, heldValue, phaseRead, dataRead, wordWritten, takenWritten, phaseWritten, dataWritten};
+
+// What of a word an access moves.
+pub enum Part {
+    Low,
+    High,
+    Both,
+}
+
+// Whether a part may move: it is refused, leaves the word begun, or makes it whole.
+pub enum Take {
+    Refused,
+    First(Part),
+    Last(Part),
+}
+
+// An access's outcome, and the card without its buffer after it.
+pub struct Done {
+    pub outcome: Outcome,
+    pub core: Core,
+}
 
 // What an access at a port may take of a word.
 fn take_of(half: Half, port: Port) -> Take
@@ -136,7 +153,7 @@ fn word_read(state: State, t: Transfer, buffer: &mut [u8; 512], store: &[u8], ma
         };
     }
     let load = t.load;
-    super::load_read(state, load, buffer, store, marks)
+    commands::load_read(state, load, buffer, store, marks)
 }
 
 fn refused(core: Core) -> Done
@@ -248,7 +265,7 @@ fn word_written(
         };
     }
     let load = t.load;
-    super::load_written(state, load, buffer, store, marks)
+    commands::load_written(state, load, buffer, store, marks)
 }
 
 // A write in a transfer out: the part goes into the buffer at once.

@@ -1,27 +1,26 @@
 use borrow.Author.Tests.{lt-ltb, le-ltb}
-use Rattle.commands.specs.Data.{wordRead}
+use Rattle.port.specs.Data.{wordRead}
 use borrow.Author.Needs.{needs}
-use Rattle.commands.proofs.data.word_read.Statement.{statement}
-use Rattle.commands.proofs.data.word_read.Tie as tie
-use Rattle.commands.proofs.data.word_read.Reads as reads
-use Rattle.commands.proofs.data.word_read.Lts as lts
-use Rattle.commands.proofs.data.next_word.Reads as next-word-reads
-use Rattle.commands.proofs.load_read.Reads as load-read-reads
+use Rattle.port.proofs.word_read.Statement.{statement}
+use Rattle.port.proofs.word_read.Tie as tie
+use Rattle.port.proofs.word_read.Reads as reads
+use Rattle.port.proofs.word_read.Lts as lts
+use Rattle.port.proofs.next_word.Reads as next-word-reads
 
--- src/data.rt:132:13
+-- src/lib.rt:132:13
 next-word-requires : tie.Need-next-word-requires
 next-word-requires c κs = search needs
 
--- src/data.rt:133:9
+-- src/lib.rt:133:9
 returns : tie.Need-returns
 unfolding wordRead
 returns c = simp (lt-ltb _ _ (c .before .if1 .taken), c .next-word .ensures)
 
--- src/data.rt:139:5
+-- src/lib.rt:139:5
 load-read-requires : tie.Need-load-read-requires
 load-read-requires c κs = search needs
 
--- src/data.rt:127:1
+-- src/lib.rt:127:1
 returns-2 : tie.Need-returns-2
 unfolding wordRead
 returns-2 c = simp (le-ltb _ _ (c .before .before .if1 .left)) (c .load-read .ensures)

@@ -1,74 +1,74 @@
 use mathlib.Core.Path.{sym, ap, _∙_}
 use Rattle.registers.specs.State.{Machine}
-use Rattle.commands.specs.Data.{wordRead, accepted}
-use Rattle.commands.specs.Halves.{partValue}
+use Rattle.port.specs.Data.{wordRead, accepted}
+use Rattle.port.specs.Halves.{partValue}
 use borrow.Author.Needs.{needs}
-use Rattle.commands.proofs.data.taken_read.Statement.{statement}
-use Rattle.commands.proofs.data.taken_read.Tie as tie
-use Rattle.commands.proofs.data.taken_read.Reads as reads
-use Rattle.commands.proofs.data.taken_read.Lts as lts
-use Rattle.commands.proofs.data.accepted.Reads as accepted-reads
-use Rattle.commands.proofs.data.halved.Reads as halved-reads
-use Rattle.commands.proofs.data.part_value.Reads as part-value-reads
-use Rattle.commands.proofs.data.refused.Reads as refused-reads
-use Rattle.commands.proofs.data.take_of.Reads as take-of-reads
-use Rattle.commands.proofs.data.word_read.Reads as word-read-reads
+use Rattle.port.proofs.taken_read.Statement.{statement}
+use Rattle.port.proofs.taken_read.Tie as tie
+use Rattle.port.proofs.taken_read.Reads as reads
+use Rattle.port.proofs.taken_read.Lts as lts
+use Rattle.port.proofs.accepted.Reads as accepted-reads
+use Rattle.port.proofs.halved.Reads as halved-reads
+use Rattle.port.proofs.part_value.Reads as part-value-reads
+use Rattle.port.proofs.refused.Reads as refused-reads
+use Rattle.port.proofs.take_of.Reads as take-of-reads
+use Rattle.port.proofs.word_read.Reads as word-read-reads
 
--- src/data.rt:166:11
+-- src/lib.rt:166:11
 take-of-requires : tie.Need-take-of-requires
 take-of-requires c κs = search needs
 
--- src/data.rt:167:26
+-- src/lib.rt:167:26
 enum-told : tie.Need-enum-told
 enum-told c = search needs
 
--- src/data.rt:167:26
+-- src/lib.rt:167:26
 refused-requires : tie.Need-refused-requires
 refused-requires c κs = search needs
 
--- src/data.rt:168:21
+-- src/lib.rt:168:21
 enum-known-part : tie.Need-enum-known-part
 enum-known-part c = search needs
 
--- src/data.rt:169:17
+-- src/lib.rt:169:17
 part-value-requires : tie.Need-part-value-requires
 part-value-requires c κs = search needs
 
--- src/data.rt:170:17
+-- src/lib.rt:170:17
 halved-requires : tie.Need-halved-requires
 halved-requires c κs = search needs
 
--- src/data.rt:171:13
+-- src/lib.rt:171:13
 accepted-requires : tie.Need-accepted-requires
 accepted-requires c κs = search needs
 
--- src/data.rt:179:20
+-- src/lib.rt:179:20
 enum-known-part-2 : tie.Need-enum-known-part-2
 enum-known-part-2 c = search needs
 
--- src/data.rt:180:17
+-- src/lib.rt:180:17
 part-value-requires-2 : tie.Need-part-value-requires-2
 part-value-requires-2 c κs = search needs
 
--- src/data.rt:181:17
+-- src/lib.rt:181:17
 word-read-requires : tie.Need-word-read-requires
 word-read-requires c κs = search needs
 
--- src/data.rt:182:13
+-- src/lib.rt:182:13
 accepted-requires-2 : tie.Need-accepted-requires-2
 accepted-requires-2 c κs = search needs
 
--- src/data.rt:161:1
+-- src/lib.rt:161:1
 returns : tie.Need-returns
 returns c = let e = sym (c .before .before .before .take-of .ensures) ∙ c .before .enum-told .given .1 in simp (e, c .refused .ensures)
 
--- src/data.rt:161:1
+-- src/lib.rt:161:1
 returns-2 : tie.Need-returns-2
 returns-2 c =
     let e = sym (c .before .before .before .before .before .before .before .take-of .ensures) ∙ c .before .before .before .before .before .part .given .1 in
     simp (e, c .accepted .ensures, c .before .halved .ensures, c .before .before .part-value .ensures)
 
--- src/data.rt:161:1
+-- src/lib.rt:161:1
 returns-3 : tie.Need-returns-3
 unfolding wordRead
 returns-3 c =

@@ -1,25 +1,25 @@
 use mathlib.Core.Path.{sym}
 use lib.Seq.{set-out}
 use borrow.Author.Needs.{needs}
-use Rattle.commands.proofs.data.set_byte.Statement.{statement}
-use Rattle.commands.proofs.data.set_byte.Tie as tie
-use Rattle.commands.proofs.data.set_byte.Reads as reads
-use Rattle.commands.proofs.data.set_byte.Lts as lts
+use Rattle.port.proofs.set_byte.Statement.{statement}
+use Rattle.port.proofs.set_byte.Tie as tie
+use Rattle.port.proofs.set_byte.Reads as reads
+use Rattle.port.proofs.set_byte.Lts as lts
 use Rattle.ground.proofs.told.Reads as told-reads
 
--- src/data.rt:57:5
+-- src/lib.rt:57:5
 told-requires : tie.Need-told-requires
 told-requires c κs = search needs
 
--- src/data.rt:59:9
+-- src/lib.rt:59:9
 element-write-buffer : tie.Need-element-write-buffer
 element-write-buffer c = search needs
 
--- src/data.rt:54:1
+-- src/lib.rt:54:1
 returns : tie.Need-returns
 returns c = search needs
 
--- src/data.rt:54:1
+-- src/lib.rt:54:1
 returns-2 : tie.Need-returns-2
 returns-2 c = sym (set-out (c .before .before .before .args .buffer .now) _ _ (simp (c .before .told .ensures) (c .if1 .left)))
 
