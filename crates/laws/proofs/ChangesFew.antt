@@ -1,0 +1,119 @@
+-- Which accesses change sectors, and how many: a data write at most one, C0H at most as many as Count asks for, all else none.
+use Prim.Native.Nat.{ℕ, zero, suc, _≤_}
+use mathlib.Core.Path.{_≡_, refl, sym, ap, _∙_}
+use mathlib.Core.Bool.{Bool, true, false, true≢false}
+use mathlib.Core.List.{List, [], _∷_}
+use native.Mathlib.Omega.{arith}
+use lib.Dec.{ltb}
+use lib.ListN.{length, getD, replicate}
+use Rattle.ground.specs.Choice.{pick}
+use Rattle.ground.proofs.Picks.{pick-elim}
+use Rattle.geometry.specs.declared.Address.{Address}
+use Rattle.geometry.specs.declared.Geometry.{Geometry}
+use Rattle.geometry.specs.declared.Located.{Located}
+use Rattle.geometry.specs.Address.{locate}
+use Rattle.geometry.specs.Next.{nextOf}
+use Rattle.sectors.specs.Marks.{writable}
+use Rattle.sectors.specs.Sectors.{Kept}
+use Rattle.maps.specs.declared.Port.{Port}
+use Rattle.maps.specs.declared.Register.{Register}
+use Rattle.maps.specs.declared.Register.the-variants.{ErrorFeature, SectorCount, SectorNumber, CylinderLow, CylinderHigh, DriveHead, StatusCommand, AlternateControl, DriveAddress}
+use Rattle.registers.specs.declared.Load.{Load}
+use Rattle.registers.specs.declared.Load.the-variants.{Sectors, Buffer}
+use Rattle.registers.specs.declared.Transfer.{Transfer}
+use Rattle.registers.specs.declared.Phase.{Phase}
+use Rattle.registers.specs.declared.Phase.the-variants.{Idle, DataIn, DataOut}
+use Rattle.registers.specs.declared.State.{State}
+use Rattle.registers.specs.State.{Machine}
+use Rattle.registers.specs.WellMade.{locatedIn}
+use Rattle.port.specs.declared.Take.{Take}
+use Rattle.commands.specs.declared.Command.{Command}
+use Rattle.commands.specs.declared.Command.the-variants.{Read, Write, Verify, Erase, Identify, ReadBuffer, WriteBuffer, SetGeometry, Diagnose, Recalibrate, Seek, Sense, Other}
+use Rattle.port.specs.Halves.{takeOf, partWritten}
+use Rattle.commands.specs.Table.{commandOf}
+use Rattle.card.specs.declared.Meaning.{Meaning}
+use Rattle.card.specs.declared.Meaning.the-variants.{TupleByte, ReadOption, WriteOption, ReadRegister, WriteRegister, ReadData, WriteData}
+use Rattle.card.specs.Access.{Access, meaning}
+use Rattle.card.specs.Step.{step}
+use Rattle.laws.specs.Changes.{Change, changed, keptIn, writes, erasures, sectorsAsked, commandChanges, registerChanges, loadChanges, takenChanges, phaseChanges, changes, erases, commands, mayChange}
+use Rattle.laws.proofs.BySectors.{by-sectors}
+
+-- ---- none
+
+of-command : (c : Command) (s : State) (marks : List ℕ) → erases c ≡ false → commandChanges c s marks ≡ []
+of-command Read s marks e = refl
+of-command Write s marks e = refl
+of-command Verify s marks e = refl
+of-command Erase s marks e = absurd (true≢false e)
+of-command Identify s marks e = refl
+of-command ReadBuffer s marks e = refl
+of-command WriteBuffer s marks e = refl
+of-command SetGeometry s marks e = refl
+of-command Diagnose s marks e = refl
+of-command Recalibrate s marks e = refl
+of-command Seek s marks e = refl
+of-command Sense s marks e = refl
+of-command Other s marks e = refl
+
+of-register : (r : Register) (v : ℕ) (m : Machine) → commands r v ≡ false → registerChanges r v m ≡ []
+of-register ErrorFeature v m e = refl
+of-register SectorCount v m e = refl
+of-register SectorNumber v m e = refl
+of-register CylinderLow v m e = refl
+of-register CylinderHigh v m e = refl
+of-register DriveHead v m e = refl
+of-register StatusCommand v m e = pick-elim (λ (l : List Change). l ≡ []) (m .state .control .held) _ _ (λ h. refl) (λ h. of-command (commandOf v) (m .state) (m .marks) e)
+of-register AlternateControl v m e = refl
+of-register DriveAddress v m e = refl
+
+no-change : (k : Meaning) (m : Machine) → mayChange k ≡ false → changes k m ≡ []
+unfolding changes
+no-change (Meaning.Refused r) m e = refl
+no-change (TupleByte b) m e = refl
+no-change ReadOption m e = refl
+no-change (WriteOption v) m e = refl
+no-change (ReadRegister r) m e = refl
+no-change (WriteRegister r v) m e = of-register r v m e
+no-change (ReadData port) m e = refl
+no-change (WriteData port v) m e = absurd (true≢false e)
+
+-- an access that is neither a data write nor the command C0H leaves store and marks
+pub untouched : (m : Machine) (a : Access) → mayChange (meaning m a) ≡ false → keptIn (step m a .next) ≡ keptIn m
+unfolding changed
+untouched m a e = by-sectors m a ∙ ap (λ (l : List Change). changed l (keptIn m)) (no-change (meaning m a) m e)
+
+-- ---- one
+
+abbrev AtMost : ℕ → List Change → Type 0
+AtMost n l = length l ≤ n
+
+writes-one : (l : Located) (marks bytes : List ℕ) (rest : List Change) (n : ℕ) → AtMost n rest → AtMost (suc n) (writes l marks bytes rest)
+writes-one (Located.Good spot) marks bytes rest n h = pick-elim (AtMost (suc n)) (writable (getD marks (spot .index) 0)) _ _ (λ e. omega arith) (λ e. omega arith)
+writes-one Located.BadHeadOrSector marks bytes rest n h = omega arith
+writes-one Located.BadCylinder marks bytes rest n h = omega arith
+writes-one Located.BadLba marks bytes rest n h = omega arith
+
+load-one : (l : Load) (bytes : List ℕ) (m : Machine) → AtMost 1 (loadChanges l bytes m)
+load-one Buffer bytes m = omega arith
+load-one (Sectors left) bytes m = writes-one (locatedIn (m .state)) (m .marks) bytes [] 0 (omega arith)
+
+taken-one : (k : Take) (v : ℕ) (t : Transfer) (m : Machine) → AtMost 1 (takenChanges k v t m)
+taken-one Take.Refused v t m = omega arith
+taken-one (Take.First part) v t m = omega arith
+taken-one (Take.Last part) v t m = pick-elim (AtMost 1) (ltb (t .words) 255) _ _ (λ e. omega arith) (λ e. load-one (t .load) (partWritten part (t .words) v (m .buffer)) m)
+
+phase-one : (p : Phase) (port : Port) (v : ℕ) (m : Machine) → AtMost 1 (phaseChanges p port v m)
+phase-one Idle port v m = omega arith
+phase-one (DataIn t) port v m = omega arith
+phase-one (DataOut t) port v m = taken-one (takeOf (t .half) port) v t m
+
+-- a data write changes at most one sector
+pub one-sector : (m : Machine) (port : Port) (v : ℕ) → length (changes (WriteData port v) m) ≤ 1
+unfolding changes
+one-sector m port v = pick-elim (AtMost 1) (m .state .control .held) _ _ (λ e. omega arith) (λ e. phase-one (m .phase) port v m)
+
+-- C0H at most as many as Count asks for
+pub erasures-few : (n : ℕ) (a : Address) (g : Geometry) (total : ℕ) (marks : List ℕ) → length (erasures n a g total marks) ≤ n
+unfolding erasures
+erasures-few zero a g total marks = omega arith
+erasures-few (suc n) a g total marks = writes-one (locate a g total) marks (replicate 512 0xFF) (erasures n (nextOf a g) g total marks) n (erasures-few n (nextOf a g) g total marks)

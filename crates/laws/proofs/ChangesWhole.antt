@@ -1,0 +1,127 @@
+-- Each sector that an access changes is one of the card's, and whole; so storing it sets its 512 bytes and its mark.
+use Prim.Native.Nat.{ℕ, zero, suc, _*_, _/_, _<_}
+use mathlib.Core.Path.{_≡_, refl, sym, subst, _∙_}
+use mathlib.Core.Bool.{Bool, true, false}
+use mathlib.Core.List.{List, []}
+use native.Mathlib.Omega.{arith}
+use lib.Dec.{ltb}
+use lib.ListN.{length, getD, set, replicate, length-set, length-replicate}
+use borrow.Author.Tests.{lt-ltb}
+use Rattle.ground.proofs.Picks.{pick-elim}
+use Rattle.geometry.specs.declared.Address.{Address}
+use Rattle.geometry.specs.declared.Geometry.{Geometry}
+use Rattle.geometry.specs.declared.Spot.{Spot}
+use Rattle.geometry.specs.declared.Located.{Located}
+use Rattle.geometry.specs.Limits.{currentFor}
+use Rattle.geometry.specs.Address.{locate}
+use Rattle.geometry.specs.Next.{nextOf}
+use Rattle.geometry.proofs.Inside.{inside}
+use Rattle.sectors.specs.Marks.{writable}
+use Rattle.sectors.specs.Sectors.{kept, withSector, stored}
+use Rattle.maps.specs.declared.Port.{Port}
+use Rattle.maps.specs.declared.Register.{Register}
+use Rattle.maps.specs.declared.Register.the-variants.{ErrorFeature, SectorCount, SectorNumber, CylinderLow, CylinderHigh, DriveHead, StatusCommand, AlternateControl, DriveAddress}
+use Rattle.registers.specs.declared.Load.{Load}
+use Rattle.registers.specs.declared.Load.the-variants.{Sectors, Buffer}
+use Rattle.registers.specs.declared.Transfer.{Transfer}
+use Rattle.registers.specs.declared.Phase.{Phase}
+use Rattle.registers.specs.declared.Phase.the-variants.{Idle, DataIn, DataOut}
+use Rattle.registers.specs.declared.State.{State}
+use Rattle.registers.specs.State.{Machine}
+use Rattle.registers.specs.WellMade.{totalIn, locatedIn, wellMade}
+use Rattle.port.specs.declared.Part.{Part}
+use Rattle.port.specs.declared.Part.the-variants.{Low, High, Both}
+use Rattle.port.specs.declared.Take.{Take}
+use Rattle.commands.specs.declared.Command.{Command}
+use Rattle.commands.specs.declared.Command.the-variants.{Read, Write, Verify, Erase, Identify, ReadBuffer, WriteBuffer, SetGeometry, Diagnose, Recalibrate, Seek, Sense, Other}
+use Rattle.port.specs.Halves.{takeOf, partWritten}
+use Rattle.commands.specs.Table.{commandOf}
+use Rattle.card.specs.declared.Meaning.{Meaning}
+use Rattle.card.specs.declared.Meaning.the-variants.{TupleByte, ReadOption, WriteOption, ReadRegister, WriteRegister, ReadData, WriteData}
+use Rattle.card.specs.Access.{Access, meaning}
+use Rattle.laws.specs.Changes.{Change, Whole, writes, erasures, sectorsAsked, commandChanges, registerChanges, loadChanges, takenChanges, phaseChanges, changes}
+use Rattle.laws.proofs.Made.{made-facts, not-made}
+
+-- a sector that is there is stored
+pub stored-there : (store marks bytes : List ℕ) (i total : ℕ) → length store ≡ 512 * total → length marks ≡ total → i < total → stored store marks i bytes ≡ kept (withSector store i bytes) (set marks i 0)
+unfolding stored
+stored-there store marks bytes i total p q l = rw (lt-ltb i (length store / 512) (omega arith), lt-ltb i (length marks) (omega arith))
+
+writes-whole : (l : Located) (total : ℕ) (marks bytes : List ℕ) (rest : List Change) → ((p : Spot) → l ≡ Located.Good p → p .index < total) → length bytes ≡ 512 → Whole total rest → Whole total (writes l marks bytes rest)
+writes-whole (Located.Good spot) total marks bytes rest i b r = pick-elim (Whole total) (writable (getD marks (spot .index) 0)) _ _ (λ e. (i spot refl, b, r)) (λ e. tt)
+writes-whole Located.BadHeadOrSector total marks bytes rest i b r = tt
+writes-whole Located.BadCylinder total marks bytes rest i b r = tt
+writes-whole Located.BadLba total marks bytes rest i b r = tt
+
+erasures-whole : (n : ℕ) (a : Address) (g : Geometry) (total : ℕ) (marks : List ℕ) → currentFor g total ≡ true → Whole total (erasures n a g total marks)
+unfolding erasures
+erasures-whole zero a g total marks c = tt
+erasures-whole (suc n) a g total marks c =
+    writes-whole (locate a g total) total marks (replicate 512 0xFF) (erasures n (nextOf a g) g total marks) (λ p e. inside a g total p c e) (length-replicate {A = ℕ} 512 0xFF) (erasures-whole n (nextOf a g) g total marks c)
+
+of-command : (c : Command) (s : State) (marks : List ℕ) → currentFor (s .current) (totalIn s) ≡ true → Whole (totalIn s) (commandChanges c s marks)
+of-command Read s marks c = tt
+of-command Write s marks c = tt
+of-command Verify s marks c = tt
+of-command Erase s marks c = erasures-whole (sectorsAsked (s .registers .count)) (s .registers .address) (s .current) (totalIn s) marks c
+of-command Identify s marks c = tt
+of-command ReadBuffer s marks c = tt
+of-command WriteBuffer s marks c = tt
+of-command SetGeometry s marks c = tt
+of-command Diagnose s marks c = tt
+of-command Recalibrate s marks c = tt
+of-command Seek s marks c = tt
+of-command Sense s marks c = tt
+of-command Other s marks c = tt
+
+of-register : (r : Register) (v : ℕ) (m : Machine) → currentFor (m .state .current) (totalIn (m .state)) ≡ true → Whole (totalIn (m .state)) (registerChanges r v m)
+of-register ErrorFeature v m c = tt
+of-register SectorCount v m c = tt
+of-register SectorNumber v m c = tt
+of-register CylinderLow v m c = tt
+of-register CylinderHigh v m c = tt
+of-register DriveHead v m c = tt
+of-register StatusCommand v m c = pick-elim (Whole (totalIn (m .state))) (m .state .control .held) _ _ (λ h. tt) (λ h. of-command (commandOf v) (m .state) (m .marks) c)
+of-register AlternateControl v m c = tt
+of-register DriveAddress v m c = tt
+
+part-length : (part : Part) (words v : ℕ) (buffer : List ℕ) → length (partWritten part words v buffer) ≡ length buffer
+part-length Low words v buffer = length-set buffer _ _
+part-length High words v buffer = length-set buffer _ _
+part-length Both words v buffer = length-set (set buffer _ _) _ _ ∙ length-set buffer _ _
+
+of-load : (l : Load) (bytes : List ℕ) (m : Machine) → currentFor (m .state .current) (totalIn (m .state)) ≡ true → length bytes ≡ 512 → Whole (totalIn (m .state)) (loadChanges l bytes m)
+of-load Buffer bytes m c b = tt
+of-load (Sectors left) bytes m c b =
+    writes-whole (locatedIn (m .state)) (totalIn (m .state)) (m .marks) bytes [] (λ p e. inside (m .state .registers .address) (m .state .current) (totalIn (m .state)) p c e) b tt
+
+of-taken : (k : Take) (v : ℕ) (t : Transfer) (m : Machine) → currentFor (m .state .current) (totalIn (m .state)) ≡ true → length (m .buffer) ≡ 512 → Whole (totalIn (m .state)) (takenChanges k v t m)
+of-taken Take.Refused v t m c b = tt
+of-taken (Take.First part) v t m c b = tt
+of-taken (Take.Last part) v t m c b =
+    pick-elim (Whole (totalIn (m .state))) (ltb (t .words) 255) _ _ (λ e. tt)
+    (λ e. of-load (t .load) (partWritten part (t .words) v (m .buffer)) m c (part-length part (t .words) v (m .buffer) ∙ b))
+
+of-phase : (p : Phase) (port : Port) (v : ℕ) (m : Machine) → currentFor (m .state .current) (totalIn (m .state)) ≡ true → length (m .buffer) ≡ 512 → Whole (totalIn (m .state)) (phaseChanges p port v m)
+of-phase Idle port v m c b = tt
+of-phase (DataIn t) port v m c b = tt
+of-phase (DataOut t) port v m c b = of-taken (takeOf (t .half) port) v t m c b
+
+of-meaning : (k : Meaning) (m : Machine) → currentFor (m .state .current) (totalIn (m .state)) ≡ true → length (m .buffer) ≡ 512 → Whole (totalIn (m .state)) (changes k m)
+unfolding changes
+of-meaning (Meaning.Refused r) m c b = tt
+of-meaning (TupleByte x) m c b = tt
+of-meaning ReadOption m c b = tt
+of-meaning (WriteOption v) m c b = tt
+of-meaning (ReadRegister r) m c b = tt
+of-meaning (WriteRegister r v) m c b = of-register r v m c
+of-meaning (ReadData port) m c b = tt
+of-meaning (WriteData port v) m c b = pick-elim (Whole (totalIn (m .state))) (m .state .control .held) _ _ (λ e. tt) (λ e. of-phase (m .phase) port v m c b)
+
+by-made : (made : Bool) (m : Machine) (a : Access) → wellMade (m .phase) (m .state) ≡ made → length (m .buffer) ≡ 512 → Whole (totalIn (m .state)) (changes (meaning m a) m)
+unfolding changes
+by-made true m a e b = of-meaning (meaning m a) m (made-facts (m .phase) (m .state) e .current) b
+by-made false m a e b = subst (λ (k : Meaning). Whole (totalIn (m .state)) (changes k m)) (sym (not-made m a e)) tt
+
+pub changes-whole : (m : Machine) (a : Access) → length (m .buffer) ≡ 512 → Whole (totalIn (m .state)) (changes (meaning m a) m)
+changes-whole m a b = by-made (wellMade (m .phase) (m .state)) m a refl b

@@ -1,0 +1,140 @@
+-- Every way in which a command or a transfer goes on or ends leaves a code where Status is in error, whatever was there before.
+use Prim.Native.Nat.{ℕ, zero, suc, _-_}
+use mathlib.Core.Path.{_≡_, refl, sym, ap}
+use mathlib.Core.Bool.{Bool, true, false, false≢true}
+use mathlib.Core.List.{List}
+use lib.Dec.{eqb}
+use borrow.Author.Tests.{eqb-false}
+use Rattle.ground.specs.Choice.{pick}
+use Rattle.geometry.specs.declared.Reshaped.{Reshaped}
+use Rattle.geometry.specs.Shape.{reshaped}
+use Rattle.geometry.specs.Address.{seek}
+use Rattle.registers.specs.declared.Load.{Load}
+use Rattle.registers.specs.declared.Load.the-variants.{Sectors, Buffer}
+use Rattle.registers.specs.declared.State.{State}
+use Rattle.registers.specs.declared.Core.{Core}
+use Rattle.registers.specs.State.{Machine}
+use Rattle.registers.specs.WellMade.{totalIn}
+use Rattle.commands.specs.declared.End.{End}
+use Rattle.commands.specs.declared.End.the-variants.{Good, BadHeadOrSector, BadCylinder, BadLba, Unreadable, WriteFault, BadGeometry, NoSuchCommand}
+use Rattle.commands.specs.declared.Tested.{Tested}
+use Rattle.commands.specs.declared.Tested.the-variants.{Sound, Fails}
+use Rattle.commands.specs.declared.Way.{Way}
+use Rattle.commands.specs.declared.Command.{Command}
+use Rattle.commands.specs.declared.Command.the-variants.{Read, Write, Verify, Erase, Identify, ReadBuffer, WriteBuffer, SetGeometry, Diagnose, Recalibrate, Seek, Sense, Other}
+use Rattle.commands.specs.Ends.{endStatus, endCode, ended}
+use Rattle.commands.specs.Before.{StoreTested, readTest, addressTest, sectorStored}
+use Rattle.commands.specs.Steps.{begun, readTested, readSector, nextRead, loadRead, askTested, askSector, nextAsked, coreWritten, loadWritten, passed}
+use Rattle.commands.specs.Runs.{goesOn, blank, verifyFrom, Erased, erased, eraseFrom}
+use Rattle.commands.specs.Table.{obeyed, geometrySet, soughtEnd, commandOf, started, quiet, commandGiven}
+use Rattle.laws.specs.Coded.{inError, Coded}
+
+-- the table of ends: each in error has a code
+end-coded : (e : End) (code : ℕ) → inError (endStatus e) ≡ true → endCode e code ≡ 0 → ⊥
+end-coded Good code p = absurd (false≢true p)
+end-coded BadHeadOrSector code p = eqb-false 0x21 0 refl
+end-coded BadCylinder code p = eqb-false 0x2F 0 refl
+end-coded BadLba code p = eqb-false 0x2F 0 refl
+end-coded Unreadable code p = eqb-false 0x11 0 refl
+end-coded WriteFault code p = eqb-false 0x03 0 refl
+end-coded BadGeometry code p = eqb-false 0x21 0 refl
+end-coded NoSuchCommand code p = eqb-false 0x20 0 refl
+
+-- 58H is no error
+begun-coded : (code : ℕ) → inError 0x58 ≡ true → code ≡ 0 → ⊥
+begun-coded code p = absurd (false≢true p)
+
+picked : (b : Bool) (x y : Core) → Coded (x .state) → Coded (y .state) → Coded (pick b x y .state)
+picked true x y f g = f
+picked false x y f g = g
+
+pub picked-machine : (b : Bool) (x y : Machine) → Coded (x .state) → Coded (y .state) → Coded (pick b x y .state)
+picked-machine true x y f g = f
+picked-machine false x y f g = g
+
+-- ---- reading
+
+read-tested : (t : Tested) (left : ℕ) (m : Machine) → Coded (readTested t left m .state)
+read-tested (Sound spot) left m = begun-coded _
+read-tested (Fails e) left m = end-coded e _
+
+read-sector : (left : ℕ) (m : Machine) → Coded (readSector left m .state)
+unfolding readSector
+read-sector left m = read-tested (readTest (m .state) (m .marks)) left m
+
+next-read : (left : ℕ) (m : Machine) → Coded (nextRead left m .state)
+unfolding nextRead
+next-read left m = picked-machine (eqb left 0) _ _ (end-coded Good _) (read-sector left _)
+
+pub load-read : (l : Load) (m : Machine) → Coded (loadRead l m .state)
+load-read Buffer m = end-coded Good _
+load-read (Sectors left) m = next-read (left - 1) m
+
+-- ---- writing
+
+ask-tested : (t : Tested) (left : ℕ) (first : Bool) (s : State) → Coded (askTested t left first s .state)
+ask-tested (Sound spot) left first s = begun-coded _
+ask-tested (Fails e) left first s = end-coded e _
+
+ask-sector : (left : ℕ) (first : Bool) (s : State) → Coded (askSector left first s .state)
+unfolding askSector
+ask-sector left first s = ask-tested (addressTest s) left first s
+
+next-asked : (left : ℕ) (s : State) → Coded (nextAsked left s .state)
+unfolding nextAsked
+next-asked left s = picked (eqb left 0) _ _ (end-coded Good _) (ask-sector left false _)
+
+core-written : (t : Tested) (left : ℕ) (s : State) → Coded (coreWritten t left s .state)
+core-written (Sound spot) left s = next-asked left s
+core-written (Fails e) left s = end-coded e _
+
+pub load-written : (l : Load) (m : Machine) → Coded (loadWritten l m .state)
+load-written Buffer m = end-coded Good _
+load-written (Sectors left) m = core-written (sectorStored (m .state) (m .buffer) (m .store) (m .marks) .tested) (left - 1) (m .state)
+
+-- ---- Verify and Erase
+
+verified-on : (t : Tested) (s : State) (rest : Core) → Coded (rest .state) → Coded (goesOn t (λ k. k) s rest .state)
+verified-on (Sound spot) s rest h = h
+verified-on (Fails e) s rest h = end-coded e _
+
+verified : (n : ℕ) (s : State) (marks : List ℕ) → Coded (verifyFrom n s marks .state)
+unfolding verifyFrom
+verified zero s marks = end-coded Good _
+verified (suc n) s marks = verified-on (readTest s marks) s (verifyFrom n (passed n s) marks) (verified n (passed n s) marks)
+
+erased-on : (t : Tested) (s : State) (store marks : List ℕ) (rest : Erased) → Coded (rest .core .state) → Coded (goesOn t (λ c. erased c store marks) s rest .core .state)
+erased-on (Sound spot) s store marks rest h = h
+erased-on (Fails e) s store marks rest h = end-coded e _
+
+erases : (n : ℕ) (s : State) (store marks : List ℕ) → Coded (eraseFrom n s store marks .core .state)
+unfolding eraseFrom
+erases zero s store marks = end-coded Good _
+erases (suc n) s store marks =
+    let k = sectorStored s blank store marks in
+    erased-on (k .tested) s (k .store) (k .marks) (eraseFrom n (passed n s) (k .store) (k .marks)) (erases n (passed n s) (k .store) (k .marks))
+
+-- ---- the table
+
+geometry-set : (r : Reshaped) (s : State) → Coded (geometrySet r s .state)
+geometry-set (Reshaped.Taken g) s = end-coded Good _
+geometry-set Reshaped.Refused s = end-coded BadGeometry 0
+
+obeys : (c : Command) (s : State) (m : Machine) → Coded (obeyed c s m .state)
+obeys Read s m = read-sector _ _
+obeys Write s m = ask-sector _ true s
+obeys Verify s m = verified _ s (m .marks)
+obeys Erase s m = erases _ s (m .store) (m .marks)
+obeys Identify s m = begun-coded _
+obeys ReadBuffer s m = begun-coded _
+obeys WriteBuffer s m = begun-coded _
+obeys SetGeometry s m = geometry-set (reshaped (s .registers .count) (s .registers .address .head) (totalIn s)) s
+obeys Diagnose s m = end-coded Good _
+obeys Recalibrate s m = end-coded Good _
+obeys Seek s m = end-coded (soughtEnd (seek (s .registers .address) (s .current) (totalIn s))) (s .code)
+obeys Sense s m = end-coded Good _
+obeys Other s m = end-coded NoSuchCommand 0
+
+pub commanded : (v : ℕ) (m : Machine) → Coded (commandGiven v m .state)
+unfolding commandGiven
+commanded v m = obeys (commandOf v) (started (quiet m .state)) (quiet m)

@@ -1,0 +1,99 @@
+-- C0H changes the store and the marks by the sectors that its definition lists.
+use Prim.Native.Nat.{ℕ, zero, suc, _/_, _<_}
+use mathlib.Core.Path.{_≡_, refl, sym, ap, subst, _∙_}
+use mathlib.Core.Bool.{Bool, true, false}
+use mathlib.Core.List.{List, [], _∷_}
+use native.Mathlib.Omega.{arith}
+use lib.Dec.{ltb, eqb}
+use lib.ListN.{length, getD, set, replicate}
+use lib.Seq.{getD-set-same, getD-set-other}
+use borrow.Author.Tests.{ltb-true, eqb-true, eqb-false, ne-eqb}
+use Rattle.ground.specs.Choice.{pick}
+use Rattle.ground.proofs.Picks.{pick-elim}
+use Rattle.geometry.specs.declared.Spot.{Spot}
+use Rattle.geometry.specs.declared.Located.{Located}
+use Rattle.geometry.specs.Address.{locate}
+use Rattle.geometry.specs.Next.{nextOf}
+use Rattle.sectors.specs.Marks.{writable}
+use Rattle.sectors.specs.Sectors.{Kept, kept, stored, withSector}
+use Rattle.registers.specs.declared.State.{State}
+use Rattle.registers.specs.declared.Core.{Core}
+use Rattle.registers.specs.WellMade.{totalIn, locatedIn}
+use Rattle.commands.specs.declared.End.the-variants.{WriteFault}
+use Rattle.commands.specs.declared.Tested.{Tested}
+use Rattle.commands.specs.declared.Tested.the-variants.{Sound, Fails}
+use Rattle.commands.specs.Before.{testedOf, addressTest, markTested, storeTest, storedBy, sectorStored}
+use Rattle.commands.specs.Steps.{passed}
+use Rattle.commands.specs.Runs.{goesOn, blank, Erased, erased, eraseFrom}
+use Rattle.laws.specs.Changes.{Change, changed, writes, erasures}
+
+-- ---- a stored sector's mark is 0, and so it can be written as before
+
+abbrev Same : List ℕ → List ℕ → Type 0
+Same marks marks0 = (j : ℕ) → writable (getD marks j 0) ≡ writable (getD marks0 j 0)
+
+by-place : (b : Bool) (marks : List ℕ) (i j : ℕ) → eqb j i ≡ b → i < length marks → writable (getD marks i 0) ≡ true → writable (getD (set marks i 0) j 0) ≡ writable (getD marks j 0)
+unfolding writable
+by-place true marks i j e l w =
+    subst (λ (x : ℕ). writable (getD (set marks i 0) x 0) ≡ writable (getD marks x 0)) (sym (eqb-true j i e)) (ap writable (getD-set-same marks i 0 0 l) ∙ sym w)
+by-place false marks i j e l w = ap writable (getD-set-other marks i j 0 0 (eqb-false j i e))
+
+same-stored : (store marks marks0 bytes : List ℕ) (i : ℕ) → Same marks marks0 → writable (getD marks i 0) ≡ true → Same (stored store marks i bytes .marks) marks0
+unfolding stored
+same-stored store marks marks0 bytes i h w =
+    pick-elim (λ (k : Kept). Same (k .marks) marks0) (ltb i (length store / 512)) _ _
+    (λ e. pick-elim (λ (k : Kept). Same (k .marks) marks0) (ltb i (length marks)) _ _
+    (λ f j. by-place (eqb j i) marks i j refl (ltb-true _ _ f) w ∙ h j)
+    (λ f. h))
+    (λ e. h)
+
+-- ---- one sector, and the rest
+
+abbrev keptOf : Erased → Kept
+keptOf e = kept (e .store) (e .marks)
+
+-- the rest of the run, from whatever store and marks
+abbrev Rest : ℕ → State → List Change → List ℕ → List ℕ → Type 0
+Rest n s rest store marks = keptOf (eraseFrom n s store marks) ≡ changed rest (kept store marks)
+
+abbrev onward : Tested → ℕ → State → List ℕ → List ℕ → Erased
+onward t n s store marks =
+    goesOn (storedBy t blank store marks .tested) (λ c. erased c (storedBy t blank store marks .store) (storedBy t blank store marks .marks)) s
+    (eraseFrom n (passed n s) (storedBy t blank store marks .store) (storedBy t blank store marks .marks))
+
+by-mark : (b : Bool) (spot : Spot) (n : ℕ) (s : State) (store marks marks0 : List ℕ) (rest : List Change) →
+    Same marks marks0 → writable (getD marks (spot .index) 0) ≡ b → ((st mk : List ℕ) → Same mk marks0 → Rest n (passed n s) rest st mk) →
+    keptOf (onward (pick b (Sound spot) (Fails WriteFault)) n s store marks) ≡ changed (pick b (record { index = spot .index; bytes = replicate 512 0xFF } ∷ rest) []) (kept store marks)
+unfolding changed blank
+by-mark true spot n s store marks marks0 rest h w f = f _ _ (same-stored store marks marks0 (replicate 512 0xFF) (spot .index) h w)
+by-mark false spot n s store marks marks0 rest h w f = refl
+
+by-address : (l : Located) (n : ℕ) (s : State) (store marks marks0 : List ℕ) (rest : List Change) →
+    Same marks marks0 → ((st mk : List ℕ) → Same mk marks0 → Rest n (passed n s) rest st mk) →
+    keptOf (onward (markTested writable WriteFault (testedOf l) marks) n s store marks) ≡ changed (writes l marks0 (replicate 512 0xFF) rest) (kept store marks)
+unfolding changed
+by-address (Located.Good spot) n s store marks marks0 rest h f =
+    by-mark (writable (getD marks (spot .index) 0)) spot n s store marks marks0 rest h refl f ∙
+    ap (λ (b : Bool). changed (pick b (record { index = spot .index; bytes = replicate 512 0xFF } ∷ rest) []) (kept store marks)) (h (spot .index))
+by-address Located.BadHeadOrSector n s store marks marks0 rest h f = refl
+by-address Located.BadCylinder n s store marks marks0 rest h f = refl
+by-address Located.BadLba n s store marks marks0 rest h f = refl
+
+-- the address of the next sector, where one is left
+abbrev erasuresIn : ℕ → State → List ℕ → List Change
+erasuresIn n s marks = erasures n (s .registers .address) (s .current) (totalIn s) marks
+
+next-address : (n : ℕ) (s : State) (marks : List ℕ) → erasuresIn n (passed n s) marks ≡ erasures n (nextOf (s .registers .address) (s .current)) (s .current) (totalIn s) marks
+unfolding erasures passed
+next-address zero s marks = refl
+next-address (suc n) s marks = rw (ne-eqb (suc n) 0 (λ e. omega arith))
+
+erased-sectors : (n : ℕ) (s : State) (store marks marks0 : List ℕ) → Same marks marks0 → Rest n s (erasuresIn n s marks0) store marks
+unfolding eraseFrom erasures changed sectorStored storeTest addressTest
+erased-sectors zero s store marks marks0 h = refl
+erased-sectors (suc n) s store marks marks0 h =
+    by-address (locatedIn s) n s store marks marks0 (erasures n (nextOf (s .registers .address) (s .current)) (s .current) (totalIn s) marks0) h
+    (λ st mk g. subst (λ (r : List Change). Rest n (passed n s) r st mk) (next-address n s marks0) (erased-sectors n (passed n s) st mk marks0 g))
+
+pub erase-kept : (n : ℕ) (s : State) (store marks : List ℕ) → kept (eraseFrom n s store marks .store) (eraseFrom n s store marks .marks) ≡ changed (erasures n (s .registers .address) (s .current) (totalIn s) marks) (kept store marks)
+erase-kept n s store marks = erased-sectors n s store marks marks (λ j. refl)

@@ -1,0 +1,98 @@
+-- The interrupt mark at a Command write: every row of the table keeps the rule.
+use Prim.Native.Nat.{ℕ, zero, suc}
+use mathlib.Core.Path.{_≡_, refl}
+use mathlib.Core.Bool.{Bool, true, false}
+use mathlib.Core.List.{List}
+use lib.Dec.{eqb}
+use Rattle.geometry.specs.declared.Reshaped.{Reshaped}
+use Rattle.geometry.specs.Shape.{reshaped}
+use Rattle.geometry.specs.Address.{seek}
+use Rattle.registers.specs.declared.State.{State}
+use Rattle.registers.specs.declared.Core.{Core}
+use Rattle.registers.specs.State.{Machine}
+use Rattle.registers.specs.WellMade.{totalIn}
+use Rattle.commands.specs.declared.End.{End}
+use Rattle.commands.specs.declared.End.the-variants.{Good, BadHeadOrSector, BadCylinder, BadLba, Unreadable, WriteFault, BadGeometry, NoSuchCommand}
+use Rattle.commands.specs.declared.Tested.{Tested}
+use Rattle.commands.specs.declared.Tested.the-variants.{Sound, Fails}
+use Rattle.commands.specs.declared.Command.{Command}
+use Rattle.commands.specs.declared.Command.the-variants.{Read, Write, Verify, Erase, Identify, ReadBuffer, WriteBuffer, SetGeometry, Diagnose, Recalibrate, Seek, Sense, Other}
+use Rattle.commands.specs.Ends.{endStatus, ended}
+use Rattle.commands.specs.Before.{readTest, addressTest, sectorStored}
+use Rattle.commands.specs.Steps.{passed, readTested, readSector, askTested, askSector}
+use Rattle.commands.specs.Runs.{goesOn, blank, verifyFrom, Erased, erased, eraseFrom}
+use Rattle.commands.specs.Table.{countOf, soughtEnd, geometrySet, started, quiet, commandOf, obeyed, commandGiven}
+use Rattle.laws.specs.Mark.{CommandWrite, asks, MarkRule}
+use Rattle.laws.proofs.MarkLaws.{over, ready, asked}
+
+-- no end is 58H
+pub end-asks : (e : End) → eqb (endStatus e) 0x58 ≡ false
+end-asks Good = refl
+end-asks BadHeadOrSector = refl
+end-asks BadCylinder = refl
+end-asks BadLba = refl
+end-asks Unreadable = refl
+end-asks WriteFault = refl
+end-asks BadGeometry = refl
+end-asks NoSuchCommand = refl
+
+-- the command is over, and the mark is set
+abbrev Over : State → Type 0
+Over n = (n .mark ≡ true) × (asks n ≡ false)
+
+verified-on : (t : Tested) (s : State) (rest : Core) → Over (rest .state) → Over (goesOn t (λ k. k) s rest .state)
+verified-on (Sound spot) s rest h = h
+verified-on (Fails e) s rest h = (refl, end-asks e)
+
+verified : (n : ℕ) (s : State) (marks : List ℕ) → Over (verifyFrom n s marks .state)
+unfolding verifyFrom
+verified zero s marks = (refl, refl)
+verified (suc n) s marks = verified-on (readTest s marks) s (verifyFrom n (passed n s) marks) (verified n (passed n s) marks)
+
+erased-on : (t : Tested) (s : State) (store marks : List ℕ) (rest : Erased) → Over (rest .core .state) → Over (goesOn t (λ c. erased c store marks) s rest .core .state)
+erased-on (Sound spot) s store marks rest h = h
+erased-on (Fails e) s store marks rest h = (refl, end-asks e)
+
+erases : (n : ℕ) (s : State) (store marks : List ℕ) → Over (eraseFrom n s store marks .core .state)
+unfolding eraseFrom
+erases zero s store marks = (refl, refl)
+erases (suc n) s store marks =
+    let k = sectorStored s blank store marks in
+    erased-on (k .tested) s (k .store) (k .marks) (eraseFrom n (passed n s) (k .store) (k .marks)) (erases n (passed n s) (k .store) (k .marks))
+
+geometry-set : (r : Reshaped) (s : State) → Over (geometrySet r s .state)
+geometry-set (Reshaped.Taken g) s = (refl, refl)
+geometry-set Reshaped.Refused s = (refl, refl)
+
+-- the rule of a row whose command is over
+done : (c : Command) (s n : State) → Over n → MarkRule (CommandWrite c) s n
+done c s n o = over c s n (o .0) (o .1)
+
+read-first : (t : Tested) (left : ℕ) (s : State) (m : Machine) → MarkRule (CommandWrite Read) s (readTested t left m .state)
+read-first (Sound spot) left s m = ready Read s (readTested (Sound spot) left m .state) refl refl refl
+read-first (Fails e) left s m = over Read s (readTested (Fails e) left m .state) refl (end-asks e)
+
+ask-first : (t : Tested) (left : ℕ) (s n : State) → n .mark ≡ false → MarkRule (CommandWrite Write) s (askTested t left true n .state)
+ask-first (Sound spot) left s n e = asked Write s (askTested (Sound spot) left true n .state) refl e refl
+ask-first (Fails f) left s n e = over Write s (askTested (Fails f) left true n .state) refl (end-asks f)
+
+-- s is the state before the Command write, n the state that the command starts with
+obeys : (c : Command) (s n : State) (m : Machine) → n .mark ≡ false → MarkRule (CommandWrite c) s (obeyed c n m .state)
+unfolding readSector askSector
+obeys Read s n m e = read-first (readTest n (m .marks)) (countOf n) s _
+obeys Write s n m e = ask-first (addressTest n) (countOf n) s n e
+obeys Verify s n m e = done Verify s _ (verified (countOf n) n (m .marks))
+obeys Erase s n m e = done Erase s _ (erases (countOf n) n (m .store) (m .marks))
+obeys Identify s n m e = ready Identify s (obeyed Identify n m .state) refl refl refl
+obeys ReadBuffer s n m e = ready ReadBuffer s (obeyed ReadBuffer n m .state) refl refl refl
+obeys WriteBuffer s n m e = asked WriteBuffer s (obeyed WriteBuffer n m .state) refl e refl
+obeys SetGeometry s n m e = done SetGeometry s _ (geometry-set (reshaped (n .registers .count) (n .registers .address .head) (totalIn n)) n)
+obeys Diagnose s n m e = over Diagnose s (obeyed Diagnose n m .state) refl refl
+obeys Recalibrate s n m e = over Recalibrate s (obeyed Recalibrate n m .state) refl refl
+obeys Seek s n m e = over Seek s (obeyed Seek n m .state) refl (end-asks (soughtEnd (seek (n .registers .address) (n .current) (totalIn n))))
+obeys Sense s n m e = over Sense s (obeyed Sense n m .state) refl refl
+obeys Other s n m e = over Other s (obeyed Other n m .state) refl refl
+
+pub commanded : (v : ℕ) (m : Machine) → MarkRule (CommandWrite (commandOf v)) (m .state) (commandGiven v m .state)
+unfolding commandGiven
+commanded v m = obeys (commandOf v) (m .state) (started (quiet m .state)) (quiet m) refl

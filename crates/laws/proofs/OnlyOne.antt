@@ -1,0 +1,76 @@
+-- A promise that gives the result together with all that was lent determines each of them: no second answer, and no second byte, satisfies it.
+use Prim.Native.Nat.{ℕ}
+use mathlib.Core.Path.{_≡_, ap}
+use mathlib.Core.List.{List}
+use Rattle.ground.proofs.OnlyOne.{only-one}
+use Rattle.sectors.specs.Sectors.{Kept, kept}
+use Rattle.registers.specs.declared.Core.{Core}
+use Rattle.registers.specs.State.{Machine, machine}
+use Rattle.port.specs.declared.Done.{Done}
+use Rattle.commands.specs.declared.Tested.{Tested}
+use Rattle.commands.specs.Before.{StoreTested, storeTested}
+use Rattle.commands.specs.Runs.{Erased, erased}
+use Rattle.port.specs.Data.{Effect, effect}
+use Rattle.card.specs.declared.Reply.{Reply}
+use Rattle.card.specs.declared.Answer.{Answer}
+use Rattle.card.specs.Step.{Stepped, replied}
+use Rattle.card.specs.Doors.{answered}
+
+-- two promises at once
+pub only-both {ℓ κ} : {A : Type ℓ} {B : Type κ} (d r r′ : A) (e s s′ : B) → (r ≡ d) × (s ≡ e) → (r′ ≡ d) × (s′ ≡ e) → (r ≡ r′) × (s ≡ s′)
+only-both d r r′ e s s′ p q = (only-one d r r′ (p .0) (q .0), only-one e s s′ (p .1) (q .1))
+
+pub only-kept : (d : Kept) (s s′ m m′ : List ℕ) → kept s m ≡ d → kept s′ m′ ≡ d → (s ≡ s′) × (m ≡ m′)
+only-kept d s s′ m m′ p q =
+    let e = only-one d (kept s m) (kept s′ m′) p q in
+    (ap (λ (k : Kept). k .store) e, ap (λ (k : Kept). k .marks) e)
+
+pub only-store-tested : (d : StoreTested) (t t′ : Tested) (s s′ m m′ : List ℕ) → storeTested t s m ≡ d → storeTested t′ s′ m′ ≡ d → (t ≡ t′) × (s ≡ s′) × (m ≡ m′)
+only-store-tested d t t′ s s′ m m′ p q =
+    let e = only-one d (storeTested t s m) (storeTested t′ s′ m′) p q in
+    (ap (λ (k : StoreTested). k .tested) e, ap (λ (k : StoreTested). k .store) e, ap (λ (k : StoreTested). k .marks) e)
+
+pub only-erased : (d : Erased) (c c′ : Core) (s s′ m m′ : List ℕ) → erased c s m ≡ d → erased c′ s′ m′ ≡ d → (c ≡ c′) × (s ≡ s′) × (m ≡ m′)
+only-erased d c c′ s s′ m m′ p q =
+    let e = only-one d (erased c s m) (erased c′ s′ m′) p q in
+    (ap (λ (k : Erased). k .core) e, ap (λ (k : Erased). k .store) e, ap (λ (k : Erased). k .marks) e)
+
+-- the result is read back from the whole: its core, or its card, has the phase, the state and the buffer of the machine
+abbrev coreIn : Machine → Core
+coreIn m = record { phase = m .phase; state = m .state }
+
+abbrev doneIn : Effect → Done
+doneIn x = record { outcome = x .outcome; core = coreIn (x .next) }
+
+abbrev replyIn : Stepped → Reply
+replyIn x = record { outcome = x .outcome; line = x .line; core = coreIn (x .next) }
+
+abbrev answerIn : Stepped → Answer
+answerIn x = record { outcome = x .outcome; line = x .line; card = record { phase = x .next .phase; state = x .next .state; buffer = x .next .buffer } }
+
+-- what was lent besides
+abbrev pub Lent : List ℕ → List ℕ → List ℕ → List ℕ → List ℕ → List ℕ → Type 0
+Lent b b′ s s′ m m′ = (b ≡ b′) × (s ≡ s′) × (m ≡ m′)
+
+lent : (x y : Machine) → x ≡ y → Lent (x .buffer) (y .buffer) (x .store) (y .store) (x .marks) (y .marks)
+lent x y e = (ap (λ (n : Machine). n .buffer) e, ap (λ (n : Machine). n .store) e, ap (λ (n : Machine). n .marks) e)
+
+pub only-machine : (d : Machine) (c c′ : Core) (b b′ s s′ m m′ : List ℕ) → machine c b s m ≡ d → machine c′ b′ s′ m′ ≡ d → (c ≡ c′) × Lent b b′ s s′ m m′
+only-machine d c c′ b b′ s s′ m m′ p q =
+    let e = only-one d (machine c b s m) (machine c′ b′ s′ m′) p q in
+    (ap coreIn e, lent (machine c b s m) (machine c′ b′ s′ m′) e)
+
+pub only-effect : (d : Effect) (r r′ : Done) (b b′ s s′ m m′ : List ℕ) → effect r b s m ≡ d → effect r′ b′ s′ m′ ≡ d → (r ≡ r′) × Lent b b′ s s′ m m′
+only-effect d r r′ b b′ s s′ m m′ p q =
+    let e = only-one d (effect r b s m) (effect r′ b′ s′ m′) p q in
+    (ap doneIn e, lent (effect r b s m .next) (effect r′ b′ s′ m′ .next) (ap (λ (x : Effect). x .next) e))
+
+pub only-replied : (d : Stepped) (r r′ : Reply) (b b′ s s′ m m′ : List ℕ) → replied r b s m ≡ d → replied r′ b′ s′ m′ ≡ d → (r ≡ r′) × Lent b b′ s s′ m m′
+only-replied d r r′ b b′ s s′ m m′ p q =
+    let e = only-one d (replied r b s m) (replied r′ b′ s′ m′) p q in
+    (ap replyIn e, lent (replied r b s m .next) (replied r′ b′ s′ m′ .next) (ap (λ (x : Stepped). x .next) e))
+
+pub only-answered : (d : Stepped) (r r′ : Answer) (s s′ m m′ : List ℕ) → answered r s m ≡ d → answered r′ s′ m′ ≡ d → (r ≡ r′) × (s ≡ s′) × (m ≡ m′)
+only-answered d r r′ s s′ m m′ p q =
+    let e = only-one d (answered r s m) (answered r′ s′ m′) p q in
+    (ap answerIn e, ap (λ (x : Stepped). x .next .store) e, ap (λ (x : Stepped). x .next .marks) e)

@@ -1,0 +1,65 @@
+-- A data write changes the sector whose last byte it moves, and nothing else.
+use Prim.Native.Nat.{ℕ}
+use mathlib.Core.Path.{_≡_, refl}
+use mathlib.Core.Bool.{Bool, true, false}
+use mathlib.Core.List.{List, [], _∷_}
+use lib.Dec.{ltb}
+use lib.ListN.{getD}
+use Rattle.ground.specs.Choice.{pick}
+use Rattle.geometry.specs.declared.Spot.{Spot}
+use Rattle.geometry.specs.declared.Located.{Located}
+use Rattle.sectors.specs.Marks.{writable}
+use Rattle.sectors.specs.Sectors.{Kept, kept}
+use Rattle.maps.specs.declared.Port.{Port}
+use Rattle.registers.specs.declared.Load.{Load}
+use Rattle.registers.specs.declared.Load.the-variants.{Sectors, Buffer}
+use Rattle.registers.specs.declared.Transfer.{Transfer}
+use Rattle.registers.specs.declared.Phase.{Phase}
+use Rattle.registers.specs.declared.Phase.the-variants.{Idle, DataIn, DataOut}
+use Rattle.registers.specs.State.{Machine, withBuffer}
+use Rattle.registers.specs.WellMade.{locatedIn}
+use Rattle.commands.specs.declared.End.the-variants.{WriteFault}
+use Rattle.commands.specs.declared.Tested.the-variants.{Sound, Fails}
+use Rattle.port.specs.declared.Take.{Take}
+use Rattle.commands.specs.Before.{testedOf, addressTest, markTested, storeTest, storedBy, sectorStored, StoreTested}
+use Rattle.commands.specs.Steps.{withState, loadWritten}
+use Rattle.port.specs.Halves.{takeOf, partWritten}
+use Rattle.port.specs.Data.{wordWritten, takenWritten, phaseWritten}
+use Rattle.laws.specs.Changes.{changed, keptIn, writes, loadChanges, takenChanges, phaseChanges}
+
+abbrev keptOf : StoreTested → Kept
+keptOf k = kept (k .store) (k .marks)
+
+by-mark : (b : Bool) (spot : Spot) (bytes store marks : List ℕ) → keptOf (storedBy (pick b (Sound spot) (Fails WriteFault)) bytes store marks) ≡ changed (pick b (record { index = spot .index; bytes = bytes } ∷ []) []) (kept store marks)
+unfolding changed
+by-mark true spot bytes store marks = refl
+by-mark false spot bytes store marks = refl
+
+by-address : (l : Located) (bytes store marks : List ℕ) → keptOf (storedBy (markTested writable WriteFault (testedOf l) marks) bytes store marks) ≡ changed (writes l marks bytes []) (kept store marks)
+unfolding changed
+by-address (Located.Good spot) bytes store marks = by-mark (writable (getD marks (spot .index) 0)) spot bytes store marks
+by-address Located.BadHeadOrSector bytes store marks = refl
+by-address Located.BadCylinder bytes store marks = refl
+by-address Located.BadLba bytes store marks = refl
+
+load-written : (l : Load) (bytes : List ℕ) (m : Machine) → keptIn (loadWritten l (withState (m .state) (withBuffer bytes m))) ≡ changed (loadChanges l bytes m) (keptIn m)
+unfolding changed sectorStored storeTest addressTest
+load-written Buffer bytes m = refl
+load-written (Sectors left) bytes m = by-address (locatedIn (m .state)) bytes (m .store) (m .marks)
+
+by-word : (b : Bool) (l : Load) (bytes : List ℕ) (m x : Machine) → keptIn x ≡ keptIn m → keptIn (pick b x (loadWritten l (withState (m .state) (withBuffer bytes m)))) ≡ changed (pick b [] (loadChanges l bytes m)) (keptIn m)
+unfolding changed
+by-word true l bytes m x e = e
+by-word false l bytes m x e = load-written l bytes m
+
+taken-written : (k : Take) (v : ℕ) (t : Transfer) (m : Machine) → keptIn (takenWritten k v t m .next) ≡ changed (takenChanges k v t m) (keptIn m)
+unfolding changed wordWritten
+taken-written Take.Refused v t m = refl
+taken-written (Take.First part) v t m = refl
+taken-written (Take.Last part) v t m = by-word (ltb (t .words) 255) (t .load) (partWritten part (t .words) v (m .buffer)) m _ refl
+
+pub phase-written : (p : Phase) (port : Port) (v : ℕ) (m : Machine) → keptIn (phaseWritten p port v m .next) ≡ changed (phaseChanges p port v m) (keptIn m)
+unfolding changed
+phase-written Idle port v m = refl
+phase-written (DataIn t) port v m = refl
+phase-written (DataOut t) port v m = taken-written (takeOf (t .half) port) v t m

@@ -1,0 +1,161 @@
+-- The sectors that an access changes, whole. 01, "Commands": "a sector is stored, and its mark set to 0, at its last byte only; mark 2: ABRT and DWF";
+-- C0H "as write, storing FFH (H), no data".
+use Prim.Native.Nat.{ℕ, zero, suc, _<_}
+use mathlib.Core.Path.{_≡_}
+use mathlib.Core.Bool.{Bool, true, false}
+use mathlib.Core.List.{List, [], _∷_}
+use lib.Dec.{ltb, eqb}
+use lib.ListN.{length, getD, replicate}
+use Rattle.ground.specs.Choice.{pick}
+use Rattle.geometry.specs.declared.Address.{Address}
+use Rattle.geometry.specs.declared.Geometry.{Geometry}
+use Rattle.geometry.specs.declared.Located.{Located}
+use Rattle.geometry.specs.declared.Located.the-variants.{Good, BadHeadOrSector, BadCylinder, BadLba}
+use Rattle.geometry.specs.Address.{locate}
+use Rattle.geometry.specs.Next.{nextOf}
+use Rattle.sectors.specs.Marks.{writable}
+use Rattle.sectors.specs.Sectors.{Kept, kept, stored}
+use Rattle.maps.specs.declared.Port.{Port}
+use Rattle.maps.specs.declared.Register.{Register}
+use Rattle.maps.specs.declared.Register.the-variants.{ErrorFeature, SectorCount, SectorNumber, CylinderLow, CylinderHigh, DriveHead, StatusCommand, AlternateControl, DriveAddress}
+use Rattle.registers.specs.declared.Load.{Load}
+use Rattle.registers.specs.declared.Load.the-variants.{Sectors, Buffer}
+use Rattle.registers.specs.declared.Transfer.{Transfer}
+use Rattle.registers.specs.declared.Phase.{Phase}
+use Rattle.registers.specs.declared.Phase.the-variants.{Idle, DataIn, DataOut}
+use Rattle.registers.specs.declared.State.{State}
+use Rattle.registers.specs.State.{Machine}
+use Rattle.registers.specs.WellMade.{totalIn, locatedIn}
+use Rattle.port.specs.declared.Take.{Take}
+use Rattle.commands.specs.declared.Command.{Command}
+use Rattle.commands.specs.declared.Command.the-variants.{Read, Write, Verify, Erase, Identify, ReadBuffer, WriteBuffer, SetGeometry, Diagnose, Recalibrate, Seek, Sense, Other}
+use Rattle.port.specs.Halves.{takeOf, partWritten}
+use Rattle.commands.specs.Table.{commandOf}
+use Rattle.card.specs.declared.Meaning.{Meaning}
+use Rattle.card.specs.declared.Meaning.the-variants.{TupleByte, ReadOption, WriteOption, ReadRegister, WriteRegister, ReadData, WriteData}
+
+-- a sector and its 512 bytes
+pub record Change : Type 0 where
+  pub index : ℕ
+  pub bytes : List ℕ
+
+-- one after the other: the 512 bytes from 512 times the index, and the mark set to 0
+unfoldable pub changed : List Change → Kept → Kept
+changed [] k = k
+changed (c ∷ l) k = changed l (stored (k .store) (k .marks) (c .index) (c .bytes))
+
+abbrev pub keptIn : Machine → Kept
+keptIn m = kept (m .store) (m .marks)
+
+-- each is one of the card's sectors, and whole
+abbrev pub Whole : ℕ → List Change → Type 0
+Whole total [] = Unit {0}
+Whole total (c ∷ l) = (c .index < total) × (length (c .bytes) ≡ 512) × Whole total l
+
+-- the sector of an address, where there is one and its mark lets it be written, and what comes after it
+abbrev pub writes : Located → List ℕ → List ℕ → List Change → List Change
+writes (Good spot) marks bytes rest = pick (writable (getD marks (spot .index) 0)) (record { index = spot .index; bytes = bytes } ∷ rest) []
+writes BadHeadOrSector marks bytes rest = []
+writes BadCylinder marks bytes rest = []
+writes BadLba marks bytes rest = []
+
+-- C0H: sector after sector, until none is left or one cannot be written
+unfoldable pub erasures : ℕ → Address → Geometry → ℕ → List ℕ → List Change
+erasures zero a g total marks = []
+erasures (suc n) a g total marks = writes (locate a g total) marks (replicate 512 0xFF) (erasures n (nextOf a g) g total marks)
+
+-- "Count 0 means 256."
+abbrev pub sectorsAsked : ℕ → ℕ
+sectorsAsked count = pick (eqb count 0) 256 count
+
+abbrev pub commandChanges : Command → State → List ℕ → List Change
+commandChanges Read s marks = []
+commandChanges Write s marks = []
+commandChanges Verify s marks = []
+commandChanges Erase s marks = erasures (sectorsAsked (s .registers .count)) (s .registers .address) (s .current) (totalIn s) marks
+commandChanges Identify s marks = []
+commandChanges ReadBuffer s marks = []
+commandChanges WriteBuffer s marks = []
+commandChanges SetGeometry s marks = []
+commandChanges Diagnose s marks = []
+commandChanges Recalibrate s marks = []
+commandChanges Seek s marks = []
+commandChanges Sense s marks = []
+commandChanges Other s marks = []
+
+-- a Command write in a Device Control hold has no effect
+abbrev pub registerChanges : Register → ℕ → Machine → List Change
+registerChanges ErrorFeature v m = []
+registerChanges SectorCount v m = []
+registerChanges SectorNumber v m = []
+registerChanges CylinderLow v m = []
+registerChanges CylinderHigh v m = []
+registerChanges DriveHead v m = []
+registerChanges StatusCommand v m = pick (m .state .control .held) [] (commandChanges (commandOf v) (m .state) (m .marks))
+registerChanges AlternateControl v m = []
+registerChanges DriveAddress v m = []
+
+-- the sector of the address registers, in a transfer of sectors and not of the buffer
+abbrev pub loadChanges : Load → List ℕ → Machine → List Change
+loadChanges Buffer bytes m = []
+loadChanges (Sectors left) bytes m = writes (locatedIn (m .state)) (m .marks) bytes []
+
+-- a write that makes the last of the 256 words whole stores the buffer, with what it writes in it
+abbrev pub takenChanges : Take → ℕ → Transfer → Machine → List Change
+takenChanges Take.Refused v t m = []
+takenChanges (Take.First part) v t m = []
+takenChanges (Take.Last part) v t m = pick (ltb (t .words) 255) [] (loadChanges (t .load) (partWritten part (t .words) v (m .buffer)) m)
+
+abbrev pub phaseChanges : Phase → Port → ℕ → Machine → List Change
+phaseChanges Idle port v m = []
+phaseChanges (DataIn t) port v m = []
+phaseChanges (DataOut t) port v m = takenChanges (takeOf (t .half) port) v t m
+
+unfoldable pub changes : Meaning → Machine → List Change
+changes (Meaning.Refused r) m = []
+changes (TupleByte b) m = []
+changes ReadOption m = []
+changes (WriteOption v) m = []
+changes (ReadRegister r) m = []
+changes (WriteRegister r v) m = registerChanges r v m
+changes (ReadData port) m = []
+changes (WriteData port v) m = pick (m .state .control .held) [] (phaseChanges (m .phase) port v m)
+
+-- ---- which accesses may change a sector at all
+
+abbrev pub erases : Command → Bool
+erases Read = false
+erases Write = false
+erases Verify = false
+erases Erase = true
+erases Identify = false
+erases ReadBuffer = false
+erases WriteBuffer = false
+erases SetGeometry = false
+erases Diagnose = false
+erases Recalibrate = false
+erases Seek = false
+erases Sense = false
+erases Other = false
+
+abbrev pub commands : Register → ℕ → Bool
+commands ErrorFeature v = false
+commands SectorCount v = false
+commands SectorNumber v = false
+commands CylinderLow v = false
+commands CylinderHigh v = false
+commands DriveHead v = false
+commands StatusCommand v = erases (commandOf v)
+commands AlternateControl v = false
+commands DriveAddress v = false
+
+-- a data write, or the command C0H
+abbrev pub mayChange : Meaning → Bool
+mayChange (Meaning.Refused r) = false
+mayChange (TupleByte b) = false
+mayChange ReadOption = false
+mayChange (WriteOption v) = false
+mayChange (ReadRegister r) = false
+mayChange (WriteRegister r v) = commands r v
+mayChange (ReadData port) = false
+mayChange (WriteData port v) = true

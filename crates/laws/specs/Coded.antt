@@ -1,0 +1,21 @@
+-- No error without a code: "Idle 50H, data 58H, error 51H, write fault 71H", and each error of the command table has its code.
+use Prim.Native.Nat.{ℕ}
+use mathlib.Core.Path.{_≡_}
+use mathlib.Core.Bool.{Bool, true}
+use mathlib.Core.List.{List, [], _∷_}
+use lib.Dec.{eqb}
+use Rattle.ground.specs.Choice.{pick}
+use Rattle.registers.specs.declared.State.{State}
+use Rattle.card.specs.Step.{Stepped}
+
+-- "ends in error" is read off Status
+abbrev pub inError : ℕ → Bool
+inError status = pick (eqb status 0x51) true (eqb status 0x71)
+
+abbrev pub Coded : State → Type 0
+Coded s = inError (s .registers .status) ≡ true → s .code ≡ 0 → ⊥
+
+-- after each access of a list
+abbrev pub AllCoded : List Stepped → Type 0
+AllCoded [] = Unit {0}
+AllCoded (s ∷ l) = Coded (s .next .state) × AllCoded l

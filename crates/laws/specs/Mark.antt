@@ -1,0 +1,150 @@
+-- 01, "Interrupt mark". What sets and what clears it is read off the access, the command table's row, and Status and Sector Count before and after.
+use Prim.Native.Nat.{ℕ, _/_, _%_}
+use mathlib.Core.Path.{_≡_}
+use mathlib.Core.Bool.{Bool, true, false, not, _&&_, _||_}
+use lib.Dec.{eqb, leb}
+use Rattle.ground.specs.Choice.{pick}
+use Rattle.maps.specs.declared.Register.{Register}
+use Rattle.maps.specs.declared.Register.the-variants.{ErrorFeature, SectorCount, SectorNumber, CylinderLow, CylinderHigh, DriveHead, StatusCommand, AlternateControl, DriveAddress}
+use Rattle.registers.specs.declared.State.{State}
+use Rattle.commands.specs.declared.Command.{Command}
+use Rattle.commands.specs.declared.Command.the-variants.{Read, Write, Verify, Erase, Identify, ReadBuffer, WriteBuffer, SetGeometry, Diagnose, Recalibrate, Seek, Sense, Other}
+use Rattle.commands.specs.Table.{commandOf}
+use Rattle.card.specs.declared.Meaning.{Meaning}
+use Rattle.card.specs.declared.Meaning.the-variants.{TupleByte, ReadOption, WriteOption, ReadRegister, WriteRegister, ReadData, WriteData}
+
+-- ---- the accesses that the paragraph speaks of
+
+pub data Act : Type 0 where
+  StatusRead : Act
+  CommandWrite : Command → Act
+  ControlWrite : ℕ → Act
+  OptionWrite : ℕ → Act
+  DataRead : Act
+  DataWrite : Act
+  NoMatter : Act
+
+-- Alternate Status is another register than Status
+abbrev pub readAct : Register → Act
+readAct ErrorFeature = NoMatter
+readAct SectorCount = NoMatter
+readAct SectorNumber = NoMatter
+readAct CylinderLow = NoMatter
+readAct CylinderHigh = NoMatter
+readAct DriveHead = NoMatter
+readAct StatusCommand = StatusRead
+readAct AlternateControl = NoMatter
+readAct DriveAddress = NoMatter
+
+-- a Command write in a Device Control hold has no effect
+abbrev pub writeAct : Register → ℕ → Bool → Act
+writeAct ErrorFeature v held = NoMatter
+writeAct SectorCount v held = NoMatter
+writeAct SectorNumber v held = NoMatter
+writeAct CylinderLow v held = NoMatter
+writeAct CylinderHigh v held = NoMatter
+writeAct DriveHead v held = NoMatter
+writeAct StatusCommand v held = pick held NoMatter (CommandWrite (commandOf v))
+writeAct AlternateControl v held = ControlWrite v
+writeAct DriveAddress v held = NoMatter
+
+abbrev pub actOf : Meaning → Bool → Act
+actOf (Meaning.Refused r) held = NoMatter
+actOf (TupleByte b) held = NoMatter
+actOf ReadOption held = NoMatter
+actOf (WriteOption v) held = OptionWrite v
+actOf (ReadRegister r) held = readAct r
+actOf (WriteRegister r v) held = writeAct r v held
+actOf (ReadData port) held = DataRead
+actOf (WriteData port v) held = DataWrite
+
+-- ---- what a host sees
+
+-- Status 58H: a sector or the buffer is ready, or asked for
+abbrev pub asks : State → Bool
+asks s = eqb (s .registers .status) 0x58
+
+-- another sector's turn: Sector Count holds the sectors left, the present one included
+abbrev pub another : State → State → Bool
+another s n = not (eqb (s .registers .count) (n .registers .count))
+
+-- the rows that read data
+abbrev pub readsRow : Command → Bool
+readsRow Read = true
+readsRow Write = false
+readsRow Verify = false
+readsRow Erase = false
+readsRow Identify = true
+readsRow ReadBuffer = true
+readsRow WriteBuffer = false
+readsRow SetGeometry = false
+readsRow Diagnose = false
+readsRow Recalibrate = false
+readsRow Seek = false
+readsRow Sense = false
+readsRow Other = false
+
+-- ---- "set when a read sector or buffer becomes ready"
+
+abbrev pub becomesReady : Act → State → State → Bool
+becomesReady StatusRead s n = false
+becomesReady (CommandWrite c) s n = asks n && readsRow c
+becomesReady (ControlWrite v) s n = false
+becomesReady (OptionWrite v) s n = false
+becomesReady DataRead s n = asks s && (asks n && another s n)
+becomesReady DataWrite s n = false
+becomesReady NoMatter s n = false
+
+-- "when a second or later write sector is asked for"
+abbrev pub askedAgain : Act → State → State → Bool
+askedAgain StatusRead s n = false
+askedAgain (CommandWrite c) s n = false
+askedAgain (ControlWrite v) s n = false
+askedAgain (OptionWrite v) s n = false
+askedAgain DataRead s n = false
+askedAgain DataWrite s n = asks s && (asks n && another s n)
+askedAgain NoMatter s n = false
+
+-- "and at each command end": a Command write after which no data is asked for, or the data access after which none is any more
+abbrev pub commandEnds : Act → State → State → Bool
+commandEnds StatusRead s n = false
+commandEnds (CommandWrite c) s n = not (asks n)
+commandEnds (ControlWrite v) s n = false
+commandEnds (OptionWrite v) s n = false
+commandEnds DataRead s n = asks s && not (asks n)
+commandEnds DataWrite s n = asks s && not (asks n)
+commandEnds NoMatter s n = false
+
+-- "except a good end of reading data": Status 50H after a data read
+abbrev pub goodReading : Act → State → Bool
+goodReading StatusRead n = false
+goodReading (CommandWrite c) n = false
+goodReading (ControlWrite v) n = false
+goodReading (OptionWrite v) n = false
+goodReading DataRead n = eqb (n .registers .status) 0x50
+goodReading DataWrite n = false
+goodReading NoMatter n = false
+
+unfoldable pub sets : Act → State → State → Bool
+sets x s n = becomesReady x s n || (askedAgain x s n || (commandEnds x s n && not (goodReading x n)))
+
+-- ---- "Cleared by entering or leaving a reset, by reading Status and by a Command write"
+
+abbrev pub differ : Bool → Bool → Bool
+differ true b = not b
+differ false b = b
+
+unfoldable pub clears : Act → State → Bool
+clears StatusRead s = true
+clears (CommandWrite c) s = true
+-- bit 2 is written unlike it was held
+clears (ControlWrite v) s = differ (eqb (v / 4 % 2) 1) (s .control .held)
+-- bit 7 is written unlike it was
+clears (OptionWrite v) s = differ (leb 128 v) (leb 128 (s .option))
+clears DataRead s = false
+clears DataWrite s = false
+clears NoMatter s = false
+
+-- the mark after an access: it is cleared "before the command's own effect"
+abbrev pub MarkRule : Act → State → State → Type 0
+MarkRule x s n = n .mark ≡ (sets x s n || (s .mark && not (clears x s)))
