@@ -4,7 +4,7 @@
 --     bounds        the reader's count is within the entries and within the list, where it is not 0 the buffer has 256 bytes, and the list that has so many entries is the reader's
 use mathlib.Core.Path.{_≡_, refl, sym, ap}
 use mathlib.Core.Bool.{Bool, true, false}
-use mathlib.Core.List.{List, [], _∷_, _++_}
+use mathlib.Core.List.{List, _∷_, _++_, []}
 use Prim.Native.Nat.{ℕ, zero, suc, _+_, _*_, _<_, _≤_}
 use native.Mathlib.Omega.{arith}
 use lib.ListN.{length, take, drop}
@@ -69,6 +69,7 @@ by-end s ls h l true e =
 by-end s ls h l false e = of-none s ls ChainBroken
 
 by-places : (s : List ℕ) (ls : List Entry) → length s ≡ 256 → (t : Bool) → leb 127 (length ls) ≡ t → Bounds s ls (pick t (counted (chainAt s 0)) (Refused ListTooShort))
+unfolding counted
 by-places s ls h true e = by-end s ls h (leb-true 127 (length ls) e) (chainAt s 0 .ended) refl
 by-places s ls h false e = of-none s ls ListTooShort
 

@@ -4,7 +4,7 @@
 --     forward       a step goes forward
 use mathlib.Core.Path.{_≡_, refl, sym, _∙_, ap}
 use mathlib.Core.Bool.{Bool, true, false}
-use mathlib.Core.List.{List, [], _∷_}
+use mathlib.Core.List.{List, _∷_, []}
 use Prim.Native.Nat.{ℕ, zero, suc, _+_, _<_, _≤_}
 use native.Mathlib.Omega.{arith}
 use native.Mathlib.Nat.{add-zero}
@@ -109,6 +109,7 @@ by-next s at h true e = inner s at (ltb-true (at + 1) (length s) e)
 by-next s at h false e = last s at h (ltb-false (at + 1) (length s) e)
 
 by-place : (s : List ℕ) (at : ℕ) (t : Bool) → ltb at (length s) ≡ t → chainAt s at ≡ after s at (stepAt s at)
+unfolding stepAt
 by-place s at true e = rw e (by-next s at (ltb-true at (length s) e) (ltb (at + 1) (length s)) refl)
 by-place s at false e = rw e (past s at (ltb-false at (length s) e))
 
@@ -131,6 +132,7 @@ less-pick at true a b p q = p
 less-pick at false a b p q = q
 
 pub forward : (s : List ℕ) (at : ℕ) → at < ahead (stepAt s at) (at + 1)
+unfolding stepAt
 forward s at =
     let one : at < at + 1 = omega arith in
     let more : at < at + 2 + getD s (at + 1) 0 = omega arith in

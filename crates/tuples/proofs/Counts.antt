@@ -19,6 +19,7 @@ abbrev pub added : ℕ → Chain → Outcome
 added n c = pick (c .ended) (Accepted (n + length (c .entries))) (Refused ChainBroken)
 
 pub added-none : (c : Chain) → added 0 c ≡ counted c
+unfolding counted
 added-none c = let e : 0 + length (c .entries) ≡ length (c .entries) = omega arith in ap (λ (n : ℕ). pick (c .ended) (Accepted n) (Refused ChainBroken)) e
 
 pub counts : (s : List ℕ) (at n : ℕ) (e : Entry) → stepAt s at ≡ Tuple e → added (n + 1) (chainAt s (endOf e)) ≡ added n (chainAt s at)

@@ -4,18 +4,18 @@
 --     back-refused, back-written      a refused reading is the answer, and else the writing of the entries read
 use mathlib.Core.Path.{_≡_, refl, sym, _∙_, ap}
 use mathlib.Core.Bool.{Bool, true, false}
-use mathlib.Core.List.{List, [], _∷_, _++_}
-use Prim.Native.Nat.{ℕ, zero, suc, _+_, _-_, _<_, _≤_}
+use mathlib.Core.List.{List, _∷_, _++_, []}
+use Prim.Native.Nat.{ℕ, zero, suc, _<_, _≤_, _-_}
 use native.Mathlib.Omega.{arith}
 use lib.ListN.{length, getD, take, drop, set, replicate, length-replicate}
 use lib.Seq.{take-at, take-suc-set}
-use lib.Dec.{ltb, leb, eqb}
+use lib.Dec.{ltb}
 use borrow.Author.Tests.{ltb-false, ne-eqb}
 use Rattle.ground.specs.Choice.{pick}
 use Rattle.answers.specs.Answers.{outcomeValue}
 use Rattle.answers.specs.declared.Outcome.{Outcome}
 use Rattle.answers.specs.declared.Outcome.the-variants.{Accepted, Refused}
-use Rattle.tuples.specs.Chain.{noEntry, chainAt}
+use Rattle.tuples.specs.Chain.{noEntry}
 use Rattle.tuples.specs.Read.{readOutcome, readList, filled, unlessRefused, refused, handed, heldAfter, atMost}
 use Rattle.tuples.specs.Write.{made, lastPlace, Writes, WritesBack, writeOutcome, backOutcome, filledUp, tupleBytes}
 use Rattle.tuples.specs.declared.Entry.{Entry}
@@ -69,6 +69,7 @@ by-number es i x h false e =
 
 -- in an array of 256, of which the first m places were lent, all numbers from 255 on name the last place
 held-place : (s : List ℕ) (m i : ℕ) (x : Entry) → getD (readList s (replicate m x) ++ replicate (256 - m) x) (atMost i 255) x ≡ getD (readList s (replicate m x)) i x
+unfolding atMost
 held-place s m i x =
     getD-rep (readList s (replicate m x)) (256 - m) (atMost i 255) x
     ∙ place-holds s m (atMost i 255) x
@@ -92,11 +93,12 @@ module _ (s : List ℕ) (places i m p : ℕ) (x : Entry) (ls zs : List Entry) (e
       ∙ ap (λ (j : ℕ). getD (readList s (replicate j x)) i x) em
 
 pub handed-held : (s : List ℕ) (i : ℕ) → heldAfter s 127 noEntry i ≡ handed s i
+unfolding atMost
 handed-held s i = λ j. record { outcome = readOutcome s 127; entry = place-holds s 127 i noEntry j }
 
 -- ---- a list that was made
 pub made-is : (n : ℕ) (e f : Entry) → n ≤ 256 → take n (set (replicate 256 e) (lastPlace n) f) ≡ made n e f
-unfolding made
+unfolding made lastPlace
 made-is zero e f h = refl
 made-is (suc j) e f h =
     let less : j < length (replicate 256 e) = omega (arith, length-replicate 256 e) in

@@ -3,8 +3,8 @@
 --     Filling       k of n entries are written over ls, and the chain's other entries are those from `at` on; `start`, `more`: none is written; one more is
 use mathlib.Core.Path.{_≡_, refl, sym, _∙_, ap}
 use mathlib.Core.Bool.{Bool, true, false}
-use mathlib.Core.List.{List, [], _∷_, _++_}
-use Prim.Native.Nat.{ℕ, zero, suc, _+_, _^_, _<_, _≤_}
+use mathlib.Core.List.{List, _∷_, _++_, []}
+use Prim.Native.Nat.{ℕ, suc, _+_, _^_, _<_, _≤_}
 use native.Mathlib.Omega.{arith}
 use native.Mathlib.Numerals.{add-one}
 use lib.ListN.{length, getD, take, drop, set}

@@ -32,6 +32,7 @@ pub record Good (bs : List ℕ) (e : Entry) : Type 0 where
   pub inside : e .start + e .length ≤ length bs
 
 pub is-good : (bs : List ℕ) (e : Entry) → good bs e ≡ true → Good bs e
+unfolding good
 is-good bs e p =
     let a = not-first (eqb (e .code) 0) _ p in
     let b = not-first (eqb (e .code) 255) _ (a .1) in

@@ -1,7 +1,7 @@
 -- A link FFH would need 255 bytes of body after it, and 256 have at most 254 left: so the reader refuses the chain with 13.
 use mathlib.Core.Path.{_≡_, refl, sym, _∙_}
 use mathlib.Core.Bool.{Bool, true, false}
-use mathlib.Core.List.{List, [], _∷_}
+use mathlib.Core.List.{List, _∷_, []}
 use Prim.Native.Nat.{ℕ, zero, suc, _+_, _≤_, _<_}
 use native.Mathlib.Omega.{arith}
 use lib.ListN.{length}
@@ -12,7 +12,7 @@ use Rattle.answers.specs.declared.Outcome.{Outcome}
 use Rattle.answers.specs.declared.Outcome.the-variants.{Refused}
 use Rattle.answers.specs.declared.Refusal.the-variants.{ChainBroken}
 use Rattle.tuples.specs.Chain.{Chain, stop, grow, entry, chainFrom, linkFF}
-use Rattle.tuples.specs.Read.{readOutcome, Reads}
+use Rattle.tuples.specs.Read.{readOutcome, counted, Reads}
 use Rattle.tuples.specs.declared.Entry.{Entry}
 use Rattle.tuples.proofs.Chains.{yes-no}
 
@@ -36,5 +36,5 @@ ff-breaks zero (b ∷ (n ∷ r)) at l p =
     (ff-breaks 0 (n ∷ r) (at + 1) (omega arith)) (ff-breaks n r (at + 2) (omega arith)) p
 
 pub link-ff : (s : List ℕ) (ls : List Entry) (r : Outcome) (zs : List Entry) → Reads s ls r zs → length s ≡ 256 → 127 ≤ length ls → linkFF 0 s ≡ true → r ≡ Refused ChainBroken
-unfolding readOutcome
+unfolding readOutcome counted
 link-ff s ls r zs e h l p = let few : length s ≤ 256 = omega arith in e .0 ∙ simp (eq-eqb _ _ h, le-leb _ _ l, ff-breaks 0 s 0 few p)

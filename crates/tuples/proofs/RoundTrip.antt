@@ -4,8 +4,8 @@
 --     back        a chain's tuples, written over its own bytes, are the chain up to its end mark, null tuples dropped; none of them is bad, and they fit
 use mathlib.Core.Path.{_≡_, refl, sym, _∙_, ap}
 use mathlib.Core.Bool.{Bool, true, false}
-use mathlib.Core.List.{List, [], _∷_, _++_, map, append-assoc}
-use Prim.Native.Nat.{ℕ, zero, suc, _+_, _-_, _≤_, _<_}
+use mathlib.Core.List.{List, _∷_, _++_, map, append-assoc, []}
+use Prim.Native.Nat.{ℕ, zero, suc, _+_, _≤_}
 use native.Mathlib.Omega.{arith}
 use lib.ListN.{length, take, drop, replicate, length-append, length-drop}
 use lib.Seq.{length-take-le, drop-at, take-at, drop-drop}
@@ -93,7 +93,7 @@ pub record Back (s : List ℕ) (k : ℕ) (r : List ℕ) (es : List Entry) : Type
 
 -- a tuple in front
 in-front : (s : List ℕ) (at b n : ℕ) (r : List ℕ) (fs : List Entry) → eqb b 255 ≡ false → eqb b 0 ≡ false → drop (at + 2) s ≡ r → Back s n r fs → Back s 0 (b ∷ (n ∷ r)) (entry b (at + 2) n ∷ fs)
-unfolding nullsDropped tupleBytes allGood
+unfolding nullsDropped tupleBytes allGood good
 in-front s at b n r fs h255 h0 d back =
     let room : n ≤ length r = omega (arith, back .short) in
     let long : length (bodyOf s (entry b (at + 2) n)) ≡ n = ap (λ (l : List ℕ). length (take n l)) d ∙ length-take-le n r room in

@@ -4,8 +4,8 @@
 --     most-read               at most 127 entries in 256 bytes
 use mathlib.Core.Path.{_≡_, refl, sym, _∙_, ap, subst}
 use mathlib.Core.Bool.{Bool, true, false}
-use mathlib.Core.List.{List, [], _∷_, _++_, map}
-use Prim.Native.Nat.{ℕ, suc, _-_, _≤_}
+use mathlib.Core.List.{List, _++_, map, []}
+use Prim.Native.Nat.{ℕ, suc, _≤_, _-_}
 use native.Mathlib.Omega.{arith}
 use lib.ListN.{length, take, drop, replicate, length-append, length-replicate}
 use lib.Seq.{take-at}
@@ -39,7 +39,7 @@ read-by s places n true false v a b c p = not-both ListTooShort n p
 read-by s places n false u v a b c p = not-both TupleBufferLength n p
 
 pub read-well : (s : List ℕ) (places n : ℕ) → readOutcome s places ≡ Accepted n → ReadWell s places n
-unfolding readOutcome
+unfolding readOutcome counted
 read-well s places n p = read-by s places n (eqb (length s) 256) (leb 127 places) (chainAt s 0 .ended) refl refl refl p
 
 pub record WrittenWell (bs : List ℕ) (es : List Entry) : Type 0 where
@@ -81,7 +81,7 @@ SameTuples bs es z r zs = (r ≡ Accepted (length es)) × ((codes (take (length 
 
 of-page : (bs : List ℕ) (es ls : List Entry) (r : Outcome) (zs : List Entry) → allGood bs es ≡ true → length (tupleBytes bs es) ≤ 255 → 127 ≤ length ls
     → Reads (filledUp (tupleBytes bs es)) ls r zs → SameTuples bs es (filledUp (tupleBytes bs es)) r zs
-unfolding readOutcome
+unfolding readOutcome counted
 of-page bs es ls r zs g h l e =
     let z = filledUp (tupleBytes bs es) in
     let c = written-chain bs es g h in
@@ -117,7 +117,7 @@ read-then-written-back s ls r zs e n p out r′ z lo w =
     of-chain s out r′ z (ok .sized) (ok .ended) lo (subst (λ (es : List Entry). Writes s es out r′ z) (entries-first s ls r zs e n p) w)
 
 pub door-written-back : (s out : List ℕ) (r : Outcome) (z : List ℕ) → WritesBack s out r z → length s ≡ 256 → chainAt s 0 .ended ≡ true → length out ≡ 256 → Plain s r z
-unfolding readOutcome
+unfolding readOutcome counted
 door-written-back s out r z w ls c lo =
     let o : readOutcome s 127 ≡ Accepted (length (all s)) = simp (eq-eqb _ _ ls, c) in
     let b : backOutcome s (length out) ≡ writeOutcome s (all s) (length out) = ap (λ (o : Outcome). unlessRefused o (writeOutcome s (all s) (length out)) o) o in

@@ -1,7 +1,7 @@
 -- 01, "Tuples": the chain of tuples that a buffer holds.
 use Prim.Native.Nat.{ℕ, zero, suc, _+_}
 use mathlib.Core.Bool.{Bool, true, false}
-use mathlib.Core.List.{List, [], _∷_}
+use mathlib.Core.List.{List, _∷_, []}
 use lib.ListN.{length, getD, drop}
 use lib.Dec.{ltb, leb, eqb}
 use Rattle.ground.specs.Choice.{pick}
@@ -49,7 +49,7 @@ abbrev pub chainAt : List ℕ → ℕ → Chain
 chainAt s at = chainFrom 0 (drop at s) at
 
 -- one step: what stands at a place
-abbrev pub stepAt : List ℕ → ℕ → Step
+unfoldable pub stepAt : List ℕ → ℕ → Step
 stepAt s at =
     pick (ltb at (length s))
     (pick (eqb (getD s at 0) 255) End

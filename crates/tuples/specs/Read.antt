@@ -2,7 +2,7 @@
 use Prim.Native.Nat.{ℕ}
 use mathlib.Core.Path.{_≡_}
 use mathlib.Core.Bool.{Bool, true, false}
-use mathlib.Core.List.{List, [], _++_}
+use mathlib.Core.List.{List, _++_, []}
 use lib.ListN.{length, getD, drop, replicate}
 use lib.Dec.{leb, ltb, eqb}
 use Rattle.ground.specs.Choice.{pick}
@@ -16,7 +16,7 @@ use Rattle.tuples.specs.declared.Handed.{Handed}
 use Rattle.tuples.specs.Chain.{Chain, chainAt, noEntry}
 
 -- "The reader's value is its entry count"; "tuple chain runs past byte 255 or has no end mark"
-abbrev pub counted : Chain → Outcome
+unfoldable pub counted : Chain → Outcome
 counted c = pick (c .ended) (Accepted (length (c .entries))) (Refused ChainBroken)
 
 -- "Tuple reading checks 5, 16, 13."
@@ -54,7 +54,7 @@ entryAt s i = getD (unlessRefused (readOutcome s 127) (chainAt s 0 .entries) [])
 abbrev pub handed : List ℕ → ℕ → Handed
 handed s i = record { outcome = readOutcome s 127; entry = entryAt s i }
 
-abbrev pub atMost : ℕ → ℕ → ℕ
+unfoldable pub atMost : ℕ → ℕ → ℕ
 atMost n most = pick (ltb n most) n most
 
 -- what the place of a number holds after a list of so many places, at most 256, that all held one entry was read into

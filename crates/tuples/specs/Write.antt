@@ -2,7 +2,7 @@
 use Prim.Native.Nat.{ℕ, zero, suc, _+_, _-_}
 use mathlib.Core.Path.{_≡_}
 use mathlib.Core.Bool.{Bool, true, false}
-use mathlib.Core.List.{List, [], _∷_, _++_}
+use mathlib.Core.List.{List, _∷_, _++_, []}
 use lib.ListN.{length, take, drop, replicate}
 use lib.Dec.{leb, eqb}
 use Rattle.ground.specs.Choice.{pick}
@@ -18,7 +18,7 @@ abbrev pub bodyOf : List ℕ → Entry → List ℕ
 bodyOf bs e = take (e .length) (drop (e .start) bs)
 
 -- not "a tuple to be written has code 00H or FFH, or its body lies outside the lent bytes"
-abbrev pub good : List ℕ → Entry → Bool
+unfoldable pub good : List ℕ → Entry → Bool
 good bs e = pick (eqb (e .code) 0) false (pick (eqb (e .code) 255) false (leb (e .start + e .length) (length bs)))
 
 unfoldable pub allGood : List ℕ → List Entry → Bool
@@ -54,7 +54,7 @@ made zero e f = []
 made (suc n) e f = replicate n e ++ (f ∷ [])
 
 -- its last place; of none, a place outside it
-abbrev pub lastPlace : ℕ → ℕ
+unfoldable pub lastPlace : ℕ → ℕ
 lastPlace n = pick (eqb n 0) 255 (n - 1)
 
 -- a chain is read, and where that is not refused, its entries are written over the same bytes

@@ -106,7 +106,14 @@ fn read_outcome(buffer: &[u8], places: usize) -> Outcome
     count_tuples(buffer)
 }
 
-// An answer, and the number of entries that it speaks of.
+// The number of entries that an answer speaks of.
+fn count_of(outcome: Outcome) -> usize
+    ensures { λ r. ⌜ r ≡ outcomeValue outcome ⌝ }
+{
+    outcome.value() as usize
+}
+
+// An answer, and that number.
 struct Checked {
     outcome: Outcome,
     count: usize,
@@ -119,7 +126,7 @@ fn check_read(buffer: &[u8], places: usize) -> Checked
     let outcome = read_outcome(buffer, places);
     Checked {
         outcome: outcome,
-        count: outcome.value() as usize,
+        count: count_of(outcome),
     }
 }
 
@@ -361,6 +368,7 @@ pub fn tuple_at(buffer: &[u8], number: usize) -> Handed
     read_held(buffer, 127, none, number)
 }
 
+// Whether an answer is a refusal.
 fn is_refused(outcome: Outcome) -> bool
     ensures { λ r. ⌜ r ≡ refused outcome ⌝ }
 {
@@ -368,12 +376,6 @@ fn is_refused(outcome: Outcome) -> bool
         Outcome::Accepted(_) => false,
         Outcome::Refused(_) => true,
     }
-}
-
-fn count_of(outcome: Outcome) -> usize
-    ensures { λ r. ⌜ r ≡ outcomeValue outcome ⌝ }
-{
-    outcome.value() as usize
 }
 
 // A chain is read, and written back over the same bytes: null tuples are dropped.

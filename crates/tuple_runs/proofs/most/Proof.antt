@@ -1,6 +1,5 @@
 use borrow.Author.Needs.{needs}
 use Prim.Native.Nat.{_≤_, _-_}
-use lib.ListN.{length}
 use Rattle.tuple_runs.proofs.most.Statement.{statement}
 use Rattle.tuple_runs.proofs.most.Tie as tie
 use Rattle.tuple_runs.proofs.most.Reads as reads
@@ -13,43 +12,33 @@ Inv-loop p₀ i₀ p i = i ≤ 127
 abbrev μ-loop : tie.MeasureT-loop
 μ-loop p₀ i₀ p i = 127 - i
 
--- src/main.rt:201:22
 slice-aggregate-page : tie.Need-slice-aggregate-page Inv-loop μ-loop
 slice-aggregate-page c = search needs
 
--- src/main.rt:201:17
 page-requires : tie.Need-page-requires Inv-loop μ-loop
 page-requires c κs = search needs
 
--- src/main.rt:203:5
 loop-holds : tie.Need-loop-holds Inv-loop μ-loop
 loop-holds c = search needs
 
--- src/main.rt:204:11
 mul-p : tie.Need-mul-p Inv-loop μ-loop
 mul-p c = search needs
 
--- src/main.rt:204:9
 array-write-p : tie.Need-array-write-p Inv-loop μ-loop
 array-write-p c = search needs
 
--- src/main.rt:205:9
 add-i : tie.Need-add-i Inv-loop μ-loop
 add-i c = search needs
 
--- src/main.rt:203:5
 loop-less : tie.Need-loop-less Inv-loop μ-loop
 loop-less c = search needs
 
--- src/main.rt:203:5
 loop-again : tie.Need-loop-again Inv-loop μ-loop
 loop-again c = search needs
 
--- src/main.rt:207:5
 array-write-p-2 : tie.Need-array-write-p-2 Inv-loop μ-loop
 array-write-p-2 c = search needs
 
--- src/main.rt:200:1
 returns : tie.Need-returns Inv-loop μ-loop
 returns c = search needs
 

@@ -1,6 +1,5 @@
 use borrow.Author.Needs.{needs}
 use Prim.Native.Nat.{_≤_, _-_}
-use lib.ListN.{length}
 use Rattle.tuple_runs.proofs.page.Statement.{statement}
 use Rattle.tuple_runs.proofs.page.Tie as tie
 use Rattle.tuple_runs.proofs.page.Reads as reads
@@ -12,31 +11,24 @@ Inv-loop given rest p₀ i₀ p i = i ≤ 256
 abbrev μ-loop : tie.MeasureT-loop
 μ-loop given rest p₀ i₀ p i = 256 - i
 
--- src/main.rt:41:5
 loop-holds : tie.Need-loop-holds Inv-loop μ-loop
 loop-holds c = search needs
 
--- src/main.rt:43:20
 shared-slice-read-p : tie.Need-shared-slice-read-p Inv-loop μ-loop
 shared-slice-read-p c = search needs
 
--- src/main.rt:43:13
 array-write-p : tie.Need-array-write-p Inv-loop μ-loop
 array-write-p c = search needs
 
--- src/main.rt:45:9
 add-i : tie.Need-add-i Inv-loop μ-loop
 add-i c = search needs
 
--- src/main.rt:41:5
 loop-less : tie.Need-loop-less Inv-loop μ-loop
 loop-less c = search needs
 
--- src/main.rt:41:5
 loop-again : tie.Need-loop-again Inv-loop μ-loop
 loop-again c = search needs
 
--- src/main.rt:38:1
 returns : tie.Need-returns Inv-loop μ-loop
 returns c = search needs
 

@@ -1,6 +1,5 @@
 use borrow.Author.Needs.{needs}
 use Prim.Native.Nat.{_≤_, _-_}
-use lib.ListN.{length}
 use Rattle.tuple_runs.proofs.read.Statement.{statement}
 use Rattle.tuple_runs.proofs.read.Tie as tie
 use Rattle.tuple_runs.proofs.read.Reads as reads
@@ -16,55 +15,42 @@ Inv-loop name buffer n i₀ i = i ≤ n
 abbrev μ-loop : tie.MeasureT-loop
 μ-loop name buffer n i₀ i = n - i
 
--- src/main.rt:73:9
 tuple-at-requires : tie.Need-tuple-at-requires Inv-loop μ-loop
 tuple-at-requires c κs = search needs
 
--- src/main.rt:75:5
 answer-requires : tie.Need-answer-requires Inv-loop μ-loop
 answer-requires c κs = search needs
 
--- src/main.rt:76:13
 value-requires : tie.Need-value-requires Inv-loop μ-loop
 value-requires c κs = search needs
 
--- src/main.rt:76:13
 cast-n : tie.Need-cast-n Inv-loop μ-loop
 cast-n c = search needs
 
--- src/main.rt:78:5
 loop-holds : tie.Need-loop-holds Inv-loop μ-loop
 loop-holds c = search needs
 
--- src/main.rt:79:13
 tuple-at-requires-2 : tie.Need-tuple-at-requires-2 Inv-loop μ-loop
 tuple-at-requires-2 c κs = search needs
 
--- src/main.rt:80:9
 show-requires : tie.Need-show-requires Inv-loop μ-loop
 show-requires c κs = search needs
 
--- src/main.rt:81:9
 add-i : tie.Need-add-i Inv-loop μ-loop
 add-i c = search needs
 
--- src/main.rt:78:5
 loop-less : tie.Need-loop-less Inv-loop μ-loop
 loop-less c = search needs
 
--- src/main.rt:78:5
 loop-again : tie.Need-loop-again Inv-loop μ-loop
 loop-again c = search needs
 
--- src/main.rt:83:9
 tuple-at-requires-3 : tie.Need-tuple-at-requires-3 Inv-loop μ-loop
 tuple-at-requires-3 c κs = search needs
 
--- src/main.rt:84:5
 show-requires-2 : tie.Need-show-requires-2 Inv-loop μ-loop
 show-requires-2 c κs = search needs
 
--- src/main.rt:72:1
 returns : tie.Need-returns Inv-loop μ-loop
 returns c = search needs
 

@@ -2,7 +2,7 @@ use Rattle.tuples.proofs.Goods.{is-good, un-not}
 use Rattle.tuples.specs.Page.{addedTo, page}
 use borrow.Author.Tests.{le-leb, lt-leb}
 use native.Mathlib.Omega.{arith}
-use Prim.Native.Nat.{_<_, _+_, _≤_}
+use Prim.Native.Nat.{_<_, _+_}
 use mathlib.Core.Path.{sym, _∙_, ap}
 use borrow.Author.Needs.{needs}
 use Rattle.tuples.proofs.add_tuple.Statement.{statement}
@@ -12,22 +12,18 @@ use Rattle.tuples.proofs.add_tuple.Lts as lts
 use Rattle.tuples.proofs.is_good.Reads as is-good-reads
 use Rattle.tuples.proofs.pasted.Reads as pasted-reads
 
--- src/lib.rt:221:9
 is-good-requires : tie.Need-is-good-requires
 is-good-requires c κs = search needs
 
--- src/lib.rt:222:9
 returns : tie.Need-returns
 unfolding addedTo
 returns c =
     let g = sym (c .before .before .is-good .ensures) ∙ un-not _ _ (c .before .if1 .taken) in
     simp g
 
--- src/lib.rt:225:13
 cast-n : tie.Need-cast-n
 cast-n c = search needs
 
--- src/lib.rt:227:9
 returns-2 : tie.Need-returns-2
 unfolding addedTo
 returns-2 c =
@@ -36,61 +32,48 @@ returns-2 c =
     let full : 255 < a .w .at + 2 + a .e .length = omega arith in
     simp (g, lt-leb _ _ full)
 
--- src/lib.rt:229:14
 add-if3 : tie.Need-add-if3
 add-if3 c = search needs
 
--- src/lib.rt:229:14
 add-if3-2 : tie.Need-add-if3-2
 add-if3-2 c = search needs
 
--- src/lib.rt:230:9
 returns-3 : tie.Need-returns-3
 unfolding addedTo
 returns-3 c =
     let g = sym (c .before .before .before .before .before .is-good .ensures) ∙ un-not _ _ (c .before .before .before .before .if1 .left) in
     simp (g, lt-leb _ _ (c .before .if3 .taken))
 
--- src/lib.rt:233:5
 array-write-b : tie.Need-array-write-b
 array-write-b c = search needs
 
--- src/lib.rt:234:17
 cast-b : tie.Need-cast-b
 cast-b c = search needs
 
--- src/lib.rt:234:7
 add-b : tie.Need-add-b
 add-b c = search needs
 
--- src/lib.rt:234:5
 array-write-b-2 : tie.Need-array-write-b-2
 array-write-b-2 c = search needs
 
--- src/lib.rt:235:17
 cast-start : tie.Need-cast-start
 cast-start c = search needs
 
--- src/lib.rt:236:26
 add-pasted : tie.Need-add-pasted
 add-pasted c = search needs
 
--- src/lib.rt:236:9
 pasted-requires : tie.Need-pasted-requires
 pasted-requires c κs =
     let a = c .before .before .before .before .before .before .before .before .args in
     let g = is-good (a .bodies .now) (a .e) (sym (c .before .before .before .before .before .before .is-good .ensures) ∙ un-not _ _ (c .before .before .before .before .before .if1 .left)) in
     (search needs, g .inside)
 
--- src/lib.rt:239:13
 add-t17 : tie.Need-add-t17
 add-t17 c = search needs
 
--- src/lib.rt:239:13
 add-t18 : tie.Need-add-t18
 add-t18 c = search needs
 
--- src/lib.rt:218:1
 returns-4 : tie.Need-returns-4
 unfolding addedTo
 returns-4 c =

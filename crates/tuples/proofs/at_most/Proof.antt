@@ -1,15 +1,16 @@
+use Rattle.tuples.specs.Read.{atMost}
 use Rattle.ground.proofs.Tests.{tests}
 use Rattle.tuples.proofs.at_most.Statement.{statement}
 use Rattle.tuples.proofs.at_most.Tie as tie
 use Rattle.tuples.proofs.at_most.Reads as reads
 use Rattle.tuples.proofs.at_most.Lts as lts
 
--- src/lib.rt:332:9
 returns : tie.Need-returns
+unfolding atMost
 returns c = search tests
 
--- src/lib.rt:328:1
 returns-2 : tie.Need-returns-2
+unfolding atMost
 returns-2 c = search tests
 
 pub at-most-spec : {M : Type 1} → statement M

@@ -22,27 +22,21 @@ Inv-loop buffer at₀ count₀ at count = (count ≤ at) × (added count (chainA
 abbrev μ-loop : tie.MeasureT-loop
 μ-loop buffer at₀ count₀ at count = length buffer - at
 
--- src/lib.rt:72:5
 loop-holds : tie.Need-loop-holds Inv-loop μ-loop
 loop-holds c = (search needs, added-none (chainAt (c .before .args .buffer .now) 0))
 
--- src/lib.rt:73:15
 step-at-requires : tie.Need-step-at-requires Inv-loop μ-loop
 step-at-requires c κs = search needs
 
--- src/lib.rt:74:25
 enum-known-entry : tie.Need-enum-known-entry Inv-loop μ-loop
 enum-known-entry c = search needs
 
--- src/lib.rt:75:17
 add-count : tie.Need-add-count Inv-loop μ-loop
 add-count c = search needs
 
--- src/lib.rt:76:17
 end-requires : tie.Need-end-requires Inv-loop μ-loop
 end-requires c κs = search needs
 
--- src/lib.rt:72:5
 loop-less : tie.Need-loop-less Inv-loop μ-loop
 loop-less c =
     let s = c .before .before .before .before .before .before .before .before .args .buffer .now in
@@ -50,7 +44,6 @@ loop-less c =
     let p = sym (c .before .before .before .before .step-at .ensures) ∙ c .before .before .entry .given .1 in
     omega (arith, rw p at (forward s at), c .end .ensures)
 
--- src/lib.rt:72:5
 loop-again : tie.Need-loop-again Inv-loop μ-loop
 loop-again c =
     let s = c .before .before .before .before .before .before .before .before .args .buffer .now in
@@ -58,19 +51,15 @@ loop-again c =
     let p = sym (c .before .before .before .before .step-at .ensures) ∙ c .before .before .entry .given .1 in
     (omega (arith, rw p at (forward s (l .at)), c .end .ensures), rw (c .end .ensures) (counts s (l .at) (l .count) _ p ∙ l .inv .1))
 
--- src/lib.rt:79:17
 enum-told : tie.Need-enum-told Inv-loop μ-loop
 enum-told c = search needs
 
--- src/lib.rt:79:17
 add-at : tie.Need-add-at Inv-loop μ-loop
 add-at c = search needs
 
--- src/lib.rt:72:5
 loop-less-2 : tie.Need-loop-less-2 Inv-loop μ-loop
 loop-less-2 c = search needs
 
--- src/lib.rt:72:5
 loop-again-2 : tie.Need-loop-again-2 Inv-loop μ-loop
 loop-again-2 c =
     let s = c .before .before .before .before .before .before .args .buffer .now in
@@ -78,11 +67,9 @@ loop-again-2 c =
     let p = sym (c .before .before .step-at .ensures) ∙ c .enum-told .given .1 in
     (omega arith, ap (added (l .count)) (sym (chain-step s (l .at) ∙ ap (after s (l .at)) p)) ∙ l .inv .1)
 
--- src/lib.rt:82:17
 enum-told-2 : tie.Need-enum-told-2 Inv-loop μ-loop
 enum-told-2 c = search needs
 
--- src/lib.rt:82:17
 returns : tie.Need-returns Inv-loop μ-loop
 returns c =
     let s = c .before .before .before .before .before .before .args .buffer .now in
@@ -90,11 +77,9 @@ returns c =
     let p = sym (c .before .before .step-at .ensures) ∙ c .enum-told2 .given .1 in
     ap Accepted (sym (add-zero _)) ∙ ap (added (l .count)) (sym (chain-step s (l .at) ∙ ap (after s (l .at)) p)) ∙ l .inv .1
 
--- src/lib.rt:85:41
 enum-told-3 : tie.Need-enum-told-3 Inv-loop μ-loop
 enum-told-3 c = search needs
 
--- src/lib.rt:85:17
 returns-2 : tie.Need-returns-2 Inv-loop μ-loop
 returns-2 c =
     let s = c .before .before .before .before .before .before .args .buffer .now in
@@ -102,7 +87,6 @@ returns-2 c =
     let p = sym (c .before .before .step-at .ensures) ∙ c .enum-told3 .given .1 in
     ap (added (l .count)) (sym (chain-step s (l .at) ∙ ap (after s (l .at)) p)) ∙ l .inv .1
 
--- src/lib.rt:66:1
 returns-3 : tie.Need-returns-3 Inv-loop μ-loop
 returns-3 c = ap (added (c .before .loop .count)) (sym (past (c .before .before .before .args .buffer .now) (c .before .loop .at) (c .loop-test .left))) ∙ c .before .loop .inv .1
 

@@ -1,8 +1,8 @@
+use Prim.Native.Nat.{_-_}
 use Rattle.tuples.specs.Write.{lastPlace}
 use Rattle.ground.specs.Choice.{pick}
 use borrow.Author.Tests.{ne-eqb}
 use native.Mathlib.Omega.{arith}
-use Prim.Native.Nat.{_-_}
 use mathlib.Core.Bool.{Bool}
 use mathlib.Core.Path.{sym, ap, _∙_}
 use borrow.Author.Needs.{needs}
@@ -12,20 +12,18 @@ use Rattle.tuples.proofs.last_place.Reads as reads
 use Rattle.tuples.proofs.last_place.Lts as lts
 use Rattle.tuples.proofs.at_most.Reads as at-most-reads
 
--- src/lib.rt:401:9
 at-most-requires : tie.Need-at-most-requires
 at-most-requires c κs = search needs
 
--- src/lib.rt:403:9
 returns : tie.Need-returns
+unfolding lastPlace
 returns c = (sym (ap lastPlace (sym (c .before .at-most .ensures .0) ∙ c .if1 .taken)), search needs)
 
--- src/lib.rt:405:5
 sub-result : tie.Need-sub-result
 sub-result c = search needs
 
--- src/lib.rt:398:1
 returns-2 : tie.Need-returns-2
+unfolding lastPlace
 returns-2 c =
     let n = c .before .at-most .result in
     (sym (ap (λ (t : Bool). pick t 255 (n - 1)) (ne-eqb n 0 (c .if1 .left))) ∙ ap lastPlace (c .before .at-most .ensures .0), omega (arith, c .before .at-most .ensures .1))

@@ -1,9 +1,8 @@
+use Prim.Native.Nat.{_-_}
 use Rattle.tuples.proofs.Chains.{after, chain-step, past}
 use Rattle.tuples.specs.Chain.{Chain, chainAt, nextAt, firstOf, found}
 use lib.ListN.{length}
-use native.Mathlib.Omega.{arith}
 use borrow.Author.Needs.{needs}
-use Prim.Native.Nat.{_-_}
 use mathlib.Core.Path.{_≡_, refl, sym, _∙_, ap}
 use Rattle.tuples.proofs.next_tuple.Statement.{statement}
 use Rattle.tuples.proofs.next_tuple.Tie as tie
@@ -19,23 +18,18 @@ Inv-loop buffer from at₀ at = chainAt buffer at ≡ chainAt buffer from
 abbrev μ-loop : tie.MeasureT-loop
 μ-loop buffer from at₀ at = length buffer - at
 
--- src/lib.rt:149:5
 loop-holds : tie.Need-loop-holds Inv-loop μ-loop
 loop-holds c = refl
 
--- src/lib.rt:150:15
 step-at-requires : tie.Need-step-at-requires Inv-loop μ-loop
 step-at-requires c κs = search needs
 
--- src/lib.rt:151:25
 enum-known-entry : tie.Need-enum-known-entry Inv-loop μ-loop
 enum-known-entry c = search needs
 
--- src/lib.rt:154:27
 end-requires : tie.Need-end-requires Inv-loop μ-loop
 end-requires c κs = search needs
 
--- src/lib.rt:152:17
 returns : tie.Need-returns Inv-loop μ-loop
 unfolding nextAt
 returns c =
@@ -44,19 +38,15 @@ returns c =
     let p = sym (c .before .before .before .before .step-at .ensures) ∙ c .before .before .entry .given .1 in
     ap (found _) (c .end .ensures) ∙ ap (λ (k : Chain). firstOf (k .entries) (a .from)) (sym (chain-step (a .buffer .now) (l .at) ∙ ap (after (a .buffer .now) (l .at)) p) ∙ l .inv)
 
--- src/lib.rt:158:17
 enum-told : tie.Need-enum-told Inv-loop μ-loop
 enum-told c = search needs
 
--- src/lib.rt:158:17
 add-at : tie.Need-add-at Inv-loop μ-loop
 add-at c = search needs
 
--- src/lib.rt:149:5
 loop-less : tie.Need-loop-less Inv-loop μ-loop
 loop-less c = search needs
 
--- src/lib.rt:149:5
 loop-again : tie.Need-loop-again Inv-loop μ-loop
 loop-again c =
     let s = c .before .before .before .before .before .before .args .buffer .now in
@@ -64,15 +54,12 @@ loop-again c =
     let p = sym (c .before .before .step-at .ensures) ∙ c .enum-told .given .1 in
     sym (chain-step s (l .at) ∙ ap (after s (l .at)) p) ∙ l .inv
 
--- src/lib.rt:161:17
 enum-told-2 : tie.Need-enum-told-2 Inv-loop μ-loop
 enum-told-2 c = search needs
 
--- src/lib.rt:161:17
 nothing-requires : tie.Need-nothing-requires Inv-loop μ-loop
 nothing-requires c κs = search needs
 
--- src/lib.rt:161:17
 returns-2 : tie.Need-returns-2 Inv-loop μ-loop
 unfolding nextAt
 returns-2 c =
@@ -81,15 +68,12 @@ returns-2 c =
     let p = sym (c .before .before .before .step-at .ensures) ∙ c .before .enum-told2 .given .1 in
     c .nothing .ensures ∙ ap (λ (k : Chain). firstOf (k .entries) (a .from)) (sym (chain-step (a .buffer .now) (l .at) ∙ ap (after (a .buffer .now) (l .at)) p) ∙ l .inv)
 
--- src/lib.rt:164:17
 enum-told-3 : tie.Need-enum-told-3 Inv-loop μ-loop
 enum-told-3 c = search needs
 
--- src/lib.rt:164:17
 nothing-requires-2 : tie.Need-nothing-requires-2 Inv-loop μ-loop
 nothing-requires-2 c κs = search needs
 
--- src/lib.rt:164:17
 returns-3 : tie.Need-returns-3 Inv-loop μ-loop
 unfolding nextAt
 returns-3 c =
@@ -98,11 +82,9 @@ returns-3 c =
     let p = sym (c .before .before .before .step-at .ensures) ∙ c .before .enum-told3 .given .1 in
     c .nothing2 .ensures ∙ ap (λ (k : Chain). firstOf (k .entries) (a .from)) (sym (chain-step (a .buffer .now) (l .at) ∙ ap (after (a .buffer .now) (l .at)) p) ∙ l .inv)
 
--- src/lib.rt:168:5
 nothing-requires-3 : tie.Need-nothing-requires-3 Inv-loop μ-loop
 nothing-requires-3 c κs = search needs
 
--- src/lib.rt:144:1
 returns-4 : tie.Need-returns-4 Inv-loop μ-loop
 unfolding nextAt
 returns-4 c =

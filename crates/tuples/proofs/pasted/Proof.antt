@@ -3,7 +3,7 @@ use lib.ListN.{length, drop, set, getD, length-drop}
 use native.Mathlib.Numerals.{add-one}
 use native.Mathlib.Omega.{arith}
 use borrow.Author.Needs.{needs}
-use Prim.Native.Nat.{ℕ, _≤_, _-_, _+_}
+use Prim.Native.Nat.{_≤_, _+_, _-_}
 use mathlib.Core.Path.{_≡_, sym, _∙_, ap}
 use Rattle.tuples.proofs.pasted.Statement.{statement}
 use Rattle.tuples.proofs.pasted.Tie as tie
@@ -16,35 +16,27 @@ Inv-loop at bodies start n b₀ j₀ b j = (j ≤ n) × (b ≡ paste b₀ at (dr
 abbrev μ-loop : tie.MeasureT-loop
 μ-loop at bodies start n b₀ j₀ b j = n - j
 
--- src/lib.rt:209:5
 loop-holds : tie.Need-loop-holds Inv-loop μ-loop
 loop-holds c = (search needs, paste-zero (c .args .bytes) (c .args .at) (drop (c .args .start) (c .args .bodies .now)))
 
--- src/lib.rt:210:28
 add-b : tie.Need-add-b Inv-loop μ-loop
 add-b c = omega arith
 
--- src/lib.rt:210:21
 shared-slice-read-b : tie.Need-shared-slice-read-b Inv-loop μ-loop
 shared-slice-read-b c = omega arith
 
--- src/lib.rt:210:11
 add-b-2 : tie.Need-add-b-2 Inv-loop μ-loop
 add-b-2 c = omega arith
 
--- src/lib.rt:210:9
 array-write-b : tie.Need-array-write-b Inv-loop μ-loop
 array-write-b c = omega arith
 
--- src/lib.rt:211:9
 add-j : tie.Need-add-j Inv-loop μ-loop
 add-j c = omega arith
 
--- src/lib.rt:209:5
 loop-less : tie.Need-loop-less Inv-loop μ-loop
 loop-less c = omega arith
 
--- src/lib.rt:209:5
 loop-again : tie.Need-loop-again Inv-loop μ-loop
 loop-again c =
     let a = c .before .before .before .args in
@@ -58,7 +50,6 @@ loop-again c =
           ∙ ap (paste (a .bytes) (a .at) s) (sym (add-one j)),
     )
 
--- src/lib.rt:203:1
 returns : tie.Need-returns Inv-loop μ-loop
 returns c =
     let a = c .before .before .args in

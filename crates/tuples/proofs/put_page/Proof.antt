@@ -17,53 +17,42 @@ Inv-loop out₀ bad over bytes j₀ out j = (j ≤ 256) × (length out ≡ 256) 
 abbrev μ-loop : tie.MeasureT-loop
 μ-loop out₀ bad over bytes j₀ out j = 256 - j
 
--- src/lib.rt:249:9
 returns : tie.Need-returns Inv-loop μ-loop
 unfolding putOutcome
 returns c = (simp (ne-eqb _ _ (c .if1 .taken)), simp (ne-eqb _ _ (c .if1 .taken)))
 
--- src/lib.rt:253:9
 returns-2 : tie.Need-returns-2 Inv-loop μ-loop
 unfolding putOutcome
 returns-2 c = (simp (eq-eqb _ _ (c .before .if1 .left), c .if2 .taken), simp (eq-eqb _ _ (c .before .if1 .left), c .if2 .taken))
 
--- src/lib.rt:257:9
 returns-3 : tie.Need-returns-3 Inv-loop μ-loop
 unfolding putOutcome
 returns-3 c = (simp (eq-eqb _ _ (c .before .before .if1 .left), c .before .if2 .left, c .if3 .taken), simp (eq-eqb _ _ (c .before .before .if1 .left), c .before .if2 .left, c .if3 .taken))
 
--- src/lib.rt:261:5
 loop-holds : tie.Need-loop-holds Inv-loop μ-loop
 loop-holds c = (search needs, search needs, search needs)
 
--- src/lib.rt:262:18
 array-read-out : tie.Need-array-read-out Inv-loop μ-loop
 array-read-out c = search needs
 
--- src/lib.rt:262:9
 slice-write-out : tie.Need-slice-write-out Inv-loop μ-loop
 slice-write-out c = search needs
 
--- src/lib.rt:263:9
 add-j : tie.Need-add-j Inv-loop μ-loop
 add-j c = search needs
 
--- src/lib.rt:261:5
 loop-less : tie.Need-loop-less Inv-loop μ-loop
 loop-less c = search needs
 
--- src/lib.rt:261:5
 loop-again : tie.Need-loop-again Inv-loop μ-loop
 loop-again c =
     let l = c .before .loop in
     let long : length (c .before .before .before .before .before .before .args .w .bytes) ≡ 256 = search needs in
     (search needs, search needs, copy-more (l .j) (c .before .before .before .before .before .before .args .w .bytes) (l .out) (omega arith) (omega arith) (l .inv .2))
 
--- src/lib.rt:245:1
 same-length : tie.Need-same-length Inv-loop μ-loop
 same-length c = search needs
 
--- src/lib.rt:245:1
 returns-4 : tie.Need-returns-4 Inv-loop μ-loop
 unfolding putOutcome
 returns-4 c =

@@ -8,21 +8,17 @@ use Rattle.tuples.proofs.read_outcome.Reads as reads
 use Rattle.tuples.proofs.read_outcome.Lts as lts
 use Rattle.tuples.proofs.count_tuples.Reads as count-tuples-reads
 
--- src/lib.rt:98:9
 returns : tie.Need-returns
 unfolding readOutcome
 returns c = search tests
 
--- src/lib.rt:101:9
 returns-2 : tie.Need-returns-2
 unfolding readOutcome
 returns-2 c = search tests
 
--- src/lib.rt:103:5
 count-tuples-requires : tie.Need-count-tuples-requires
 count-tuples-requires c κs = search needs
 
--- src/lib.rt:94:1
 returns-3 : tie.Need-returns-3
 unfolding readOutcome
 returns-3 c = simp (eq-eqb _ _ (c .before .before .if1 .left), le-leb _ _ (c .before .if2 .left), c .count-tuples .ensures)

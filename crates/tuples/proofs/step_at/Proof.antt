@@ -1,3 +1,4 @@
+use Rattle.tuples.specs.Chain.{stepAt}
 use lib.ListN.{length, getD}
 use native.Mathlib.Omega.{arith}
 use Prim.Native.Nat.{_+_, _<_, _≤_}
@@ -10,74 +11,64 @@ use Rattle.tuples.proofs.step_at.Reads as reads
 use Rattle.tuples.proofs.step_at.Lts as lts
 use Rattle.ground.proofs.wide.Reads as wide-reads
 
--- src/lib.rt:42:9
 returns : tie.Need-returns
+unfolding stepAt
 returns c = search tests
 
--- src/lib.rt:44:16
 shared-slice-read-code : tie.Need-shared-slice-read-code
 shared-slice-read-code c = search needs
 
--- src/lib.rt:46:9
 returns-2 : tie.Need-returns-2
+unfolding stepAt
 returns-2 c = search tests
 
--- src/lib.rt:49:9
 returns-3 : tie.Need-returns-3
+unfolding stepAt
 returns-3 c = search tests
 
--- src/lib.rt:51:24
 add-if4 : tie.Need-add-if4
 add-if4 c = search needs
 
--- src/lib.rt:52:9
 returns-4 : tie.Need-returns-4
+unfolding stepAt
 returns-4 c =
     let a = c .before .before .before .before .before .before .args in
     let short : length (a .buffer .now) < a .at + 2 + getD (a .buffer .now) (a .at + 1) 0 = omega arith in
     simp (lt-ltb _ _ (c .before .before .before .before .if1 .left), ne-eqb _ _ (c .before .before .if2 .left), ne-eqb _ _ (c .before .if3 .left), lt-leb _ _ short)
 
--- src/lib.rt:54:36
 add-wide : tie.Need-add-wide
 add-wide c = search needs
 
--- src/lib.rt:54:29
 shared-slice-read-wide : tie.Need-shared-slice-read-wide
 shared-slice-read-wide c = search needs
 
--- src/lib.rt:54:9
 wide-requires : tie.Need-wide-requires
 wide-requires c κs = search needs
 
--- src/lib.rt:55:23
 add-if5 : tie.Need-add-if5
 add-if5 c = search needs
 
--- src/lib.rt:55:32
 cast-if5 : tie.Need-cast-if5
 cast-if5 c = search needs
 
--- src/lib.rt:55:23
 add-if5-2 : tie.Need-add-if5-2
 add-if5-2 c = search needs
 
--- src/lib.rt:56:9
 returns-5 : tie.Need-returns-5
+unfolding stepAt
 returns-5 c =
     let a = c .before .before .before .before .before .before .before .before .before .args in
     let short : length (a .buffer .now) < a .at + 2 + getD (a .buffer .now) (a .at + 1) 0 = omega (arith, c .before .wide .ensures .0) in
     simp (lt-ltb _ _ (c .before .before .before .before .before .before .before .if1 .left), ne-eqb _ _ (c .before .before .before .before .before .if2 .left), ne-eqb _ _ (c .before .before .before .before .if3 .left), lt-leb _ _ short)
 
--- src/lib.rt:60:17
 add-t9 : tie.Need-add-t9
 add-t9 c = search needs
 
--- src/lib.rt:60:16
 cast-t13 : tie.Need-cast-t13
 cast-t13 c = search needs
 
--- src/lib.rt:37:1
 returns-6 : tie.Need-returns-6
+unfolding stepAt
 returns-6 c =
     let a = c .before .before .before .before .before .before .before .before .before .args in
     let fits : a .at + 2 + getD (a .buffer .now) (a .at + 1) 0 ≤ length (a .buffer .now) = omega (arith, c .before .wide .ensures .0) in

@@ -7,11 +7,9 @@ use Rattle.tuples.proofs.tuple_at.Reads as reads
 use Rattle.tuples.proofs.tuple_at.Lts as lts
 use Rattle.tuples.proofs.read_held.Reads as read-held-reads
 
--- src/lib.rt:361:5
 read-held-requires : tie.Need-read-held-requires
 read-held-requires c κs = search needs
 
--- src/lib.rt:353:1
 returns : tie.Need-returns
 returns c = c .read-held .ensures ∙ handed-held (c .before .before .args .buffer .now) (c .before .before .args .number)
 
