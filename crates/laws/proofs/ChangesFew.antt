@@ -35,7 +35,8 @@ use Rattle.card.specs.declared.Meaning.{Meaning}
 use Rattle.card.specs.declared.Meaning.the-variants.{TupleByte, ReadOption, WriteOption, ReadRegister, WriteRegister, ReadData, WriteData}
 use Rattle.card.specs.Access.{Access, meaning}
 use Rattle.card.specs.Step.{step}
-use Rattle.laws.specs.Changes.{Change, changed, keptIn, writes, erasures, sectorsAsked, commandChanges, registerChanges, loadChanges, takenChanges, phaseChanges, changes, erases, commands, mayChange}
+use Rattle.laws.specs.Changes.{Change, changed, keptIn, writes, erasures, sectorsAsked, commandChanges, registerChanges, loadChanges, takenChanges, phaseChanges, changes}
+use Rattle.laws.specs.MayChange.{erases, erasesBy, mayChange}
 use Rattle.laws.proofs.BySectors.{by-sectors}
 
 -- ---- none
@@ -55,7 +56,7 @@ of-command Seek s marks e = refl
 of-command Sense s marks e = refl
 of-command Other s marks e = refl
 
-of-register : (r : Register) (v : ℕ) (m : Machine) → commands r v ≡ false → registerChanges r v m ≡ []
+of-register : (r : Register) (v : ℕ) (m : Machine) → erasesBy r v ≡ false → registerChanges r v m ≡ []
 of-register ErrorFeature v m e = refl
 of-register SectorCount v m e = refl
 of-register SectorNumber v m e = refl

@@ -2,7 +2,6 @@
 -- C0H "as write, storing FFH (H), no data".
 use Prim.Native.Nat.{ℕ, zero, suc, _<_}
 use mathlib.Core.Path.{_≡_}
-use mathlib.Core.Bool.{Bool, true, false}
 use mathlib.Core.List.{List, [], _∷_}
 use lib.Dec.{ltb, eqb}
 use lib.ListN.{length, getD, replicate}
@@ -120,42 +119,3 @@ changes (ReadRegister r) m = []
 changes (WriteRegister r v) m = registerChanges r v m
 changes (ReadData port) m = []
 changes (WriteData port v) m = pick (m .state .control .held) [] (phaseChanges (m .phase) port v m)
-
--- ---- which accesses may change a sector at all
-
-abbrev pub erases : Command → Bool
-erases Read = false
-erases Write = false
-erases Verify = false
-erases Erase = true
-erases Identify = false
-erases ReadBuffer = false
-erases WriteBuffer = false
-erases SetGeometry = false
-erases Diagnose = false
-erases Recalibrate = false
-erases Seek = false
-erases Sense = false
-erases Other = false
-
-abbrev pub commands : Register → ℕ → Bool
-commands ErrorFeature v = false
-commands SectorCount v = false
-commands SectorNumber v = false
-commands CylinderLow v = false
-commands CylinderHigh v = false
-commands DriveHead v = false
-commands StatusCommand v = erases (commandOf v)
-commands AlternateControl v = false
-commands DriveAddress v = false
-
--- a data write, or the command C0H
-abbrev pub mayChange : Meaning → Bool
-mayChange (Meaning.Refused r) = false
-mayChange (TupleByte b) = false
-mayChange ReadOption = false
-mayChange (WriteOption v) = false
-mayChange (ReadRegister r) = false
-mayChange (WriteRegister r v) = commands r v
-mayChange (ReadData port) = false
-mayChange (WriteData port v) = true

@@ -4,3 +4,4 @@ pub mod Coded
 pub mod Mark
 pub mod Line
 pub mod Changes
+pub mod MayChange
