@@ -17,3 +17,4 @@ pub mod WrittenSectors
 pub mod BySectors
 pub mod ChangesFew
 pub mod ChangesWhole
+pub mod Codes
