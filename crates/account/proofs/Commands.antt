@@ -1,0 +1,155 @@
+-- Every command begins as its account says.
+use Prim.Native.Nat.{ℕ, zero, suc, _+_, _-_, _*_, _/_, _%_, _≤_, _<_}
+use mathlib.Core.Bool.{Bool, true, false, _||_}
+use mathlib.Core.Path.{_≡_, refl, sym, ap, _∙_, subst}
+use mathlib.Core.List.{List, [], _∷_, _++_}
+use native.Mathlib.Omega.{arith}
+use lib.Dec.{ltb, eqb}
+use lib.ListN.{length, take, drop}
+use Rattle.ground.specs.Choice.{pick}
+use Rattle.geometry.specs.declared.Geometry.{Geometry}
+use Rattle.geometry.specs.declared.Located.{Located}
+use Rattle.geometry.specs.declared.Sought.{Sought}
+use Rattle.geometry.specs.declared.Reshaped.{Reshaped}
+use Rattle.geometry.specs.Limits.{totalOf, currentFor}
+use Rattle.geometry.specs.Address.{locate, seek, byLba, lbaOf, headOf, cylinderOf}
+use Rattle.geometry.specs.Shape.{reshaped}
+use Rattle.geometry.specs.Codes.{currentAfter}
+use Rattle.geometry.proofs.Shapes.{after-current}
+use Rattle.identify.specs.Words.{identifyBytes}
+use Rattle.identify.proofs.Made.{identify-length}
+use Rattle.registers.specs.declared.Phase.the-variants.{Idle, DataIn, DataOut}
+use Rattle.registers.specs.declared.State.{State}
+use Rattle.registers.specs.declared.Core.{Core}
+use Rattle.registers.specs.State.{Machine, machine, core, withCore}
+use Rattle.registers.specs.WellMade.{locatedIn, totalIn}
+use Rattle.commands.specs.declared.Command.{Command}
+use Rattle.commands.specs.declared.Command.the-variants.{Read, Write, Verify, Erase, Identify, ReadBuffer, WriteBuffer, SetGeometry, Diagnose, Recalibrate, Seek, Sense, Other}
+use Rattle.commands.specs.declared.Way.{Way}
+use Rattle.commands.specs.declared.Way.the-variants.{In, Out}
+use Rattle.commands.specs.Ends.{ended}
+use Rattle.commands.specs.Steps.{withState, readSector, askSector}
+use Rattle.commands.specs.Runs.{verifyFrom, eraseFrom}
+use Rattle.commands.specs.Table.{started, countOf, factsOf, geometrySet, soughtEnd, obeyed, withErased}
+use Rattle.account.specs.Plain.{Plain, sectorsOf, withCurrent, starts, Ending, Well, NotFound, Aborted, ends, Account, silent, moving}
+use Rattle.account.specs.Course.{courseOf}
+use Rattle.account.specs.Runs.{readSectors, writeSectors, verifySectors, eraseSectors}
+use Rattle.account.specs.Words.{identifyData}
+use Rattle.account.specs.Table.{asked, total, first, fromFirst, reads, writes, verifies, erases, shaped, setsGeometry, seeks, account}
+use Rattle.account.specs.Host.{plainOf, plainIn, Notes, None, blank, wayOf}
+use Rattle.account.proofs.Seats.{Shaped}
+use Rattle.account.proofs.Tried.{endingOf, ended-ends}
+use Rattle.account.proofs.Stored.{Lent}
+use Rattle.account.proofs.Settled.{Settled, verify-settled, erase-settled}
+use Rattle.account.proofs.Identifying.{identify-is, identify-bytes}
+use Rattle.account.proofs.Rest.{Bytes, ByteWise, restAt, rest, doneIn, doneOut, Ground, Rel, Between}
+use Rattle.account.proofs.Begins.{asked-elim, Eight, read-begins, read-begins-held, write-begins, write-begins-held, verify-begins, erase-begins}
+
+-- what a card must be to be given a command
+abbrev pub Given : Machine → Type 0
+Given m =
+    Ground In m
+    × Eight (m .state)
+    × (length (m .buffer) ≡ 512)
+    × Bytes (m .buffer)
+    × (m .state .made .default .cylinders ≤ 65535) × (m .state .made .default .heads ≤ 65535) × (m .state .made .default .sectors ≤ 65535)
+    × (m .state .current .cylinders ≤ 65535) × (m .state .current .heads ≤ 65535) × (m .state .current .sectors ≤ 65535)
+
+abbrev pub outward : (m : Machine) → Ground In m → Ground Out m
+outward m g = (g .0, g .1, tt, g .3, g .4)
+
+-- a command that is over at once
+pub over : (plain : List ℕ → Account) (way : Way) (k : Core) (b t s : List ℕ) → k .phase ≡ Idle → Ground way (machine k b t s) → ((d : List ℕ) → plain d ≡ silent (plainIn (k .state) b t s)) →
+    Rel way plain (machine k b t s) blank
+unfolding restAt
+over plain In k b t s e g a = record { account = λ d. rw e (a d); ground = g; held = rw e tt }
+over plain Out k b t s e g a = record { account = λ d. rw e (a d); ground = g; held = rw e tt }
+
+pub settled-ground : (way : Way) (s : State) (k : Core) (b t x y z w : List ℕ) → Settled s k → Ground way (machine (core Idle s) b t x) → Lent (totalOf (s .made .default)) z w → ByteWise way z →
+    Ground way (machine k y z w)
+settled-ground way s k b t x y z w h g l q = rw (h .1, h .2, h .3, h .4) (g .0, l, q, g .3, g .4)
+
+-- the first address: N is C·H·S
+pub first-is : (m : Machine) → Shaped (m .state .made) (m .state .current) → locatedIn (m .state) ≡ first (plainOf m)
+first-is m h = ap (locate (m .state .registers .address) (m .state .current)) (h .1)
+
+count-is : (s : State) → countOf s ≡ asked (s .registers .count)
+unfolding countOf asked
+count-is s = refl
+
+pub read-all : (m : Machine) (d : List ℕ) → Ground In m → Eight (m .state) → reads (plainOf m) ≡ rest (readSector (countOf (m .state)) m) d
+read-all m d g h =
+    rw (count-is (m .state))
+    (asked-elim (λ (n : ℕ). fromFirst (first (plainOf m)) silent (λ i. readSectors (courseOf (plainOf m)) i n (plainOf m)) (plainOf m) ≡ rest (readSector n m) d) (m .state .registers .count) (h .0)
+    (λ n e. sym (read-begins n m (h .1) e (first (plainOf m)) d g (first-is m (g .0)))))
+
+pub read-all-held : (m : Machine) → Ground In m → Eight (m .state) → Between In (readSector (countOf (m .state)) m) None
+read-all-held m g h =
+    rw (count-is (m .state))
+    (asked-elim (λ (n : ℕ). Between In (readSector n m) None) (m .state .registers .count) (h .0) (λ n e. read-begins-held n m (h .1) e (first (plainOf m)) g (first-is m (g .0))))
+
+pub write-all : (m : Machine) (d : List ℕ) → Ground Out m → Eight (m .state) → writes (plainOf m) d ≡ rest (withCore (askSector (countOf (m .state)) true (m .state)) m) d
+write-all m d g h =
+    rw (count-is (m .state))
+    (asked-elim (λ (n : ℕ). fromFirst (first (plainOf m)) silent (λ i. writeSectors (courseOf (plainOf m)) i n (plainOf m) d) (plainOf m) ≡ rest (withCore (askSector n true (m .state)) m) d) (m .state .registers .count) (h .0)
+    (λ n e. sym (write-begins n m (h .1) e (first (plainOf m)) d g (first-is m (g .0)))))
+
+pub write-all-held : (m : Machine) → length (m .buffer) ≡ 512 → Ground Out m → Eight (m .state) → Between Out (withCore (askSector (countOf (m .state)) true (m .state)) m) None
+write-all-held m f g h =
+    rw (count-is (m .state))
+    (asked-elim (λ (n : ℕ). Between Out (withCore (askSector n true (m .state)) m) None) (m .state .registers .count) (h .0)
+    (λ n e. write-begins-held n m (h .1) e (first (plainOf m)) f g (first-is m (g .0))))
+
+pub verify-all : (m : Machine) → Ground In m → Eight (m .state) → verifies (plainOf m) ≡ plainIn (verifyFrom (countOf (m .state)) (m .state) (m .marks) .state) (m .buffer) (m .store) (m .marks)
+verify-all m g h =
+    rw (count-is (m .state))
+    (asked-elim (λ (n : ℕ). fromFirst (first (plainOf m)) (λ q. q) (λ i. verifySectors (courseOf (plainOf m)) i n (plainOf m)) (plainOf m) ≡ plainIn (verifyFrom n (m .state) (m .marks) .state) (m .buffer) (m .store) (m .marks))
+    (m .state .registers .count) (h .0)
+    (λ n e. sym (verify-begins n m (h .1) e (first (plainOf m)) g (first-is m (g .0)))))
+
+pub erase-all : (m : Machine) → Ground In m → Eight (m .state) →
+    erases (plainOf m)
+    ≡ plainIn (eraseFrom (countOf (m .state)) (m .state) (m .store) (m .marks) .core .state) (m .buffer) (eraseFrom (countOf (m .state)) (m .state) (m .store) (m .marks) .store) (eraseFrom (countOf (m .state)) (m .state) (m .store) (m .marks) .marks)
+erase-all m g h =
+    rw (count-is (m .state))
+    (asked-elim (λ (n : ℕ). fromFirst (first (plainOf m)) (λ q. q) (λ i. eraseSectors (courseOf (plainOf m)) i n (plainOf m)) (plainOf m)
+    ≡ plainIn (eraseFrom n (m .state) (m .store) (m .marks) .core .state) (m .buffer) (eraseFrom n (m .state) (m .store) (m .marks) .store) (eraseFrom n (m .state) (m .store) (m .marks) .marks))
+    (m .state .registers .count) (h .0)
+    (λ n e. sym (erase-begins n m (h .1) e (first (plainOf m)) g (first-is m (g .0)))))
+
+-- 91H
+set-by : (a v : Bool) (g : Geometry) (s : State) (b t k : List ℕ) →
+    pick (a || v) (ends (Aborted 0x21) (plainIn s b t k)) (ends Well (withCurrent g (plainIn s b t k)))
+    ≡ plainIn (geometrySet (pick a Reshaped.Refused (pick v Reshaped.Refused (Reshaped.Taken g))) s .state) b t k
+set-by true v g s b t k = refl
+set-by false true g s b t k = refl
+set-by false false g s b t k = refl
+
+pub set-is : (s : State) (b t k : List ℕ) → Shaped (s .made) (s .current) →
+    setsGeometry (s .registers .count) (s .registers .address .head % 16 + 1) (plainIn s b t k) ≡ plainIn (geometrySet (reshaped (s .registers .count) (s .registers .address .head) (totalIn s)) s .state) b t k
+unfolding setsGeometry reshaped
+set-is s b t k h = rw (h .1) (set-by (eqb (s .registers .count) 0) (ltb (sectorsOf (s .made .default)) ((s .registers .address .head % 16 + 1) * s .registers .count)) (shaped (s .registers .address .head % 16 + 1) (s .registers .count) (sectorsOf (s .made .default))) s b t k)
+
+pub set-idle : (r : Reshaped) (s : State) → geometrySet r s .phase ≡ Idle
+set-idle (Reshaped.Taken g) s = refl
+set-idle Reshaped.Refused s = refl
+
+pub set-ground : (r : Reshaped) (s : State) (b t k : List ℕ) → currentFor (currentAfter r (s .current)) (totalOf (s .made .default)) ≡ true → Ground In (machine (core Idle s) b t k) → Ground In (machine (geometrySet r s) b t k)
+set-ground (Reshaped.Taken x) s b t k e g = ((e, g .0 .1, g .0 .2), g .1, g .2, g .3, g .4)
+set-ground Reshaped.Refused s b t k e g = g
+
+-- 7XH
+seek-by : (a u v w : Bool) →
+    pick a (pick u Well (NotFound 0x2F)) (pick v (pick w Well (NotFound 0x2F)) (NotFound 0x21))
+    ≡ endingOf (soughtEnd (pick a (pick u Sought.Good Sought.BadLba) (pick v (pick w Sought.Good Sought.BadCylinder) Sought.BadHead)))
+seek-by true true v w = refl
+seek-by true false v w = refl
+seek-by false u true true = refl
+seek-by false u true false = refl
+seek-by false u false w = refl
+
+pub seek-is : (s : State) (b t k : List ℕ) → Shaped (s .made) (s .current) → seeks (plainIn s b t k) ≡ endingOf (soughtEnd (seek (s .registers .address) (s .current) (totalIn s)))
+unfolding seeks seek
+seek-is s b t k h =
+    rw (h .1)
+    (seek-by (byLba (s .registers .address)) (ltb (lbaOf (s .registers .address)) (sectorsOf (s .made .default))) (ltb (headOf (s .registers .address)) (s .current .heads)) (ltb (cylinderOf (s .registers .address)) (s .current .cylinders)))

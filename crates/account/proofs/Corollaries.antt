@@ -1,0 +1,117 @@
+-- What follows from the theorem.
+use Prim.Native.Nat.{ℕ}
+use mathlib.Core.Bool.{Bool, true, false, false≢true}
+use mathlib.Core.Path.{_≡_, refl, sym, ap, _∙_, subst}
+use mathlib.Core.List.{List, [], _∷_}
+use Rattle.geometry.specs.declared.Located.{Located}
+use Rattle.geometry.specs.Shape.{reshaped}
+use Rattle.maps.specs.declared.Register.the-variants.{StatusCommand}
+use Rattle.registers.specs.State.{Machine, sresetIn}
+use Rattle.registers.specs.declared.State.{State}
+use Rattle.registers.specs.declared.Phase.the-variants.{Idle}
+use Rattle.registers.specs.WellMade.{heldIn, totalIn}
+use Rattle.commands.specs.declared.Command.{Command}
+use Rattle.commands.specs.declared.Command.the-variants.{Read, Write, Verify, Erase, Identify, ReadBuffer, WriteBuffer, SetGeometry, Diagnose, Recalibrate, Seek, Sense, Other}
+use Rattle.commands.specs.Steps.{withState}
+use Rattle.commands.specs.Table.{commandOf, obeyed, started, countOf, quiet, commandGiven}
+use Rattle.card.specs.declared.Meaning.the-variants.{WriteRegister}
+use Rattle.card.specs.Access.{Access, meaning}
+use Rattle.card.specs.Step.{Stepped, step}
+use Rattle.account.specs.Plain.{Plain, Ending, Well, NotFound, Unreadable, WriteFault, Aborted, ends, starts, Account, silent}
+use Rattle.account.specs.Course.{Course, courseOf}
+use Rattle.account.specs.Runs.{Run, readRun, runEnds, readSectors}
+use Rattle.account.specs.Table.{asked, first, fromFirst, reads, account}
+use Rattle.account.specs.Host.{plainOf, blank, wayOf, asks, Moves, Hosted, hosted}
+use Rattle.account.specs.Claim.{Typed, Agrees}
+use Rattle.account.proofs.Settled.{verify-settled, erase-idle}
+use Rattle.account.proofs.Commands.{set-idle}
+use Rattle.account.proofs.Accepted.{given, neither}
+use Rattle.account.proofs.Theorem.{command-given, as-the-account}
+
+-- a Command write that the theorem speaks of
+pub record Command-write (m : Machine) (a : Access) (v : ℕ) : Type 0 where
+  pub accepted : meaning m a ≡ WriteRegister StatusCommand v
+  pub free : heldIn (m .state) ≡ false
+  pub typed : Typed m
+
+-- the host after it
+abbrev pub after : Machine → Access → ℕ → List Access → Hosted
+after m a v l = hosted (wayOf (commandOf v)) (step m a .next) blank l
+
+-- Two hosts that move the same data end the same, whatever the order and the map.
+pub same-data-same-end : (m : Machine) (a : Access) (v : ℕ) (l k : List Access) → Command-write m a v → Moves (step m a .next) l → Moves (step m a .next) k →
+    after m a v l .notes .done ≡ after m a v k .notes .done → plainOf (after m a v l .machine) ≡ plainOf (after m a v k .machine)
+same-data-same-end m a v l k w x y e =
+    let p = as-the-account m a v l (w .accepted) (w .free) (w .typed) x in
+    let q = as-the-account m a v k (w .accepted) (w .free) (w .typed) y in
+    ap (λ (z : Account). z .left) (sym (p .account) ∙ ap (account (commandOf v) (plainOf m)) e ∙ q .account)
+
+-- A command without data needs no host.
+abbrev pub dataless : Command → Bool
+dataless Read = false
+dataless Write = false
+dataless Verify = true
+dataless Erase = true
+dataless Identify = false
+dataless ReadBuffer = false
+dataless WriteBuffer = false
+dataless SetGeometry = true
+dataless Diagnose = true
+dataless Recalibrate = true
+dataless Seek = true
+dataless Sense = true
+dataless Other = true
+
+over-at-once : (k : Command) (s : State) (m : Machine) → dataless k ≡ true → obeyed k s m .phase ≡ Idle
+over-at-once Read s m e = absurd (false≢true e)
+over-at-once Write s m e = absurd (false≢true e)
+over-at-once Verify s m e = verify-settled (countOf s) s (m .marks) .0
+over-at-once Erase s m e = erase-idle (countOf s) s (m .store) (m .marks)
+over-at-once Identify s m e = absurd (false≢true e)
+over-at-once ReadBuffer s m e = absurd (false≢true e)
+over-at-once WriteBuffer s m e = absurd (false≢true e)
+over-at-once SetGeometry s m e = set-idle (reshaped (s .registers .count) (s .registers .address .head) (totalIn s)) s
+over-at-once Diagnose s m e = refl
+over-at-once Recalibrate s m e = refl
+over-at-once Seek s m e = refl
+over-at-once Sense s m e = refl
+over-at-once Other s m e = refl
+
+asks-not : (v : ℕ) (m : Machine) → dataless (commandOf v) ≡ true → asks (commandGiven v m) ≡ false
+unfolding commandGiven
+asks-not v m e = rw (over-at-once (commandOf v) (started (quiet m .state)) (quiet m) e)
+
+pub no-host-needed : (m : Machine) (a : Access) (v : ℕ) → Command-write m a v → dataless (commandOf v) ≡ true → Moves (step m a .next) []
+no-host-needed m a v w e =
+    let f : m .state .control .held ≡ false = unfold heldIn in neither (sresetIn (m .state .option)) (m .state .control .held) (w .free) .1 in
+    subst (λ (x : Machine). asks x ≡ false) (sym (command-given m a v (w .accepted) f)) (asks-not v (withState (m .state) m) e)
+
+-- A read never changes the store or the marks.
+pub ends-store : (e : Ending) (p : Plain) → (ends e p .store ≡ p .store) × (ends e p .marks ≡ p .marks)
+ends-store Well p = (refl, refl)
+ends-store (NotFound code) p = (refl, refl)
+ends-store Unreadable p = (refl, refl)
+ends-store WriteFault p = (refl, refl)
+ends-store (Aborted code) p = (refl, refl)
+
+abbrev Untouched : Plain → Plain → Type 0
+Untouched p q = (q .store ≡ p .store) × (q .marks ≡ p .marks)
+
+read-untouched : (l : Located) (n : ℕ) (p : Plain) → Untouched p (fromFirst l silent (λ i. readSectors (courseOf p) i n p) p .left)
+unfolding readSectors
+read-untouched (Located.Good spot) n p = ends-store (readRun (courseOf p) (p .marks) (spot .index) n .ending) _
+read-untouched Located.BadHeadOrSector n p = (refl, refl)
+read-untouched Located.BadCylinder n p = (refl, refl)
+read-untouched Located.BadLba n p = (refl, refl)
+
+reads-untouched : (p : Plain) (d : List ℕ) → Untouched p (account Read p d .left)
+unfolding account
+reads-untouched p d = read-untouched (first (starts p)) (asked (p .registers .count)) (starts p)
+
+pub read-changes-no-sector : (m : Machine) (a : Access) (v : ℕ) (l : List Access) → Command-write m a v → commandOf v ≡ Read → Moves (step m a .next) l →
+    (after m a v l .machine .store ≡ m .store) × (after m a v l .machine .marks ≡ m .marks)
+read-changes-no-sector m a v l w e x =
+    let p = as-the-account m a v l (w .accepted) (w .free) (w .typed) x in
+    let u = ap (λ (k : Command). account k (plainOf m) (after m a v l .notes .done)) e in
+    let z = reads-untouched (plainOf m) (after m a v l .notes .done) in
+    (ap (λ (y : Account). y .left .store) (sym (p .account) ∙ u) ∙ z .0, ap (λ (y : Account). y .left .marks) (sym (p .account) ∙ u) ∙ z .1)

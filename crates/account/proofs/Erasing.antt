@@ -1,0 +1,53 @@
+-- Erase: sector after sector in the machine, one run of indices in the account.
+use Prim.Native.Nat.{ℕ, zero, suc, _+_, _-_, _*_, _/_, _%_, _≤_, _<_}
+use mathlib.Core.Bool.{Bool, true, false}
+use mathlib.Core.Path.{_≡_, refl, sym, ap, _∙_, subst}
+use mathlib.Core.List.{List, [], _∷_, _++_}
+use native.Mathlib.Omega.{arith}
+use lib.ListN.{length, set, replicate}
+use Rattle.geometry.specs.Limits.{totalOf}
+use Rattle.sectors.specs.Sectors.{Kept, kept, stored}
+use Rattle.registers.specs.declared.State.{State}
+use Rattle.commands.specs.declared.End.{End}
+use Rattle.commands.specs.declared.Tested.{Tested}
+use Rattle.commands.specs.declared.Tested.the-variants.{Sound, Fails}
+use Rattle.commands.specs.Before.{storeTest, StoreTested, storedBy, sectorStored}
+use Rattle.commands.specs.Steps.{passed}
+use Rattle.commands.specs.Runs.{goesOn, eraseFrom, Erased, erased, blank}
+use Rattle.account.specs.Plain.{Plain, Ending, Well, NotFound, Unreadable, WriteFault, Aborted}
+use Rattle.account.specs.Course.{Course, named}
+use Rattle.account.specs.Runs.{Run, tried, stopped, oneMore, runFrom, tests, unwritable, runEnds, putSector, blanked, cleared, eraseSectors, eraseDone}
+use Rattle.account.specs.Host.{plainIn}
+use Rattle.account.proofs.Seats.{Shaped, Seated, Where, courseIn, onward, passed-on, seat-next, room-total}
+use Rattle.account.proofs.Tried.{endingOf, bad, stops-run, stops-ends, store-tested}
+use Rattle.account.proofs.Stored.{Lent, stored-is, stored-lent, run-later}
+use Rattle.account.proofs.Verifying.{where-good, seated-last}
+
+abbrev pub erasedPlain : Erased → List ℕ → Plain
+erasedPlain e b = plainIn (e .core .state) b (e .store) (e .marks)
+
+-- a sector of Erase by its tests, with n to come
+abbrev erasesOn : Tested → ℕ → State → List ℕ → List ℕ → Erased
+erasesOn x n s t k =
+    goesOn (storedBy x blank t k .tested) (λ c. erased c (storedBy x blank t k .store) (storedBy x blank t k .marks)) s (eraseFrom n (passed n s) (storedBy x blank t k .store) (storedBy x blank t k .marks))
+
+pub erase-is : (n : ℕ) (c : Course) (i : ℕ) (s : State) (b t k : List ℕ) → Shaped (s .made) (s .current) → Lent (totalOf (s .made .default)) t k → Seated c i (suc n) s → Where c i s →
+    erasedPlain (eraseFrom (suc n) s t k) b ≡ eraseSectors c i (suc n) (plainIn s b t k)
+unfolding eraseFrom eraseSectors runFrom sectorStored blanked cleared blank
+erase-is zero c i s b t k h l q w =
+    store-tested c i s k
+    (λ (x : Tested) (e : Ending). erasedPlain (erasesOn x 0 s t k) b ≡ eraseDone c i (tried e 1 i (stopped Well 0 (i + 1))) (plainIn s b t k))
+    w
+    (λ r. let m = room-total c s h (q .2) in unfold passed in rw (stored-is (totalOf (s .made .default)) i t k (replicate 512 0xFF) (omega arith) l, seated-last c i 1 s q))
+    (λ f z. rw (stops-run f z c 1 i (stopped Well 0 (i + 1)) (plainIn s b t k)) (stops-ends f true z c 1 i s b t k q))
+erase-is (suc n) c i s b t k h l q w =
+    store-tested c i s k
+    (λ (x : Tested) (e : Ending). erasedPlain (erasesOn x (suc n) s t k) b ≡ eraseDone c i (tried e (suc (suc n)) i (runFrom (tests unwritable WriteFault c k) (i + 1) (suc n))) (plainIn s b t k))
+    w
+    (λ r.
+    let m = room-total c s h (q .2) in
+    let z = seat-next c (suc n) i s h (where-good c i s w r) (q .2) in
+    let g = stored-is (totalOf (s .made .default)) i t k (replicate 512 0xFF) (omega arith) l in
+    rw (passed-on n s, g, ← run-later unwritable WriteFault c k i (i + 1) (suc n) (omega arith))
+    (erase-is n c (i + 1) (onward (suc n) s) b (putSector i (replicate 512 0xFF) t) (set k i 0) h (stored-lent (totalOf (s .made .default)) i t k (replicate 512 0xFF) (omega arith) l refl) (z .0) (z .1)))
+    (λ f z. rw (stops-run f z c (suc (suc n)) i (runFrom (tests unwritable WriteFault c k) (i + 1) (suc n)) (plainIn s b t k)) (stops-ends f true z c (suc (suc n)) i s b t k q))

@@ -1,0 +1,83 @@
+-- Every command, once given, stands in the relation that accesses keep.
+use Prim.Native.Nat.{ℕ, _*_, _+_, _%_, _≤_, _<_}
+use mathlib.Core.Bool.{true}
+use mathlib.Core.Path.{_≡_, refl, sym, ap, _∙_}
+use mathlib.Core.List.{List, []}
+use native.Mathlib.Omega.{arith}
+use lib.ListN.{length}
+use Rattle.geometry.specs.Limits.{totalOf}
+use Rattle.geometry.specs.Address.{seek}
+use Rattle.geometry.specs.Shape.{reshaped}
+use Rattle.geometry.proofs.Shapes.{after-current}
+use Rattle.identify.specs.Words.{identifyBytes}
+use Rattle.identify.proofs.Made.{identify-length}
+use Rattle.registers.specs.declared.State.{State}
+use Rattle.registers.specs.State.{Machine, core}
+use Rattle.registers.specs.WellMade.{totalIn}
+use Rattle.commands.specs.declared.Command.{Command}
+use Rattle.commands.specs.declared.Command.the-variants.{Read, Write, Verify, Erase, Identify, ReadBuffer, WriteBuffer, SetGeometry, Diagnose, Recalibrate, Seek, Sense, Other}
+use Rattle.commands.specs.declared.End.{End}
+use Rattle.commands.specs.declared.Way.the-variants.{In, Out}
+use Rattle.commands.specs.Ends.{ended}
+use Rattle.commands.specs.Steps.{withState}
+use Rattle.commands.specs.Runs.{verifyFrom, eraseFrom}
+use Rattle.commands.specs.Table.{started, countOf, factsOf, diagnosed, geometrySet, soughtEnd, obeyed}
+use Rattle.account.specs.Plain.{Plain, starts, ends, Ending, Account, silent}
+use Rattle.account.specs.Words.{identifyData}
+use Rattle.account.specs.Table.{account}
+use Rattle.account.specs.Host.{plainOf, plainIn, blank, wayOf}
+use Rattle.account.proofs.Tried.{ended-ends}
+use Rattle.account.proofs.Settled.{verify-settled, erase-settled}
+use Rattle.account.proofs.Identifying.{identify-is, identify-bytes}
+use Rattle.account.proofs.Rest.{Bytes, restAt, doneIn, doneOut, Ground, Rel}
+use Rattle.account.proofs.Commands.{Given, outward, over, settled-ground, read-all, read-all-held, write-all, write-all-held, verify-all, erase-all, set-is, set-idle, set-ground, seek-is}
+
+pub begins : (k : Command) (m : Machine) → Given m → Rel (wayOf k) (account k (plainOf m)) (obeyed k (started (m .state)) m) blank
+unfolding account restAt doneIn doneOut
+begins Read m h =
+    let x = withState (started (m .state)) m in
+    let z = read-all-held x (h .0) (h .1) in
+    record { account = λ d. read-all x d (h .0) (h .1); ground = z .0; held = z .1 }
+begins Write m h =
+    let x = withState (started (m .state)) m in
+    let z = write-all-held x (h .2) (outward m (h .0)) (h .1) in
+    record { account = λ d. write-all x d (outward m (h .0)) (h .1); ground = z .0; held = z .1 }
+begins Verify m h =
+    let x = withState (started (m .state)) m in
+    let k = verifyFrom (countOf (x .state)) (x .state) (m .marks) in
+    let z = verify-settled (countOf (x .state)) (x .state) (m .marks) in
+    over _ In k (m .buffer) (m .store) (m .marks) (z .0) (settled-ground In (x .state) k (m .buffer) (m .store) (m .marks) (m .buffer) (m .store) (m .marks) z (h .0) (h .0 .1) (h .0 .2))
+    (λ d. ap silent (verify-all x (h .0) (h .1)))
+begins Erase m h =
+    let x = withState (started (m .state)) m in
+    let k = eraseFrom (countOf (x .state)) (x .state) (m .store) (m .marks) in
+    let z = erase-settled (countOf (x .state)) (totalOf (m .state .made .default)) (x .state) (m .store) (m .marks) (h .0 .1) in
+    over _ Out (k .core) (m .buffer) (k .store) (k .marks) (z .0 .0)
+    (settled-ground Out (x .state) (k .core) (m .buffer) (m .store) (m .marks) (m .buffer) (k .store) (k .marks) (z .0) (outward m (h .0)) (z .1) tt)
+    (λ d. ap silent (erase-all x (h .0) (h .1)))
+begins Identify m h =
+    let e : identifyBytes (factsOf (started (m .state))) ≡ identifyData (plainOf m) = identify-is (m .state) (m .buffer) (m .store) (m .marks) (h .0 .0 .1) in
+    record {
+      account = λ d. rw e;
+      ground = h .0;
+      held = (omega arith, identify-length (factsOf (started (m .state))), rw e (identify-bytes (plainOf m) (h .4) (h .5) (h .6) (h .7) (h .8) (h .9)), tt, tt);
+    }
+begins ReadBuffer m h = record { account = λ d. refl; ground = h .0; held = (omega arith, h .2, h .3, tt, tt) }
+begins WriteBuffer m h = record { account = λ d. refl; ground = outward m (h .0); held = (omega arith, h .2, tt, tt, tt) }
+begins SetGeometry m h =
+    let s = started (m .state) in
+    let r = reshaped (s .registers .count) (s .registers .address .head) (totalIn s) in
+    over _ In (geometrySet r s) (m .buffer) (m .store) (m .marks) (set-idle r s)
+    (set-ground r s (m .buffer) (m .store) (m .marks) (after-current (s .registers .count) (s .registers .address .head) (totalIn s) r (s .current) (h .1 .0) refl (h .0 .0 .0)) (h .0))
+    (λ d. ap silent (set-is s (m .buffer) (m .store) (m .marks) (h .0 .0)))
+begins Diagnose m h = record { account = λ d. refl; ground = h .0; held = tt }
+begins Recalibrate m h = record { account = λ d. refl; ground = h .0; held = tt }
+begins Seek m h =
+    let s = started (m .state) in
+    record {
+      account = λ d. ap silent (ap (λ (e : Ending). ends e (starts (plainOf m))) (seek-is (m .state) (m .buffer) (m .store) (m .marks) (h .0 .0)) ∙ sym (ended-ends (soughtEnd (seek (s .registers .address) (s .current) (totalIn s))) true s (m .buffer) (m .store) (m .marks)));
+      ground = h .0;
+      held = tt;
+    }
+begins Sense m h = record { account = λ d. refl; ground = h .0; held = tt }
+begins Other m h = record { account = λ d. refl; ground = h .0; held = tt }

@@ -1,0 +1,64 @@
+-- Identify: the account's list of words is the machine's table of bytes.
+use Prim.Native.Nat.{ℕ, zero, suc, _+_, _*_, _/_, _%_, _≤_, _<_}
+use mathlib.Core.Path.{_≡_, refl, sym, ap, _∙_}
+use mathlib.Core.List.{List, [], _∷_, _++_}
+use native.Mathlib.Omega.{arith}
+use lib.ListN.{getD, replicate}
+use Rattle.geometry.specs.Limits.{totalOf}
+use Rattle.identify.specs.Words.{firstWord, laterWord, identifyWord, identifyByte, identifyBytes}
+use Rattle.identify.specs.Words
+use Rattle.registers.specs.declared.State.{State}
+use Rattle.commands.specs.Table.{factsOf}
+use Rattle.account.specs.Plain.{Plain, sectorsOf}
+use Rattle.account.specs.Words.{bytesOf, identifyWords, identifyData}
+use Rattle.account.specs.Host.{plainIn}
+use Rattle.account.proofs.Rest.{Bytes}
+
+pub identify-is : (s : State) (b t k : List ℕ) → totalOf (s .made .default) ≡ sectorsOf (s .made .default) → identifyBytes (factsOf s) ≡ identifyData (plainIn s b t k)
+unfolding firstWord laterWord identifyWord identifyByte identifyBytes Rattle.identify.specs.Words.blank bytesOf identifyWords
+identify-is s b t k e = rw e
+
+-- words of 16 bits give bytes
+abbrev Narrow : List ℕ → Type 0
+Narrow l = (i : ℕ) → getD l i 0 < 65536
+
+bytes-of : (l : List ℕ) → Narrow l → Bytes (bytesOf l)
+unfolding bytesOf
+bytes-of [] h i = omega arith
+bytes-of (w ∷ l) h zero = omega arith
+bytes-of (w ∷ l) h (suc zero) = let x = h zero in omega arith
+bytes-of (w ∷ l) h (suc (suc i)) = bytes-of l (λ j. h (suc j)) i
+
+more : (w : ℕ) (l : List ℕ) → w < 65536 → Narrow l → Narrow (w ∷ l)
+more w l h k zero = h
+more w l h k (suc i) = k i
+
+none : Narrow []
+none i = omega arith
+
+joined : (a b : List ℕ) → Narrow a → Narrow b → Narrow (a ++ b)
+joined [] b h k = k
+joined (w ∷ a) b h k = more w (a ++ b) (h zero) (joined a b (λ j. h (suc j)) k)
+
+same : (n w : ℕ) → w < 65536 → Narrow (replicate n w)
+same zero w h = none
+same (suc n) w h = more w (replicate n w) h (same n w h)
+
+-- a list of words, each below 65536
+pub identify-bytes : (p : Plain) → p .made .default .cylinders ≤ 65535 → p .made .default .heads ≤ 65535 → p .made .default .sectors ≤ 65535 →
+    p .current .cylinders ≤ 65535 → p .current .heads ≤ 65535 → p .current .sectors ≤ 65535 → Bytes (identifyData p)
+unfolding identifyWords
+identify-bytes p a b c d e f =
+    let t6 : List ℕ = replicate 194 0 in
+    let t5 : List ℕ = (p .current .cylinders ∷ p .current .heads ∷ p .current .sectors ∷ sectorsOf (p .current) % 65536 ∷ sectorsOf (p .current) / 65536 % 65536 ∷ 0 ∷ sectorsOf (p .made .default) % 65536 ∷ sectorsOf (p .made .default) / 65536 % 65536 ∷ []) ++ t6 in
+    let t4 : List ℕ = (0 ∷ 0 ∷ 0x0200 ∷ 0 ∷ 0 ∷ 0 ∷ 1 ∷ []) ++ t5 in
+    let t3 : List ℕ = replicate 24 0x2020 ++ t4 in
+    let t2 : List ℕ = replicate 3 0 ++ t3 in
+    let t1 : List ℕ = replicate 10 0x2020 ++ t2 in
+    bytes-of (identifyWords p)
+    (joined (0x848A ∷ p .made .default .cylinders ∷ 0 ∷ p .made .default .heads ∷ 0 ∷ 0 ∷ p .made .default .sectors ∷ sectorsOf (p .made .default) / 65536 % 65536 ∷ sectorsOf (p .made .default) % 65536 ∷ 0 ∷ []) t1 (more 0x848A (p .made .default .cylinders ∷ 0 ∷ p .made .default .heads ∷ 0 ∷ 0 ∷ p .made .default .sectors ∷ sectorsOf (p .made .default) / 65536 % 65536 ∷ sectorsOf (p .made .default) % 65536 ∷ 0 ∷ []) (omega arith) (more (p .made .default .cylinders) (0 ∷ p .made .default .heads ∷ 0 ∷ 0 ∷ p .made .default .sectors ∷ sectorsOf (p .made .default) / 65536 % 65536 ∷ sectorsOf (p .made .default) % 65536 ∷ 0 ∷ []) (omega arith) (more 0 (p .made .default .heads ∷ 0 ∷ 0 ∷ p .made .default .sectors ∷ sectorsOf (p .made .default) / 65536 % 65536 ∷ sectorsOf (p .made .default) % 65536 ∷ 0 ∷ []) (omega arith) (more (p .made .default .heads) (0 ∷ 0 ∷ p .made .default .sectors ∷ sectorsOf (p .made .default) / 65536 % 65536 ∷ sectorsOf (p .made .default) % 65536 ∷ 0 ∷ []) (omega arith) (more 0 (0 ∷ p .made .default .sectors ∷ sectorsOf (p .made .default) / 65536 % 65536 ∷ sectorsOf (p .made .default) % 65536 ∷ 0 ∷ []) (omega arith) (more 0 (p .made .default .sectors ∷ sectorsOf (p .made .default) / 65536 % 65536 ∷ sectorsOf (p .made .default) % 65536 ∷ 0 ∷ []) (omega arith) (more (p .made .default .sectors) (sectorsOf (p .made .default) / 65536 % 65536 ∷ sectorsOf (p .made .default) % 65536 ∷ 0 ∷ []) (omega arith) (more (sectorsOf (p .made .default) / 65536 % 65536) (sectorsOf (p .made .default) % 65536 ∷ 0 ∷ []) (omega arith) (more (sectorsOf (p .made .default) % 65536) (0 ∷ []) (omega arith) (more 0 [] (omega arith) none))))))))))
+    (joined (replicate 10 0x2020) t2 (same 10 0x2020 (omega arith))
+    (joined (replicate 3 0) t3 (same 3 0 (omega arith))
+    (joined (replicate 24 0x2020) t4 (same 24 0x2020 (omega arith))
+    (joined (0 ∷ 0 ∷ 0x0200 ∷ 0 ∷ 0 ∷ 0 ∷ 1 ∷ []) t5 (more 0 (0 ∷ 0x0200 ∷ 0 ∷ 0 ∷ 0 ∷ 1 ∷ []) (omega arith) (more 0 (0x0200 ∷ 0 ∷ 0 ∷ 0 ∷ 1 ∷ []) (omega arith) (more 0x0200 (0 ∷ 0 ∷ 0 ∷ 1 ∷ []) (omega arith) (more 0 (0 ∷ 0 ∷ 1 ∷ []) (omega arith) (more 0 (0 ∷ 1 ∷ []) (omega arith) (more 0 (1 ∷ []) (omega arith) (more 1 [] (omega arith) none)))))))
+    (joined (p .current .cylinders ∷ p .current .heads ∷ p .current .sectors ∷ sectorsOf (p .current) % 65536 ∷ sectorsOf (p .current) / 65536 % 65536 ∷ 0 ∷ sectorsOf (p .made .default) % 65536 ∷ sectorsOf (p .made .default) / 65536 % 65536 ∷ []) t6 (more (p .current .cylinders) (p .current .heads ∷ p .current .sectors ∷ sectorsOf (p .current) % 65536 ∷ sectorsOf (p .current) / 65536 % 65536 ∷ 0 ∷ sectorsOf (p .made .default) % 65536 ∷ sectorsOf (p .made .default) / 65536 % 65536 ∷ []) (omega arith) (more (p .current .heads) (p .current .sectors ∷ sectorsOf (p .current) % 65536 ∷ sectorsOf (p .current) / 65536 % 65536 ∷ 0 ∷ sectorsOf (p .made .default) % 65536 ∷ sectorsOf (p .made .default) / 65536 % 65536 ∷ []) (omega arith) (more (p .current .sectors) (sectorsOf (p .current) % 65536 ∷ sectorsOf (p .current) / 65536 % 65536 ∷ 0 ∷ sectorsOf (p .made .default) % 65536 ∷ sectorsOf (p .made .default) / 65536 % 65536 ∷ []) (omega arith) (more (sectorsOf (p .current) % 65536) (sectorsOf (p .current) / 65536 % 65536 ∷ 0 ∷ sectorsOf (p .made .default) % 65536 ∷ sectorsOf (p .made .default) / 65536 % 65536 ∷ []) (omega arith) (more (sectorsOf (p .current) / 65536 % 65536) (0 ∷ sectorsOf (p .made .default) % 65536 ∷ sectorsOf (p .made .default) / 65536 % 65536 ∷ []) (omega arith) (more 0 (sectorsOf (p .made .default) % 65536 ∷ sectorsOf (p .made .default) / 65536 % 65536 ∷ []) (omega arith) (more (sectorsOf (p .made .default) % 65536) (sectorsOf (p .made .default) / 65536 % 65536 ∷ []) (omega arith) (more (sectorsOf (p .made .default) / 65536 % 65536) [] (omega arith) none)))))))) (same 194 0 (omega arith))))))))

@@ -1,0 +1,126 @@
+-- A write or an erase changes only sectors that it names: those from the first index on, as many as Count asks for.
+use Prim.Native.Nat.{ℕ, zero, suc, _+_, _-_, _*_, _≤_, _<_}
+use mathlib.Core.Bool.{Bool, true, false}
+use mathlib.Core.Path.{_≡_, refl, sym, ap, _∙_, subst}
+use mathlib.Core.List.{List, [], _∷_, _++_}
+use native.Mathlib.Omega.{arith}
+use lib.ListN.{length, getD, replicate, length-append}
+use Rattle.geometry.specs.declared.Located.{Located}
+use Rattle.geometry.specs.Limits.{totalOf}
+use Rattle.maps.specs.declared.Register.the-variants.{StatusCommand}
+use Rattle.registers.specs.State.{Machine}
+use Rattle.registers.specs.WellMade.{locatedIn}
+use Rattle.commands.specs.declared.Command.{Command}
+use Rattle.commands.specs.declared.Command.the-variants.{Write, Erase}
+use Rattle.commands.specs.declared.Way.the-variants.{In}
+use Rattle.commands.specs.Table.{commandOf}
+use Rattle.card.specs.Access.{Access}
+use Rattle.card.specs.Step.{Stepped, step}
+use Rattle.account.specs.Plain.{Plain, sectorsOf, starts, Ending, WriteFault, ends, Account, silent}
+use Rattle.account.specs.Course.{Course, courseOf}
+use Rattle.account.specs.Runs.{Run, tests, unwritable, writeRun, writeSectors, eraseSectors}
+use Rattle.account.specs.Table.{asked, first, fromFirst, account}
+use Rattle.account.specs.Host.{plainOf, Moves, Hosted}
+use Rattle.account.specs.Claim.{Agrees}
+use Rattle.account.proofs.Seats.{courseIn, seat-room, room-total}
+use Rattle.account.proofs.Rest.{Ground}
+use Rattle.account.proofs.Commands.{first-is}
+use Rattle.account.proofs.Accepted.{given}
+use Rattle.account.proofs.Theorem.{as-the-account}
+use Rattle.account.proofs.Corollaries.{Command-write, after, ends-store}
+use Rattle.account.proofs.Elsewhere.{Same, replaced-same, blanked-same, cleared-same, run-inside, run-most}
+
+-- the bytes of the store and the marks outside n sectors from the first one are the same; with no first sector, all of them
+abbrev pub OnlyNamed : Located → ℕ → List ℕ → List ℕ → List ℕ → List ℕ → Type 0
+OnlyNamed (Located.Good spot) n store marks store′ marks′ = Same (512 * spot .index) (512 * (spot .index + n)) store store′ × Same (spot .index) (spot .index + n) marks marks′
+OnlyNamed Located.BadHeadOrSector n store marks store′ marks′ = (store′ ≡ store) × (marks′ ≡ marks)
+OnlyNamed Located.BadCylinder n store marks store′ marks′ = (store′ ≡ store) × (marks′ ≡ marks)
+OnlyNamed Located.BadLba n store marks store′ marks′ = (store′ ≡ store) × (marks′ ≡ marks)
+
+abbrev pub Kept : Located → ℕ → Plain → Plain → Type 0
+Kept l n p q = OnlyNamed l n (p .store) (p .marks) (q .store) (q .marks)
+
+-- fewer sectors than those named
+wider : (s t u : List ℕ) (low high more : ℕ) → high ≤ more → u ≡ t → Same low high s t → Same low more s u
+wider s t u low high more h e z = rw e (z .0, λ k y. z .1 k (omega arith))
+
+length-replicate : (n x : ℕ) → length (replicate n x) ≡ n
+length-replicate zero x = refl
+length-replicate (suc n) x = ap suc (length-replicate n x)
+
+module _ (n total : ℕ) (p : Plain) (s : length (p .store) ≡ 512 * total) (r : courseOf p .room ≤ total) where
+  abbrev runOf : ℕ → Run
+  runOf i = writeRun (courseOf p) (p .marks) i n
+
+  write-named : (l : Located) (d : List ℕ) → ((i : ℕ) → l ≡ Located.Good (record { index = i }) → (i ≤ courseOf p .room) × (512 * runOf i .done ≤ length d)) →
+      Kept l n p (fromFirst l silent (λ i. writeSectors (courseOf p) i n p d) p .left)
+  unfolding writeSectors
+  write-named (Located.Good spot) d h =
+      let k = runOf (spot .index) in
+      let f = h (spot .index) refl in
+      let x = run-inside unwritable WriteFault (courseOf p) (p .marks) n (spot .index) (f .0) in
+      let y = run-most (tests unwritable WriteFault (courseOf p) (p .marks)) n (spot .index) in
+      let e = ends-store (k .ending) _ in (
+        wider (p .store) _ _ (512 * spot .index) (512 * (spot .index + k .done)) (512 * (spot .index + n)) (omega arith) (e .0) (replaced-same (k .done) (spot .index) total d (p .store) (f .1) (omega arith) s),
+        wider (p .marks) _ _ (spot .index) (spot .index + k .done) (spot .index + n) (omega arith) (e .1) (cleared-same (k .done) (spot .index) (p .marks)),
+      )
+  write-named Located.BadHeadOrSector d h = (refl, refl)
+  write-named Located.BadCylinder d h = (refl, refl)
+  write-named Located.BadLba d h = (refl, refl)
+
+  erase-named : (l : Located) → ((i : ℕ) → l ≡ Located.Good (record { index = i }) → i ≤ courseOf p .room) → Kept l n p (fromFirst l (λ q. q) (λ i. eraseSectors (courseOf p) i n p) p)
+  unfolding eraseSectors
+  erase-named (Located.Good spot) h =
+      let k = runOf (spot .index) in
+      let x = run-inside unwritable WriteFault (courseOf p) (p .marks) n (spot .index) (h (spot .index) refl) in
+      let y = run-most (tests unwritable WriteFault (courseOf p) (p .marks)) n (spot .index) in
+      let e = ends-store (k .ending) _ in (
+        wider (p .store) _ _ (512 * spot .index) (512 * (spot .index + k .done)) (512 * (spot .index + n)) (omega arith) (e .0) (blanked-same (k .done) (spot .index) total (p .store) (omega arith) s),
+        wider (p .marks) _ _ (spot .index) (spot .index + k .done) (spot .index + n) (omega arith) (e .1) (cleared-same (k .done) (spot .index) (p .marks)),
+      )
+  erase-named Located.BadHeadOrSector h = (refl, refl)
+  erase-named Located.BadCylinder h = (refl, refl)
+  erase-named Located.BadLba h = (refl, refl)
+
+-- the first index is one of the room, and the room is inside the store
+first-inside : (m : Machine) (i : ℕ) → Ground In m → first (plainOf m) ≡ Located.Good (record { index = i }) → i < courseIn (m .state) .room
+first-inside m i g e = seat-room (m .state) i (g .0) (first-is m (g .0) ∙ e)
+
+writes-named : (m : Machine) (done : List ℕ) → Ground In m →
+    let n = asked (m .state .registers .count) in
+    Kept (first (plainOf m)) n (plainOf m) (account Write (plainOf m) (done ++ replicate (512 * n) 0) .left)
+unfolding account
+writes-named m done g =
+    let n = asked (m .state .registers .count) in
+    let d = done ++ replicate (512 * n) 0 in
+    let l : length d ≡ length done + 512 * n = length-append done (replicate (512 * n) 0) ∙ ap (λ (k : ℕ). length done + k) (length-replicate (512 * n) 0) in
+    write-named n (totalOf (m .state .made .default)) (starts (plainOf m)) (g .1 .0) (room-total (courseIn (m .state)) (m .state) (g .0) refl) (first (plainOf m)) d
+    (λ i e.
+    let y = run-most (tests unwritable WriteFault (courseOf (plainOf m)) (m .marks)) n i in
+    let z = first-inside m i g e in
+    (omega arith, omega arith))
+
+erases-named : (m : Machine) (d : List ℕ) → Ground In m → Kept (first (plainOf m)) (asked (m .state .registers .count)) (plainOf m) (account Erase (plainOf m) d .left)
+unfolding account
+erases-named m d g =
+    erase-named (asked (m .state .registers .count)) (totalOf (m .state .made .default)) (starts (plainOf m)) (g .1 .0) (room-total (courseIn (m .state)) (m .state) (g .0) refl) (first (plainOf m))
+    (λ i e. let z = first-inside m i g e in omega arith)
+
+pub write-changes-only-named : (m : Machine) (a : Access) (v : ℕ) (l : List Access) → Command-write m a v → commandOf v ≡ Write → Moves (step m a .next) l →
+    Kept (first (plainOf m)) (asked (m .state .registers .count)) (plainOf m) (plainOf (after m a v l .machine))
+write-changes-only-named m a v l w e x =
+    let g = given m a StatusCommand v (w .accepted) (w .free) (w .typed) .0 in
+    let n = asked (m .state .registers .count) in
+    let done = after m a v l .notes .done in
+    let p = as-the-account m a v l (w .accepted) (w .free) (w .typed) x .enough (replicate (512 * n) 0) in
+    let u = ap (λ (k : Command). account k (plainOf m) (done ++ replicate (512 * n) 0)) e in
+    subst (λ (q : Account). Kept (first (plainOf m)) n (plainOf m) (q .left)) (sym u ∙ p) (writes-named m done g)
+
+pub erase-changes-only-named : (m : Machine) (a : Access) (v : ℕ) (l : List Access) → Command-write m a v → commandOf v ≡ Erase → Moves (step m a .next) l →
+    Kept (first (plainOf m)) (asked (m .state .registers .count)) (plainOf m) (plainOf (after m a v l .machine))
+erase-changes-only-named m a v l w e x =
+    let g = given m a StatusCommand v (w .accepted) (w .free) (w .typed) .0 in
+    let done = after m a v l .notes .done in
+    let p = as-the-account m a v l (w .accepted) (w .free) (w .typed) x .account in
+    let u = ap (λ (k : Command). account k (plainOf m) done) e in
+    subst (λ (q : Account). Kept (first (plainOf m)) (asked (m .state .registers .count)) (plainOf m) (q .left)) (sym u ∙ p) (erases-named m done g)

@@ -1,0 +1,99 @@
+-- Reading: from sector to sector the account of the rest is kept.
+use Prim.Native.Nat.{ℕ, zero, suc, _+_, _-_, _*_, _/_, _%_, _≤_, _<_}
+use mathlib.Core.Bool.{Bool, true, false}
+use mathlib.Core.Path.{_≡_, refl, sym, ap, _∙_, subst}
+use mathlib.Core.List.{List, [], _∷_, _++_}
+use native.Mathlib.Omega.{arith}
+use lib.Dec.{ltb, eqb}
+use lib.ListN.{length, take, drop, set, getD, drop-of-length-le, length-drop}
+use lib.Seq.{drop-cons, getD-drop, length-take-le}
+use borrow.Author.Tests.{ltb-true, ltb-false, lt-ltb, ne-eqb}
+use Rattle.ground.specs.Choice.{pick}
+use Rattle.geometry.specs.declared.Located.{Located}
+use Rattle.geometry.specs.Codes.{indexOf}
+use Rattle.geometry.specs.Limits.{totalOf}
+use Rattle.sectors.specs.Sectors.{sectorOf, bufferRead}
+use Rattle.registers.specs.declared.Load.{Load}
+use Rattle.registers.specs.declared.Load.the-variants.{Sectors, Buffer}
+use Rattle.registers.specs.declared.Transfer.{Transfer}
+use Rattle.registers.specs.declared.Phase.{Phase}
+use Rattle.registers.specs.declared.Phase.the-variants.{Idle, DataIn, DataOut}
+use Rattle.registers.specs.declared.State.{State}
+use Rattle.registers.specs.State.{Machine}
+use Rattle.registers.specs.WellMade.{locatedIn}
+use Rattle.commands.specs.declared.End.{End}
+use Rattle.commands.specs.declared.Tested.{Tested}
+use Rattle.commands.specs.Before.{readTest}
+use Rattle.commands.specs.Steps.{withState, passed, readTested, readSector, nextRead, loadRead}
+use Rattle.port.specs.Halves.{nextWord}
+use Rattle.port.specs.Data.{withPhase, wordRead}
+use Rattle.commands.specs.declared.Way.the-variants.{In, Out}
+use Rattle.account.specs.Plain.{Plain, Ending, Well, Unreadable, Account, silent, moving, withBuffer}
+use Rattle.account.specs.Course.{Course, named}
+use Rattle.account.specs.Runs.{Run, tried, stopped, runFrom, tests, unreadable, sectorsFrom, lastSector, sectorAt, readDone, readSectors}
+use Rattle.account.specs.Host.{plainOf}
+use Rattle.account.proofs.Seats.{Shaped, Seated, Where, courseIn, onward, passed-on, seat-next, room-total}
+use Rattle.account.proofs.Tried.{stops-run, stops-ends, read-tested}
+use Rattle.account.proofs.Stored.{Lent}
+use Rattle.account.proofs.Verifying.{where-good, seated-last}
+use Rattle.account.proofs.Rest.{bare, here, doneIn, restAt, rest, run-status, Loaded}
+
+pub sector-read : (n i : ℕ) (store buffer : List ℕ) → i < n → length store ≡ 512 * n → bufferRead store i buffer ≡ sectorAt store i
+unfolding bufferRead sectorOf
+sector-read n i store buffer h e =
+    let q : length store / 512 ≡ n = rw e (omega arith) in
+    rw (q, lt-ltb i n h)
+
+pub pred : (n : ℕ) → suc n - 1 ≡ n
+pred n = omega arith
+
+-- a sector to be read
+pub read-rest : (n : ℕ) (c : Course) (i : ℕ) (m : Machine) (d : List ℕ) → Shaped (m .state .made) (m .state .current) → Lent (totalOf (m .state .made .default)) (m .store) (m .marks) →
+    Seated c i (suc n) (m .state) → Where c i (m .state) → rest (readSector (suc n) m) d ≡ readSectors c i (suc n) (plainOf m)
+unfolding readSector readSectors runFrom restAt doneIn sectorsFrom lastSector
+read-rest n c i m d h l q w =
+    read-tested c i (m .state) (m .marks)
+    (λ (x : Tested) (e : Ending). rest (readTested x (suc n) m) d ≡ readDone c i (tried e (suc n) i (runFrom (tests unreadable Unreadable c (m .marks)) (i + 1) n)) (plainOf m))
+    w
+    (λ r.
+    let o = room-total c (m .state) h (q .2) in
+    let v = runFrom (tests unreadable Unreadable c (m .marks)) (i + 1) n in
+    rw (sector-read (totalOf (m .state .made .default)) i (m .store) (m .buffer) (omega arith) (l .0), where-good c i (m .state) w r, q .2, pred n)
+    (ap (λ (x : Plain). record { moved = sectorAt (m .store) i ++ sectorsFrom (m .store) (i + 1) (v .done); left = x })
+    (run-status c v 0x58 (withBuffer (lastSector (m .store) (i + 1) (v .done) (sectorAt (m .store) i)) (plainOf m)))))
+    (λ f z. rw (stops-run f z c (suc n) i (runFrom (tests unreadable Unreadable c (m .marks)) (i + 1) n) (plainOf m), stops-ends f true z c (suc n) i (m .state) (m .buffer) (m .store) (m .marks) q))
+
+-- the last byte of sector i has gone
+pub next-rest : (n : ℕ) (c : Course) (i : ℕ) (m : Machine) (d : List ℕ) → Shaped (m .state .made) (m .state .current) → Lent (totalOf (m .state .made .default)) (m .store) (m .marks) →
+    Seated c i (suc n) (m .state) → locatedIn (m .state) ≡ Located.Good (record { index = i }) → rest (nextRead n m) d ≡ readSectors c (i + 1) n (plainOf m)
+unfolding nextRead
+next-rest zero c i m d h l q e = unfold passed restAt readSectors runFrom sectorsFrom lastSector in rw (seated-last c i 1 (m .state) q)
+next-rest (suc n) c i m d h l q e =
+    let z = seat-next c (suc n) i (m .state) h e (q .2) in
+    let y = read-rest n c (i + 1) (withState (onward (suc n) (m .state)) m) d h l (z .0) (z .1) in
+    rw (passed-on n (m .state), ne-eqb (suc n) 0 (omega arith)) (y ∙ (unfold readSectors in refl))
+
+pub load-rest : (l : Load) (m : Machine) (d : List ℕ) → Shaped (m .state .made) (m .state .current) → Lent (totalOf (m .state .made .default)) (m .store) (m .marks) → Loaded l (bare (plainOf m)) →
+    rest (loadRead l m) d ≡ doneIn l (plainOf m)
+unfolding doneIn
+load-rest Buffer m d h l k = unfold restAt in refl
+load-rest (Sectors zero) m d h l k = absurd (omega (arith, k .1))
+load-rest (Sectors (suc n)) m d h l k = rw (pred n) (next-rest n (courseIn (m .state)) (here (m .state)) m d h l (k .2, k .3, refl) (k .0))
+
+-- the two bytes of a word
+drop-two : (b : List ℕ) (w : ℕ) → 2 * w + 1 < length b → drop (2 * w) b ≡ getD b (2 * w) 0 ∷ getD b (2 * w + 1) 0 ∷ drop (2 * (w + 1)) b
+drop-two b w h =
+    let e : 2 * (w + 1) ≡ suc (suc (2 * w)) = omega arith in
+    let f : 2 * w + 1 ≡ suc (2 * w) = omega arith in
+    rw (e, f, drop-cons b (2 * w) 0 (omega arith), drop-cons b (suc (2 * w)) 0 (omega arith))
+
+-- a word has gone
+pub word-rest : (b : Bool) (t : Transfer) (m : Machine) (d e : List ℕ) → ltb (t .words) 255 ≡ b → t .words < 256 → length (m .buffer) ≡ 512 →
+    Shaped (m .state .made) (m .state .current) → Lent (totalOf (m .state .made .default)) (m .store) (m .marks) → Loaded (t .load) (bare (plainOf m)) →
+    restAt (DataIn t) (plainOf m) e
+    ≡ moving (getD (m .buffer) (2 * t .words) 0 ∷ getD (m .buffer) (2 * t .words + 1) 0 ∷ []) (rest (pick b (withPhase (DataIn (nextWord t)) m) (loadRead (t .load) (withState (m .state) m))) d)
+unfolding restAt
+word-rest true t m d e q w f h l k = rw (drop-two (m .buffer) (t .words) (omega (arith, ltb-true)))
+word-rest false t m d e q w f h l k =
+    let z : drop (2 * (t .words + 1)) (m .buffer) ≡ [] = drop-of-length-le (m .buffer) {i = 2 * (t .words + 1)} (omega (arith, ltb-false)) in
+    rw (drop-two (m .buffer) (t .words) (omega (arith, ltb-false)), z, load-rest (t .load) (withState (m .state) m) d h l k)

@@ -1,0 +1,97 @@
+-- A run's registers: at index i with n sectors left; and how they go on to the next index.
+use Prim.Native.Nat.{ℕ, zero, suc, _+_, _-_, _*_, _/_, _%_, _≤_, _<_}
+use mathlib.Core.Bool.{Bool, true, false, true≢false}
+use mathlib.Core.Path.{_≡_, refl, sym, ap, _∙_, subst}
+use mathlib.Core.List.{List, [], _∷_}
+use native.Mathlib.Omega.{arith}
+use lib.Dec.{ltb, eqb}
+use borrow.Author.Tests.{ne-eqb}
+use Rattle.ground.specs.Choice.{pick}
+use Rattle.geometry.specs.declared.Geometry.{Geometry}
+use Rattle.geometry.specs.declared.Address.{Address}
+use Rattle.geometry.specs.declared.Located.{Located}
+use Rattle.geometry.specs.Limits.{fits, totalOf, currentFor}
+use Rattle.geometry.specs.Address.{byLba, roomOf, locate}
+use Rattle.geometry.specs.Next.{nextOf}
+use Rattle.geometry.proofs.Limits.{current-room}
+use Rattle.geometry.proofs.Inside.{inside-room}
+use Rattle.geometry.proofs.Kept.{Bytes, next-kept}
+use Rattle.geometry.proofs.Next.{next-law}
+use Rattle.registers.specs.declared.Made.{Made}
+use Rattle.registers.specs.declared.State.{State}
+use Rattle.registers.specs.State.{withCount, withAddress}
+use Rattle.registers.specs.WellMade.{locatedIn}
+use Rattle.commands.specs.Steps.{passed}
+use Rattle.account.specs.Plain.{Plain, sectorsOf, withPlace}
+use Rattle.account.specs.Course.{Course, courseOf, named}
+use Rattle.account.specs.Host.{plainIn}
+use Rattle.account.proofs.Names.{named-self, next-named}
+
+abbrev pub courseIn : State → Course
+courseIn s = courseOf (plainIn s [] [] [])
+
+-- what a well-made card's geometries are
+abbrev pub Shaped : Made → Geometry → Type 0
+Shaped d g = (currentFor g (totalOf (d .default)) ≡ true) × (totalOf (d .default) ≡ sectorsOf (d .default)) × (totalOf (d .default) ≤ 65535)
+
+-- Count and the address
+abbrev pub Seated : Course → ℕ → ℕ → State → Type 0
+Seated c i n s = (s .registers .count ≡ n % 256) × (s .registers .address ≡ named c i) × (courseIn s ≡ c)
+
+-- where the address points: at sector i, or past the room
+abbrev pub pastEnd : Course → Located
+pastEnd c = pick (c .lba) Located.BadLba Located.BadCylinder
+
+abbrev pub Where : Course → ℕ → State → Type 0
+Where c i s = locatedIn s ≡ pick (ltb i (c .room)) (Located.Good (record { index = i })) (pastEnd c)
+
+room-is : (s : State) → Shaped (s .made) (s .current) → roomOf (s .registers .address) (s .current) (totalOf (s .made .default)) ≡ courseIn s .room
+unfolding roomOf
+room-is s h = ap (λ (n : ℕ). pick (byLba (s .registers .address)) n (sectorsOf (s .current))) (h .1)
+
+-- the first sector of a run
+pub seat-room : (s : State) (i : ℕ) → Shaped (s .made) (s .current) → locatedIn s ≡ Located.Good (record { index = i }) → i < courseIn s .room
+seat-room s i h e = subst (λ (n : ℕ). i < n) (room-is s h) (inside-room (s .registers .address) (s .current) (totalOf (s .made .default)) (record { index = i }) (h .0) e .0)
+
+pub seat-address : (s : State) (i : ℕ) → Bytes (s .registers .address) → locatedIn s ≡ Located.Good (record { index = i }) → s .registers .address ≡ named (courseIn s) i
+unfolding named
+seat-address s i b e = sym (named-self (s .registers .address) (s .current) (totalOf (s .made .default)) (record { index = i }) b e)
+
+-- the next one: `passed` moves the registers on
+abbrev pub onward : ℕ → State → State
+onward n s = withCount (n % 256) (withAddress (nextOf (s .registers .address) (s .current)) s)
+
+pub passed-on : (n : ℕ) (s : State) → passed (suc n) s ≡ onward (suc n) s
+unfolding passed
+passed-on n s = rw (ne-eqb (suc n) 0 (omega arith))
+
+course-kept : (n : ℕ) (s : State) → courseIn (onward n s) ≡ courseIn s
+course-kept n s = let k = next-kept (s .registers .address) (s .current) in rw (k .0, k .1)
+
+address-next : (n i : ℕ) (s : State) → Shaped (s .made) (s .current) → locatedIn s ≡ Located.Good (record { index = i }) → onward n s .registers .address ≡ named (courseIn s) (i + 1)
+unfolding named
+address-next n i s h e = next-named (s .registers .address) (s .current) (totalOf (s .made .default)) (record { index = i }) (h .0) (h .2) e
+
+where-next : (n i : ℕ) (s : State) → Shaped (s .made) (s .current) → locatedIn s ≡ Located.Good (record { index = i }) → Where (courseIn s) (i + 1) (onward n s)
+where-next n i s h e =
+    subst (λ (r : ℕ). locatedIn (onward n s) ≡ pick (ltb (i + 1) r) (Located.Good (record { index = i + 1 })) (pastEnd (courseIn s)))
+    (room-is s h)
+    (next-law (s .registers .address) (s .current) (totalOf (s .made .default)) (record { index = i }) (h .0) (h .2) e)
+
+pub seat-next : (c : Course) (n i : ℕ) (s : State) → Shaped (s .made) (s .current) → locatedIn s ≡ Located.Good (record { index = i }) → courseIn s ≡ c → Seated c (i + 1) n (onward n s) × Where c (i + 1) (onward n s)
+seat-next c n i s h e q =
+    subst (λ (d : Course). Seated d (i + 1) n (onward n s) × Where d (i + 1) (onward n s)) q
+    ((refl, address-next n i s h e, course-kept n s), where-next n i s h e)
+
+-- registers that are seated are those of the account
+pub place-seated : (c : Course) (i n : ℕ) (s : State) (b t k : List ℕ) → Seated c i n s → withPlace (n % 256) (named c i) (plainIn s b t k) ≡ plainIn s b t k
+place-seated c i n s b t k h = rw (← h .0, ← h .1)
+
+-- the room of a run lies in the store
+room-by : (b : Bool) (m n : ℕ) → m ≤ n → pick b n m ≤ n
+room-by true m n h = omega arith
+room-by false m n h = h
+
+pub room-total : (c : Course) (s : State) → Shaped (s .made) (s .current) → courseIn s ≡ c → c .room ≤ totalOf (s .made .default)
+room-total c s h q =
+    rw (← q, h .1) (room-by (byLba (s .registers .address)) (sectorsOf (s .current)) (sectorsOf (s .made .default)) (rw (← h .1) (current-room (s .current) (totalOf (s .made .default)) (h .0))))

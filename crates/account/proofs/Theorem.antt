@@ -1,0 +1,61 @@
+-- Demand 3: whatever the host, its data, the store, the marks and the card end as the plain account of the command says.
+use Prim.Native.Nat.{ℕ}
+use mathlib.Core.Bool.{Bool, true, false}
+use mathlib.Core.Path.{_≡_, refl, sym, ap, _∙_, subst}
+use mathlib.Core.List.{List, [], _∷_, _++_, append-nil}
+use Rattle.ground.specs.Choice.{pick}
+use Rattle.maps.specs.declared.Register.the-variants.{StatusCommand}
+use Rattle.registers.specs.State.{Machine, sresetIn}
+use Rattle.registers.specs.WellMade.{heldIn}
+use Rattle.commands.specs.declared.Way.{Way}
+use Rattle.commands.specs.Steps.{withState}
+use Rattle.commands.specs.Table.{commandOf, obeyed, started, quiet, commandGiven}
+use Rattle.card.specs.declared.Meaning.{Meaning}
+use Rattle.card.specs.declared.Meaning.the-variants.{WriteRegister}
+use Rattle.card.specs.Access.{Access, meaning}
+use Rattle.card.specs.Perform.{registerWritten, perform}
+use Rattle.card.specs.Step.{Stepped, step}
+use Rattle.account.specs.Plain.{Account}
+use Rattle.account.specs.Table.{account}
+use Rattle.account.specs.Host.{plainOf, Notes, blank, note, wayOf, calm, asks, Moves, Hosted, hosted}
+use Rattle.account.specs.Claim.{Typed, Agrees}
+use Rattle.account.proofs.Rest.{Rel}
+use Rattle.account.proofs.Keeps.{keeps, closes}
+use Rattle.account.proofs.Given.{begins}
+use Rattle.account.proofs.Accepted.{given, neither}
+
+free-of : (o h : Bool) → o ≡ false → h ≡ false → pick o true h ≡ false
+free-of o h e f = rw (e, f)
+
+hosted-agrees : (plain : List ℕ → Account) (way : Way) (l : List Access) (m : Machine) (q : Notes) → Rel way plain m q → Moves m l → Agrees plain (hosted way m q l)
+unfolding hosted step
+hosted-agrees plain way [] m q z e =
+    let x = closes plain (m .phase) m (q .done) e (z .account) in
+    record {
+      account = subst (λ (l : List ℕ). plain l ≡ record { moved = q .done; left = plainOf m }) (append-nil (q .done)) (x []);
+      enough = x;
+      over = e;
+      free = unfold heldIn in free-of (sresetIn (m .state .option)) (m .state .control .held) (z .ground .4) (z .ground .3);
+    }
+hosted-agrees plain way (a ∷ l) m q z e =
+    hosted-agrees plain way l (step m a .next) (note way (meaning m a) (step m a .outcome) q) (keeps plain way (meaning m a) m q (e .1) (e .0) z) (e .2)
+
+-- an accepted Command write gives the command
+pub command-given : (m : Machine) (a : Access) (v : ℕ) → meaning m a ≡ WriteRegister StatusCommand v → m .state .control .held ≡ false → step m a .next ≡ commandGiven v (withState (m .state) m)
+unfolding step perform registerWritten
+command-given m a v e h = ap (λ (x : Meaning). perform x m .next) e ∙ (rw h)
+
+-- For every Command write that a card in neither reset accepts, and every list of accesses up to where the card stops asking that has no reset and no
+-- command in it, the host's data, the store, the marks and the card are those of the account.
+pub as-the-account : (m : Machine) (a : Access) (v : ℕ) (l : List Access) →
+    meaning m a ≡ WriteRegister StatusCommand v →
+    heldIn (m .state) ≡ false →
+    Typed m →
+    Moves (step m a .next) l →
+    Agrees (account (commandOf v) (plainOf m)) (hosted (wayOf (commandOf v)) (step m a .next) blank l)
+as-the-account m a v l e h t =
+    subst (λ (x : Machine). Moves x l → Agrees (account (commandOf v) (plainOf m)) (hosted (wayOf (commandOf v)) x blank l))
+    (sym (command-given m a v e (unfold heldIn in neither (sresetIn (m .state .option)) (m .state .control .held) h .1)))
+    (unfold commandGiven in
+    hosted-agrees (account (commandOf v) (plainOf m)) (wayOf (commandOf v)) l (commandGiven v (withState (m .state) m)) blank
+    (begins (commandOf v) (quiet (withState (m .state) m)) (given m a StatusCommand v e h t)))

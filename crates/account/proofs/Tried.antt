@@ -1,0 +1,138 @@
+-- The machine's tests before a sector are the account's tests of its index, and its ends are the account's ends.
+use Prim.Native.Nat.{ℕ, suc, _%_, _<_}
+use mathlib.Core.Bool.{Bool, true, false, not, _||_, false≢true, true≢false}
+use mathlib.Core.Path.{_≡_, refl, sym, ap, _∙_, subst}
+use mathlib.Core.List.{List}
+use lib.Dec.{ltb, eqb}
+use lib.ListN.{getD}
+use borrow.Author.Tests.{ltb-true}
+use Rattle.ground.specs.Choice.{pick}
+use Rattle.geometry.specs.declared.Located.{Located}
+use Rattle.sectors.specs.Marks.{readable, writable}
+use Rattle.registers.specs.declared.State.{State}
+use Rattle.commands.specs.declared.End.{End}
+use Rattle.commands.specs.declared.Tested.{Tested}
+use Rattle.commands.specs.declared.Tested.the-variants.{Sound, Fails}
+use Rattle.commands.specs.Ends.{ended}
+use Rattle.commands.specs.Before.{addressTest, testedOf, markTested, readTest, storeTest}
+use Rattle.account.specs.Plain.{Plain, Ending, Well, NotFound, Unreadable, WriteFault, Aborted, ends, withPlace}
+use Rattle.account.specs.Course.{Course, named}
+use Rattle.account.specs.Runs.{Run, tried, stopped, tests, unreadable, unwritable, runEnds}
+use Rattle.account.specs.Host.{plainIn}
+use Rattle.account.proofs.Seats.{Seated, Where, pastEnd, place-seated}
+
+-- an end of the machine in the account's words
+abbrev pub endingOf : End → Ending
+endingOf End.Good = Well
+endingOf End.BadHeadOrSector = NotFound 0x21
+endingOf End.BadCylinder = NotFound 0x2F
+endingOf End.BadLba = NotFound 0x2F
+endingOf End.Unreadable = Unreadable
+endingOf End.WriteFault = WriteFault
+endingOf End.BadGeometry = Aborted 0x21
+endingOf End.NoSuchCommand = Aborted 0x20
+
+abbrev pub bad : End → Bool
+bad End.Good = false
+bad End.BadHeadOrSector = true
+bad End.BadCylinder = true
+bad End.BadLba = true
+bad End.Unreadable = true
+bad End.WriteFault = true
+bad End.BadGeometry = true
+bad End.NoSuchCommand = true
+
+pub ended-ends : (e : End) (mark : Bool) (s : State) (b t k : List ℕ) → plainIn (ended e mark s .state) b t k ≡ ends (endingOf e) (plainIn s b t k)
+ended-ends End.Good mark s b t k = refl
+ended-ends End.BadHeadOrSector mark s b t k = refl
+ended-ends End.BadCylinder mark s b t k = refl
+ended-ends End.BadLba mark s b t k = refl
+ended-ends End.Unreadable mark s b t k = refl
+ended-ends End.WriteFault mark s b t k = refl
+ended-ends End.BadGeometry mark s b t k = refl
+ended-ends End.NoSuchCommand mark s b t k = refl
+
+-- a failed test stops a run there
+stops : (e : End) → bad e ≡ true → (c : Course) (n i : ℕ) (rest : Run) (p : Plain) →
+    (tried (endingOf e) n i rest ≡ stopped (endingOf e) n i) × (runEnds c (stopped (endingOf e) n i) p ≡ ends (endingOf e) (withPlace (n % 256) (named c i) p))
+stops End.Good h c n i rest p = absurd (false≢true h)
+stops End.BadHeadOrSector h c n i rest p = (refl, refl)
+stops End.BadCylinder h c n i rest p = (refl, refl)
+stops End.BadLba h c n i rest p = (refl, refl)
+stops End.Unreadable h c n i rest p = (refl, refl)
+stops End.WriteFault h c n i rest p = (refl, refl)
+stops End.BadGeometry h c n i rest p = (refl, refl)
+stops End.NoSuchCommand h c n i rest p = (refl, refl)
+
+pub stops-run : (e : End) → bad e ≡ true → (c : Course) (n i : ℕ) (rest : Run) (p : Plain) → tried (endingOf e) n i rest ≡ stopped (endingOf e) n i
+stops-run e h c n i rest p = stops e h c n i rest p .0
+
+-- and leaves what the machine's end leaves
+pub stops-ends : (e : End) (mark : Bool) → bad e ≡ true → (c : Course) (n i : ℕ) (s : State) (b t k : List ℕ) → Seated c i n s →
+    plainIn (ended e mark s .state) b t k ≡ runEnds c (stopped (endingOf e) n i) (plainIn s b t k)
+stops-ends e mark h c n i s b t k q =
+    ended-ends e mark s b t k
+    ∙ ap (ends (endingOf e)) (sym (place-seated c i n s b t k q))
+    ∙ sym (stops e h c n i (stopped Well 0 0) (plainIn s b t k) .1)
+
+-- ---- the tests
+
+past-end : (l : Bool) → (P : Tested → Ending → Type 0) → ((e : End) → bad e ≡ true → P (Fails e) (endingOf e)) → P (testedOf (pick l Located.BadLba Located.BadCylinder)) (NotFound 0x2F)
+past-end true P f = f End.BadLba refl
+past-end false P f = f End.BadCylinder refl
+
+-- past the end a mark is not looked at
+past-marked : (l : Bool) (allows : ℕ → Bool) (e : End) (marks : List ℕ) → markTested allows e (testedOf (pick l Located.BadLba Located.BadCylinder)) marks ≡ testedOf (pick l Located.BadLba Located.BadCylinder)
+past-marked true allows e marks = refl
+past-marked false allows e marks = refl
+
+marked : (u v : Bool) (i : ℕ) (e : End) (P : Tested → Ending → Type 0) → bad e ≡ true → v ≡ not u → P (Sound (record { index = i })) Well → ((f : End) → bad f ≡ true → P (Fails f) (endingOf f)) →
+    P (pick u (Sound (record { index = i })) (Fails e)) (pick v (endingOf e) Well)
+marked true true i e P h q x f = absurd (true≢false q)
+marked true false i e P h q x f = x
+marked false true i e P h q x f = f e h
+marked false false i e P h q x f = absurd (false≢true q)
+
+module _ (allows forbids : ℕ → Bool) (e : End) (h : bad e ≡ true) (opposite : (m : ℕ) → forbids m ≡ not (allows m)) where
+  placed : (b : Bool) (c : Course) (i : ℕ) (marks : List ℕ) (P : Tested → Ending → Type 0) → ltb i (c .room) ≡ b →
+      (i < c .room → P (Sound (record { index = i })) Well) → ((f : End) → bad f ≡ true → P (Fails f) (endingOf f)) →
+      P (markTested allows e (testedOf (pick b (Located.Good (record { index = i })) (pastEnd c))) marks) (pick b (pick (forbids (getD marks i 0)) (endingOf e) Well) (NotFound 0x2F))
+  placed true c i marks P q x f = marked (allows (getD marks i 0)) (forbids (getD marks i 0)) i e P h (opposite (getD marks i 0)) (x (ltb-true i (c .room) q)) f
+  placed false c i marks P q x f = rw (past-marked (c .lba) allows e marks) (past-end (c .lba) P f)
+
+  tested : (c : Course) (i : ℕ) (s : State) (marks : List ℕ) (P : Tested → Ending → Type 0) → Where c i s →
+      (i < c .room → P (Sound (record { index = i })) Well) → ((f : End) → bad f ≡ true → P (Fails f) (endingOf f)) →
+      P (markTested allows e (addressTest s) marks) (tests forbids (endingOf e) c marks i)
+  unfolding addressTest tests
+  tested c i s marks P w x f =
+      subst (λ (l : Located). P (markTested allows e (testedOf l) marks) (tests forbids (endingOf e) c marks i)) (sym w) (placed (ltb i (c .room)) c i marks P refl x f)
+
+unread-opposite : (m : ℕ) → unreadable m ≡ not (readable m)
+unfolding unreadable readable
+unread-opposite m = go (eqb m 0) (eqb m 2)
+  where
+    go : (a b : Bool) → not (a || b) ≡ not (pick a true b)
+    go true b = refl
+    go false b = refl
+
+pub unwrite-opposite : (m : ℕ) → unwritable m ≡ not (writable m)
+unfolding unwritable writable
+unwrite-opposite m = go (eqb m 2)
+  where
+    go : (a : Bool) → a ≡ not (pick a false true)
+    go true = refl
+    go false = refl
+
+-- what holds of a sound sector and of each failed test, holds of a sector to be read
+pub read-tested : (c : Course) (i : ℕ) (s : State) (marks : List ℕ) (P : Tested → Ending → Type 0) → Where c i s →
+    (i < c .room → P (Sound (record { index = i })) Well) → ((f : End) → bad f ≡ true → P (Fails f) (endingOf f)) →
+    P (readTest s marks) (tests unreadable Unreadable c marks i)
+unfolding readTest
+read-tested c i s marks P w x f = tested readable unreadable End.Unreadable refl unread-opposite c i s marks P w x f
+
+-- and of a sector to be stored
+pub store-tested : (c : Course) (i : ℕ) (s : State) (marks : List ℕ) (P : Tested → Ending → Type 0) → Where c i s →
+    (i < c .room → P (Sound (record { index = i })) Well) → ((f : End) → bad f ≡ true → P (Fails f) (endingOf f)) →
+    P (storeTest s marks) (tests unwritable WriteFault c marks i)
+unfolding storeTest
+store-tested c i s marks P w x f = tested writable unwritable End.WriteFault refl unwrite-opposite c i s marks P w x f

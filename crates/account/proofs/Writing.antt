@@ -1,0 +1,130 @@
+-- Writing: from sector to sector the account of the rest is kept.
+use Prim.Native.Nat.{ℕ, zero, suc, _+_, _-_, _*_, _/_, _%_, _≤_, _<_}
+use mathlib.Core.Bool.{Bool, true, false, not, true≢false, false≢true}
+use mathlib.Core.Path.{_≡_, refl, sym, ap, _∙_, subst}
+use mathlib.Core.List.{List, [], _∷_, _++_, append-assoc}
+use native.Mathlib.Omega.{arith}
+use lib.Dec.{ltb, eqb}
+use lib.ListN.{length, take, drop, set, getD}
+use lib.Seq.{take-all}
+use borrow.Author.Tests.{ltb-true, ltb-false, lt-ltb, ne-eqb}
+use Rattle.ground.specs.Choice.{pick}
+use Rattle.geometry.specs.declared.Located.{Located}
+use Rattle.geometry.specs.Limits.{totalOf}
+use Rattle.sectors.specs.Marks.{writable}
+use Rattle.sectors.specs.Sectors.{Kept, kept, stored}
+use Rattle.registers.specs.declared.Load.{Load}
+use Rattle.registers.specs.declared.Load.the-variants.{Sectors, Buffer}
+use Rattle.registers.specs.declared.Transfer.{Transfer}
+use Rattle.registers.specs.declared.Phase.the-variants.{Idle, DataIn, DataOut}
+use Rattle.registers.specs.declared.State.{State}
+use Rattle.registers.specs.State.{Machine, machine, withBuffer}
+use Rattle.registers.specs.WellMade.{locatedIn}
+use Rattle.commands.specs.declared.End.{End}
+use Rattle.commands.specs.declared.Tested.{Tested}
+use Rattle.commands.specs.declared.Tested.the-variants.{Sound, Fails}
+use Rattle.commands.specs.Before.{addressTest, testedOf, storeTest, StoreTested, storedBy, sectorStored}
+use Rattle.commands.specs.Steps.{withState, passed, askTested, askSector, nextAsked, coreWritten, writtenBy, loadWritten}
+use Rattle.port.specs.Halves.{nextWord}
+use Rattle.port.specs.Data.{withPhase}
+use Rattle.account.specs.Plain.{Plain, Ending, Well, NotFound, Unreadable, WriteFault, Aborted, withStatus, withStore, Account, silent, moving}
+use Rattle.account.proofs.Rest.{overBuffer}
+use Rattle.account.specs.Course.{Course, named}
+use Rattle.account.specs.Runs.{Run, tried, stopped, oneMore, runFrom, tests, unwritable, runEnds, firstOf, lastOf, replaced, cleared, movedBy, putSector, writeDone, writeSectors}
+use Rattle.account.specs.Host.{plainOf, plainIn}
+use Rattle.account.proofs.Seats.{Shaped, Seated, Where, pastEnd, courseIn, onward, passed-on, seat-next, seat-room}
+use Rattle.account.proofs.Tried.{stops-run, stops-ends, unwrite-opposite}
+use Rattle.account.proofs.Stored.{Lent, stored-is, run-later}
+use Rattle.account.proofs.Verifying.{where-good, seated-last}
+use Rattle.account.proofs.Reading.{pred}
+use Rattle.account.proofs.Rest.{here, doneOut, storedThen, restAt, rest, run-status, Loaded}
+
+-- ---- the account of a sector, and of the rest
+
+moved-more : (e : Ending) (k : ℕ) → movedBy e (suc k) ≡ suc (movedBy e k)
+moved-more Well k = refl
+moved-more (NotFound code) k = refl
+moved-more Unreadable k = refl
+moved-more WriteFault k = refl
+moved-more (Aborted code) k = refl
+
+write-marked : (u : Bool) (n : ℕ) (c : Course) (i : ℕ) (p : Plain) (d : List ℕ) →
+    writeDone c i (tried (pick u WriteFault Well) (suc n) i (runFrom (tests unwritable WriteFault c (p .marks)) (i + 1) n)) p d ≡ moving (take 512 d) (storedThen u (suc n) i c p (take 512 d) (drop 512 d))
+unfolding storedThen writeSectors firstOf lastOf replaced cleared
+write-marked true n c i p d = refl
+write-marked false n c i p d =
+    let r = runFrom (tests unwritable WriteFault c (p .marks)) (i + 1) n in
+    rw (moved-more (r .ending) (r .done), pred n, run-later unwritable WriteFault c (p .marks) i (i + 1) n (omega arith))
+
+write-sound : (n : ℕ) (c : Course) (i : ℕ) (p : Plain) (d : List ℕ) → i < c .room →
+    writeSectors c i (suc n) p d ≡ moving (take 512 d) (storedThen (unwritable (getD (p .marks) i 0)) (suc n) i c p (take 512 d) (drop 512 d))
+unfolding writeSectors runFrom tests
+write-sound n c i p d h = rw (lt-ltb i (c .room) h) (unfold tests in write-marked (unwritable (getD (p .marks) i 0)) n c i p d)
+
+stored-status : (u : Bool) (n i : ℕ) (c : Course) (p : Plain) (b d : List ℕ) (v : ℕ) → storedThen u n i c (withStatus v p) b d ≡ storedThen u n i c p b d
+unfolding storedThen writeSectors
+stored-status true n i c p b d v = refl
+stored-status false n i c p b d v =
+    let r = runFrom (tests unwritable WriteFault c (set (p .marks) i 0)) (i + 1) (n - 1) in
+    ap (λ (x : Plain). record { moved = firstOf (movedBy (r .ending) (r .done)) d; left = x })
+    (run-status c r v
+    (overBuffer (lastOf (movedBy (r .ending) (r .done)) d b)
+    (withStore (replaced (i + 1) (r .done) d (putSector i b (p .store))) (cleared (i + 1) (r .done) (set (p .marks) i 0)) p)))
+
+pub stored-over : (u : Bool) (n i : ℕ) (c : Course) (p : Plain) (x b d : List ℕ) → storedThen u n i c (overBuffer x p) b d ≡ storedThen u n i c p b d
+unfolding storedThen writeSectors
+stored-over true n i c p x b d = refl
+stored-over false n i c p x b d = refl
+
+pub done-over : (l : Load) (p : Plain) (x b d : List ℕ) → doneOut l (overBuffer x p) b d ≡ doneOut l p b d
+unfolding doneOut
+done-over Buffer p x b d = refl
+done-over (Sectors n) p x b d = stored-over _ n _ _ p x b d
+
+-- ---- the machine
+
+past-rest : (l : Bool) (n : ℕ) (first : Bool) (c : Course) (i : ℕ) (s : State) (b t k d : List ℕ) → Seated c i (suc n) s →
+    rest (machine (askTested (testedOf (pick l Located.BadLba Located.BadCylinder)) (suc n) first s) b t k) d
+    ≡ writeDone c i (tried (NotFound 0x2F) (suc n) i (runFrom (tests unwritable WriteFault c k) (i + 1) n)) (plainIn s b t k) d
+unfolding restAt firstOf lastOf replaced cleared
+past-rest true n first c i s b t k d q = rw (stops-ends End.BadLba true refl c (suc n) i s b t k q)
+past-rest false n first c i s b t k d q = rw (stops-ends End.BadCylinder true refl c (suc n) i s b t k q)
+
+ask-by : (v : Bool) (n : ℕ) (first : Bool) (c : Course) (i : ℕ) (s : State) (b t k d : List ℕ) → ltb i (c .room) ≡ v → Seated c i (suc n) s →
+    locatedIn s ≡ pick v (Located.Good (record { index = i })) (pastEnd c) →
+    rest (machine (askTested (testedOf (pick v (Located.Good (record { index = i })) (pastEnd c))) (suc n) first s) b t k) d ≡ writeSectors c i (suc n) (plainIn s b t k) d
+unfolding restAt doneOut
+ask-by true n first c i s b t k d e q w =
+    let h = ltb-true i (c .room) e in
+    rw (w, q .2, stored-status (unwritable (getD k i 0)) (suc n) i c (plainIn s b t k) (take 512 d) (drop 512 d) 0x58, write-sound n c i (plainIn s b t k) d h)
+ask-by false n first c i s b t k d e q w = unfold writeSectors runFrom tests in rw e (past-rest (c .lba) n first c i s b t k d q)
+
+-- a sector is asked for
+pub ask-rest : (n : ℕ) (first : Bool) (c : Course) (i : ℕ) (s : State) (b t k d : List ℕ) → Seated c i (suc n) s → Where c i s →
+    rest (machine (askSector (suc n) first s) b t k) d ≡ writeSectors c i (suc n) (plainIn s b t k) d
+unfolding askSector addressTest
+ask-rest n first c i s b t k d q w =
+    subst (λ (l : Located). rest (machine (askTested (testedOf l) (suc n) first s) b t k) d ≡ writeSectors c i (suc n) (plainIn s b t k) d) (sym w)
+    (ask-by _ n first c i s b t k d refl q w)
+
+-- sector i is stored
+pub asked-rest : (n : ℕ) (c : Course) (i : ℕ) (s : State) (b t k d : List ℕ) → Shaped (s .made) (s .current) → Seated c i (suc n) s → locatedIn s ≡ Located.Good (record { index = i }) →
+    rest (machine (nextAsked n s) b t k) d ≡ writeSectors c (i + 1) n (plainIn s b t k) d
+unfolding nextAsked
+asked-rest zero c i s b t k d h q e = unfold passed restAt writeSectors runFrom firstOf lastOf replaced cleared in rw (seated-last c i 1 s q)
+asked-rest (suc n) c i s b t k d h q e =
+    let z = seat-next c (suc n) i s h e (q .2) in
+    rw (passed-on n s, ne-eqb (suc n) 0 (omega arith)) (ask-rest n false c (i + 1) (onward (suc n) s) b t k d (z .0) (z .1) ∙ (unfold writeSectors in refl))
+
+-- its mark first
+pub marked-rest : (u v : Bool) (n : ℕ) (c : Course) (i : ℕ) (m : Machine) (d : List ℕ) → v ≡ not u → i < totalOf (m .state .made .default) → Shaped (m .state .made) (m .state .current) →
+    Lent (totalOf (m .state .made .default)) (m .store) (m .marks) → Seated c i (suc n) (m .state) → locatedIn (m .state) ≡ Located.Good (record { index = i }) →
+    rest (writtenBy (storedBy (pick u (Sound (record { index = i })) (Fails End.WriteFault)) (m .buffer) (m .store) (m .marks)) n m) d
+    ≡ storedThen v (suc n) i c (plainOf m) (m .buffer) d
+unfolding storedThen
+marked-rest true true n c i m d e h g l q w = absurd (true≢false e)
+marked-rest true false n c i m d e h g l q w =
+    rw (stored-is (totalOf (m .state .made .default)) i (m .store) (m .marks) (m .buffer) h l, pred n)
+    (asked-rest n c i (m .state) (m .buffer) (putSector i (m .buffer) (m .store)) (set (m .marks) i 0) d g q w)
+marked-rest false true n c i m d e h g l q w = unfold restAt in rw (stops-ends End.WriteFault true refl c (suc n) i (m .state) (m .buffer) (m .store) (m .marks) q)
+marked-rest false false n c i m d e h g l q w = absurd (false≢true e)

@@ -1,0 +1,88 @@
+-- 01, "Commands", the table: the plain account of each row. It knows the card's registers, not how they are reached.
+use Prim.Native.Nat.{ℕ, _+_, _*_, _/_, _%_}
+use mathlib.Core.Bool.{Bool, true, false, _||_}
+use mathlib.Core.List.{List, [], _∷_}
+use lib.Dec.{ltb, eqb}
+use lib.ListN.{take}
+use Rattle.ground.specs.Choice.{pick}
+use Rattle.geometry.specs.declared.Geometry.{Geometry}
+use Rattle.geometry.specs.declared.Located.{Located}
+use Rattle.geometry.specs.Address.{byLba, lbaOf, headOf, cylinderOf, locate}
+use Rattle.commands.specs.declared.Command.{Command}
+use Rattle.commands.specs.declared.Command.the-variants.{Read, Write, Verify, Erase, Identify, ReadBuffer, WriteBuffer, SetGeometry, Diagnose, Recalibrate, Seek, Sense, Other}
+use Rattle.account.specs.Plain.{Plain, sectorsOf, withRegisters, withCurrent, withBuffer, withError, starts, Ending, Well, NotFound, Unreadable, WriteFault, Aborted, ends, Account, silent, moving}
+use Rattle.account.specs.Course.{Course, courseOf}
+use Rattle.account.specs.Runs.{readSectors, writeSectors, verifySectors, eraseSectors}
+use Rattle.account.specs.Words.{identifyData}
+
+-- "Count 0 means 256."
+unfoldable pub asked : ℕ → ℕ
+asked count = pick (eqb count 0) 256 count
+
+-- N
+abbrev pub total : Plain → ℕ
+total p = sectorsOf (p .made .default)
+
+-- the sector that the registers name at the start, by geometry's decision
+abbrev pub first : Plain → Located
+first p = locate (p .registers .address) (p .current) (total p)
+
+-- a sector command: from the first index on; "Bad head or sector: code 21H. Otherwise bad cylinder or LBA: 2FH. Both are IDNF."
+abbrev pub fromFirst {ℓ} : {A : Type ℓ} → Located → (Plain → A) → (ℕ → A) → Plain → A
+fromFirst (Located.Good spot) bad good p = good (spot .index)
+fromFirst Located.BadHeadOrSector bad good p = bad (ends (NotFound 0x21) p)
+fromFirst Located.BadCylinder bad good p = bad (ends (NotFound 0x2F) p)
+fromFirst Located.BadLba bad good p = bad (ends (NotFound 0x2F) p)
+
+abbrev pub reads : Plain → Account
+reads p = fromFirst (first p) silent (λ i. readSectors (courseOf p) i (asked (p .registers .count)) p) p
+
+abbrev pub writes : Plain → List ℕ → Account
+writes p bytes = fromFirst (first p) silent (λ i. writeSectors (courseOf p) i (asked (p .registers .count)) p bytes) p
+
+abbrev pub verifies : Plain → Plain
+verifies p = fromFirst (first p) (λ q. q) (λ i. verifySectors (courseOf p) i (asked (p .registers .count)) p) p
+
+abbrev pub erases : Plain → Plain
+erases p = fromFirst (first p) (λ q. q) (λ i. eraseSectors (courseOf p) i (asked (p .registers .count)) p) p
+
+-- 91H: "S := Count, H := low nibble+1; if S is 0 or H·S>N: ABRT, 21H, old geometry stays"; "current C = N div (H·S)"
+abbrev pub shaped : ℕ → ℕ → ℕ → Geometry
+shaped heads sectors n = record { cylinders = n / (heads * sectors); heads = heads; sectors = sectors }
+
+unfoldable pub setsGeometry : ℕ → ℕ → Plain → Plain
+setsGeometry sectors heads p = pick (eqb sectors 0 || ltb (total p) (heads * sectors)) (ends (Aborted 0x21) p) (ends Well (withCurrent (shaped heads sectors (total p)) p))
+
+-- 90H: "Error 01H, Count 1, Sector 1, Cylinder and Drive/Head 0; buffer, geometry, index, mask kept"
+abbrev pub diagnoses : Plain → Plain
+diagnoses p = ends Well (withRegisters (record { status = p .registers .status; error = 0x01; count = 1; address = record { sector = 1; low = 0; high = 0; head = 0 } }) p)
+
+-- 7XH: "address test; in CHS head and cylinder only"
+unfoldable pub seeks : Plain → Ending
+seeks p =
+    pick (byLba (p .registers .address))
+    (pick (ltb (lbaOf (p .registers .address)) (total p)) Well (NotFound 0x2F))
+    (pick (ltb (headOf (p .registers .address)) (p .current .heads))
+    (pick (ltb (cylinderOf (p .registers .address)) (p .current .cylinders)) Well (NotFound 0x2F))
+    (NotFound 0x21))
+
+-- the account of a command: p as the card stands, and the host's data
+unfoldable pub account : Command → Plain → List ℕ → Account
+account Read p bytes = reads (starts p)
+account Write p bytes = writes (starts p) bytes
+account Verify p bytes = silent (verifies (starts p))
+account Erase p bytes = silent (erases (starts p))
+-- "Identify, 512 bytes through the buffer"
+account Identify p bytes = moving (identifyData p) (silent (ends Well (withBuffer (identifyData p) (starts p))))
+-- "read, write the 512-byte buffer"
+account ReadBuffer p bytes = moving (p .buffer) (silent (ends Well (starts p)))
+account WriteBuffer p bytes = moving (take 512 bytes) (silent (ends Well (withBuffer (take 512 bytes) (starts p))))
+account SetGeometry p bytes = silent (setsGeometry (p .registers .count) (p .registers .address .head % 16 + 1) (starts p))
+account Diagnose p bytes = silent (diagnoses (starts p))
+-- "nothing"
+account Recalibrate p bytes = silent (ends Well (starts p))
+account Seek p bytes = silent (ends (seeks p) (starts p))
+-- "Error := last code, which stays"
+account Sense p bytes = silent (ends Well (withError (p .code) p))
+-- "others: ABRT, 20H"
+account Other p bytes = silent (ends (Aborted 0x20) (starts p))

@@ -1,0 +1,1 @@
+// The plain account of every command, and the theorem that any host ends as the account says. Statements only, nothing runs.

@@ -1,0 +1,4 @@
+pub mod Hosts
+pub mod Rows
+pub mod List
+pub mod Lazy
