@@ -50,7 +50,7 @@ decided s a =
     (standing (standsAt (a .space) (indexIn (s .option)) (a .address) (a .width) (a .write) (a .value)) (a .write) (a .value) (a .tuples))
     (Meaning.Refused SpaceSilent))
 
--- rows 12, 2, 3, 5 before them
+-- rows 12, 2, 3, 5 before them: "Store length is 512·N, marks length N", "a 256-byte tuple buffer"
 unfoldable pub meaning : Machine → Access → Meaning
 meaning m a =
     pick (wellMade (m .phase) (m .state))

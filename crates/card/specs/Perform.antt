@@ -16,7 +16,7 @@ use Rattle.commands.specs.Table.{commandGiven}
 use Rattle.card.specs.declared.Meaning.{Meaning}
 use Rattle.card.specs.declared.Meaning.the-variants.{TupleByte, ReadOption, WriteOption, ReadRegister, WriteRegister, ReadData, WriteData}
 
--- the Configuration Option Register
+-- the Configuration Option Register: in a Device Control hold it "works on"; "Reading gives the last value"
 unfoldable pub optionWritten : ℕ → Machine → Machine
 optionWritten v m =
     machine (optionTurned (optionTurn v (m .state)) v (m .phase) (m .state)) (bufferTurned (optionTurn v (m .state)) (m .buffer)) (m .store) (m .marks)

@@ -8,7 +8,7 @@ use Rattle.registers.specs.State.{core, withStatus, withError, withCode, withMa
 use Rattle.commands.specs.declared.End.{End}
 use Rattle.commands.specs.declared.End.the-variants.{Good, BadHeadOrSector, BadCylinder, BadLba, Unreadable, WriteFault, BadGeometry, NoSuchCommand}
 
--- "Idle 50H, data 58H, error 51H, write fault 71H"
+-- "Status: 80H BSY, 40H RDY, 20H DWF, 10H DSC, 08H DRQ, 01H ERR. Idle 50H, data 58H, error 51H, write fault 71H."
 abbrev pub endStatus : End → ℕ
 endStatus Good = 0x50
 endStatus BadHeadOrSector = 0x51
@@ -30,7 +30,7 @@ endError WriteFault error = 0x04
 endError BadGeometry error = 0x04
 endError NoSuchCommand error = 0x04
 
--- "Bad head or sector: code 21H. Otherwise bad cylinder or LBA: 2FH"; mark 1: 11H; mark 2: 03H; 91H: 21H; others: 20H
+-- "Bad head or sector: code 21H. Otherwise bad cylinder or LBA: 2FH. Both are IDNF." Mark 1: 11H; mark 2: 03H; 91H: 21H; others: 20H
 abbrev pub endCode : End → ℕ → ℕ
 endCode Good code = code
 endCode BadHeadOrSector code = 0x21
@@ -41,6 +41,7 @@ endCode WriteFault code = 0x03
 endCode BadGeometry code = 0x21
 endCode NoSuchCommand code = 0x20
 
--- a command ends, with the interrupt mark as given
+-- a command ends, with the interrupt mark as given: it is set "at each command end except a good end of reading data"; the registers that
+-- name the sector and Count are left as they stand
 abbrev pub ended : End → Bool → State → Core
 ended e mark s = core Idle (withMark mark (withCode (endCode e (s .code)) (withError (endError e (s .registers .error)) (withStatus (endStatus e) s))))

@@ -46,13 +46,15 @@ phaseOf Out t = DataOut t
 abbrev pub begun : Way → Load → Bool → State → Core
 begun way load first s = core (phaseOf way (fresh load)) (withMark (markBegun way first (s .mark)) (withStatus 0x58 s))
 
--- a sector is done: Count holds those left; the address goes on where one is left ("At a good end … Count is 0 and the address is the last sector's")
+-- a sector is done: Count holds those left, and the address goes on where one is left. So "on an error the registers name the failing sector and
+-- Count holds the sectors not done, modulo 256; those before it stay done. At a good end of a sector command Count is 0 and the address is the
+-- last sector's."
 unfoldable pub passed : ℕ → State → State
 passed left s = pick (eqb left 0) (withCount 0 s) (withCount (left % 256) (withAddress (nextOf (s .registers .address) (s .current)) s))
 
 -- ---- reading
 
--- a sector is to be read: it comes into the buffer, or a test fails
+-- a sector is to be read: it comes into the buffer, or a test fails ("a failed read, Verify and Erase leave it")
 abbrev pub readTested : Tested → ℕ → Machine → Machine
 readTested (Sound spot) left m = machine (begun In (Sectors left) true (m .state)) (bufferRead (m .store) (spot .index) (m .buffer)) (m .store) (m .marks)
 readTested (Fails e) left m = withCore (ended e true (m .state)) m

@@ -71,20 +71,32 @@ soughtEnd Sought.BadLba = End.BadLba
 abbrev pub withErased : Erased → Machine → Machine
 withErased e m = machine (e .core) (m .buffer) (e .store) (e .marks)
 
--- what a command does; s is the state with Error and code 0
+-- what a command does; s is the state with Error and code 0. "Commands that move no sectors leave these registers, but for 90H."
 abbrev pub obeyed : Command → State → Machine → Machine
+-- 20H 21H: read sectors
 obeyed Read s m = readSector (countOf s) (withState s m)
+-- 30H 31H: write
 obeyed Write s m = withCore (askSector (countOf s) true s) m
+-- 40H 41H: as read, no data
 obeyed Verify s m = withCore (verifyFrom (countOf s) s (m .marks)) m
+-- C0H: as write, storing FFH, no data
 obeyed Erase s m = withErased (eraseFrom (countOf s) s (m .store) (m .marks)) m
+-- ECH: Identify, 512 bytes through the buffer
 obeyed Identify s m = machine (begun In Buffer true s) (identifyBytes (factsOf s)) (m .store) (m .marks)
+-- E4H E8H: read, write the 512-byte buffer
 obeyed ReadBuffer s m = withCore (begun In Buffer true s) m
 obeyed WriteBuffer s m = withCore (begun Out Buffer true s) m
+-- 91H
 obeyed SetGeometry s m = withCore (geometrySet (reshaped (s .registers .count) (s .registers .address .head) (totalIn s)) s) m
+-- 90H: buffer, geometry, index, mask kept
 obeyed Diagnose s m = withCore (ended End.Good true (diagnosed s)) m
+-- 1XH: nothing
 obeyed Recalibrate s m = withCore (ended End.Good true s) m
+-- 7XH
 obeyed Seek s m = withCore (ended (soughtEnd (seek (s .registers .address) (s .current) (totalIn s))) true s) m
+-- 03H: Error := last code, which stays
 obeyed Sense s m = withCore (ended End.Good true (withError (m .state .code) (m .state))) m
+-- others: ABRT, 20H
 obeyed Other s m = withCore (ended End.NoSuchCommand true s) m
 
 -- "A Command write drops the transfer, keeps stored sectors, and starts afresh"; the mark is cleared "before the command's own effect"

@@ -43,18 +43,31 @@ pub enum Way {
 
 // The rows of the command table.
 pub enum Command {
+    // 20H 21H
     Read,
+    // 30H 31H
     Write,
+    // 40H 41H
     Verify,
+    // C0H
     Erase,
+    // ECH
     Identify,
+    // E4H
     ReadBuffer,
+    // E8H
     WriteBuffer,
+    // 91H
     SetGeometry,
+    // 90H
     Diagnose,
+    // 1XH
     Recalibrate,
+    // 7XH
     Seek,
+    // 03H
     Sense,
+    // all others
     Other,
 }
 

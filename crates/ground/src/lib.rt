@@ -1,4 +1,4 @@
-// What every crate stands on: the choice by a test, the laws about tests and lists that the proofs cite, and two helpers.
+// What every crate stands on: the choice by a test, the laws about tests and lists that the proofs cite, and three small functions.
 ghost use mathlib.Core.Path.{_≡_};
 ghost use Prim.Native.Nat.{_<_};
 ghost use lib.ListN.{length, getD};

@@ -41,7 +41,7 @@ takenRead Take.Refused t m = record { outcome = Outcome.Refused HalfMoved; next 
 takenRead (Take.First part) t m = accepted (partValue part (t .words) (m .buffer)) (withPhase (DataIn (halved part t)) m)
 takenRead (Take.Last part) t m = accepted (partValue part (t .words) (m .buffer)) (wordRead t m)
 
--- "With no transfer that way, a read gives FFH or FFFFH"
+-- "Refusal 11 is given only for an access in the running transfer's direction. With no transfer that way, a read gives FFH or FFFFH …"
 abbrev pub absent : Port → ℕ
 absent Port.Low = 0xFF
 absent Port.High = 0xFF
@@ -66,7 +66,7 @@ dataRead port m = pick (m .state .control .held) (accepted (heldValue port) m) (
 unfoldable pub wordWritten : Transfer → Machine → Machine
 wordWritten t m = pick (ltb (t .words) 255) (withPhase (DataOut (nextWord t)) m) (loadWritten (t .load) (withState (m .state) m))
 
--- "a written byte at once" goes into the buffer
+-- "Read sectors, Identify and writes pass through the same buffer, a written byte at once"
 abbrev pub takenWritten : Take → ℕ → Transfer → Machine → Effect
 takenWritten Take.Refused value t m = record { outcome = Outcome.Refused HalfMoved; next = m }
 takenWritten (Take.First part) value t m = accepted 0 (withPhase (DataOut (halved part t)) (withBuffer (partWritten part (t .words) value (m .buffer)) m))

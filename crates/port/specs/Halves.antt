@@ -10,6 +10,7 @@ use Rattle.port.specs.declared.Part.the-variants.{Low, High, Both}
 use Rattle.port.specs.declared.Take.{Take}
 use Rattle.port.specs.declared.Take.the-variants.{Refused, First, Last}
 
+-- "Within a word nothing, the low half or the high half has moved."
 -- "A byte at 0 or 8 moves the low half if it hasn't moved, else the high. A byte at 9 moves the high half, else refusal 11";
 -- a word moves both, where nothing has moved. `First` leaves the word begun, `Last` makes it whole.
 unfoldable pub takeOf : Half → Port → Take

@@ -26,7 +26,7 @@ restStatus Idle status = status
 restStatus (DataIn t) status = 0x50
 restStatus (DataOut t) status = 0x50
 
--- a reset is entered: the transfer ends, and the interrupt mark is cleared
+-- a reset is entered: the transfer ends, and the interrupt mark is "cleared by entering or leaving a reset"
 abbrev pub entered : Phase → State → State
 entered p s = withMark false (withStatus (restStatus p (s .registers .status)) s)
 

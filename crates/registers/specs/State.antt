@@ -68,7 +68,7 @@ withCount v s = withRegisters (record { status = s .registers .status; error = s
 abbrev pub withAddress : Address → State → State
 withAddress a s = withRegisters (record { status = s .registers .status; error = s .registers .error; count = s .registers .count; address = a }) s
 
--- 01, "Maps", Configuration Option: bit 7 SRESET, bits 5..0 index
+-- 01, "Maps": "Configuration Option: bit 7 SRESET, bit 6 stored, bits 5..0 index; bits 6..0 together are the map setting."
 abbrev pub sresetIn : ℕ → Bool
 sresetIn option = leb 128 option
 
@@ -81,6 +81,6 @@ runs Idle = false
 runs (DataIn t) = true
 runs (DataOut t) = true
 
--- 01, "Interrupt mark": the line is up where the mark is set and bit 1 is clear
+-- 01, "Interrupt mark": "Each answer says if the line is up (mark set, bit 1 clear)"; "Bit 1 masks the interrupt line"
 abbrev pub lineOf : State → Bool
 lineOf s = pick (s .control .masked) false (s .mark)

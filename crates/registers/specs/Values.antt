@@ -24,7 +24,7 @@ writingBit Idle = 0x40
 writingBit (DataIn t) = 0x40
 writingBit (DataOut t) = 0
 
--- "bit 1 is 0 for drive 1, bit 0 is 0 for drive 0"
+-- "bit 4 is stored and otherwise only shows in Drive Address": "bit 1 is 0 for drive 1, bit 0 is 0 for drive 0"
 abbrev pub driveBits : ℕ → ℕ
 driveBits head = pick (eqb (head / 16 % 2) 1) 1 2
 
