@@ -1,0 +1,110 @@
+use Prim.Native.Nat.{_*_}
+use Rattle.geometry.specs.Limits.{capacityOf}
+use Rattle.session.specs.Play.{geometryOf, begun}
+use mathlib.Core.Path.{_≡_, sym, ap, _∙_}
+use borrow.Author.Tests.{eq-eqb, ne-eqb, lt-ltb, le-ltb, le-leb, lt-leb}
+use native.Mathlib.Omega.{arith}
+use lib.Seq.{length-take-le}
+use Rattle.session.proofs.Plays.{zero-part, zero-length}
+use borrow.Author.Needs.{needs}
+use Rattle.session.proofs.play.begun.Statement.{statement}
+use Rattle.session.proofs.play.begun.Tie as tie
+use Rattle.session.proofs.play.begun.Reads as reads
+use Rattle.session.proofs.play.begun.Lts as lts
+use Rattle.geometry.proofs.Geometry.capacity.Reads as capacity-reads
+use Rattle.session.proofs.play.no_tuples.Reads as no-tuples-reads
+use Rattle.session.proofs.play.opened_on.Reads as opened-on-reads
+use Rattle.session.proofs.play.unopened.Reads as unopened-reads
+use Rattle.session.proofs.play.zero_marks.Reads as zero-marks-reads
+use Rattle.session.proofs.play.zero_store.Reads as zero-store-reads
+
+-- src/play.rt:100:9
+capacity-requires : tie.Need-capacity-requires
+capacity-requires c κs = search needs
+
+-- src/play.rt:102:9
+unopened-requires : tie.Need-unopened-requires
+unopened-requires c κs = search needs
+
+-- src/play.rt:102:9
+same-length : tie.Need-same-length
+same-length c = search needs
+
+-- src/play.rt:102:9
+returns : tie.Need-returns
+unfolding begun
+returns c = simp (lt-ltb _ _ (rw (c .before .before .before .before .before .capacity .ensures) at (c .before .before .before .before .if1 .taken))) (c .before .before .unopened .ensures)
+
+-- src/play.rt:104:16
+mul-size : tie.Need-mul-size
+mul-size c = search needs
+
+-- src/play.rt:105:21
+zero-store-requires : tie.Need-zero-store-requires
+zero-store-requires c κs = search needs
+
+-- src/play.rt:106:21
+zero-marks-requires : tie.Need-zero-marks-requires
+zero-marks-requires c κs = search needs
+
+-- src/play.rt:107:18
+no-tuples-requires : tie.Need-no-tuples-requires
+no-tuples-requires c κs = search needs
+
+-- src/play.rt:108:28
+slice-aggregate-opened-on : tie.Need-slice-aggregate-opened-on
+slice-aggregate-opened-on c = search needs
+
+-- src/play.rt:108:37
+array-borrow-prefix-store : tie.Need-array-borrow-prefix-store
+array-borrow-prefix-store c = search needs
+
+-- src/play.rt:108:37
+slice-aggregate-opened-on-2 : tie.Need-slice-aggregate-opened-on-2
+slice-aggregate-opened-on-2 c = sym (length-take-le _ _ (rw (c .before .before .before .before .zero-store .ensures, zero-length) (omega arith)))
+
+-- src/play.rt:108:57
+array-borrow-prefix-marks : tie.Need-array-borrow-prefix-marks
+array-borrow-prefix-marks c = search needs
+
+-- src/play.rt:108:57
+slice-aggregate-opened-on-3 : tie.Need-slice-aggregate-opened-on-3
+slice-aggregate-opened-on-3 c = sym (length-take-le _ _ (rw (c .before .before .before .before .zero-marks .ensures, zero-length) (omega arith)))
+
+-- src/play.rt:108:5
+opened-on-requires : tie.Need-opened-on-requires
+opened-on-requires c κs = search needs
+
+-- src/play.rt:92:1
+same-length-2 : tie.Need-same-length-2
+same-length-2 c = search needs
+
+-- src/play.rt:92:1
+returns-2 : tie.Need-returns-2
+unfolding begun
+returns-2 c =
+    let h = rw (c .before .before .before .before .before .before .before .before .before .before .before .before .before .capacity .ensures) at (c .before .before .before .before .before .before .before .before .before .before .before .before .if1 .left) in
+    let e = simp (c .before .before .before .before .before .before .before .before .before .before .before .zero-store .ensures, c .before .before .before .before .before .before .before .before .before .before .zero-marks .ensures, c .before .before .before .before .before .before .before .before .before .no-tuples .ensures, c .before .before .before .before .before .before .before .before .before .before .before .before .before .capacity .ensures) at (c .before .before .before .before .opened-on .ensures) in
+    let n = capacityOf (geometryOf (c .before .before .before .before .before .before .before .before .before .before .before .before .before .before .before .before .args .sizes)) in
+    simp (le-ltb _ _ h) (simp (zero-part (512 * n) 16384 (omega arith), zero-part n 32 h) at e)
+
+pub begun-spec : {M : Type 1} → statement M
+begun-spec =
+    tie.close
+    (tie.spec
+    capacity-requires
+    unopened-requires
+    same-length
+    returns
+    mul-size
+    zero-store-requires
+    zero-marks-requires
+    no-tuples-requires
+    slice-aggregate-opened-on
+    array-borrow-prefix-store
+    slice-aggregate-opened-on-2
+    array-borrow-prefix-marks
+    slice-aggregate-opened-on-3
+    opened-on-requires
+    same-length-2
+    returns-2)

@@ -1,0 +1,96 @@
+use mathlib.Core.Path.{_≡_, sym, ap, _∙_}
+use Rattle.answers.specs.declared.Outcome.{Outcome}
+use Rattle.card.specs.declared.Answer.{Answer}
+use Rattle.session.specs.Output.{output}
+use Rattle.session.specs.Run.{Shown}
+use Rattle.session.specs.Play.{opensAs, openedOn, printedAt}
+use borrow.Author.Needs.{needs}
+use Rattle.session.proofs.play.opened_on.Statement.{statement}
+use Rattle.session.proofs.play.opened_on.Tie as tie
+use Rattle.session.proofs.play.opened_on.Reads as reads
+use Rattle.session.proofs.play.opened_on.Lts as lts
+use Rattle.card.proofs.Card.open.Reads as open-reads
+use Rattle.session.proofs.play.unopened.Reads as unopened-reads
+use Rattle.session.proofs.run.run_from.Reads as run-from-reads
+
+-- src/play.rt:55:9
+open-requires : tie.Need-open-requires
+open-requires c κs = search needs
+
+-- src/play.rt:60:67
+enum-told : tie.Need-enum-told
+enum-told c = search needs
+
+-- src/play.rt:60:17
+run-from-requires : tie.Need-run-from-requires
+run-from-requires c κs = search needs
+
+-- src/play.rt:69:26
+enum-known-outcome : tie.Need-enum-known-outcome
+enum-known-outcome c = search needs
+
+-- src/play.rt:69:38
+unopened-requires : tie.Need-unopened-requires
+unopened-requires c κs = search needs
+
+-- src/play.rt:44:1
+same-length : tie.Need-same-length
+same-length c = search needs
+
+-- src/play.rt:44:1
+same-length-2 : tie.Need-same-length-2
+same-length-2 c = search needs
+
+-- src/play.rt:44:1
+same-length-3 : tie.Need-same-length-3
+same-length-3 c = search needs
+
+-- src/play.rt:44:1
+returns : tie.Need-returns
+unfolding openedOn
+returns c =
+    let a = c .before .before .before .before .before .before .before .before .before .before .before .before .before .before .before .before .before .before .before .before .before .args in
+    let o = output (a .out .now) (a .at) in
+    ap (λ (s : Shown). record { place = s .place; done = s .done; end = s .end; out = s .out }) (c .before .before .before .before .before .before .run-from .ensures)
+    ∙ ap (λ (x : Outcome). printedAt o (opensAs x (c .before .before .before .before .before .before .before .before .before .before .before .before .before .«open» .result .card) (a .file .now) (a .store .now) (a .marks .now) (a .tuples .now))) (sym (c .before .before .before .before .before .before .before .before .before .before .enum-told .given .1))
+    ∙ ap (λ (x : Answer). printedAt o (opensAs (x .outcome) (x .card) (a .file .now) (a .store .now) (a .marks .now) (a .tuples .now))) (c .before .before .before .before .before .before .before .before .before .before .before .before .before .«open» .ensures)
+
+-- src/play.rt:44:1
+same-length-4 : tie.Need-same-length-4
+same-length-4 c = search needs
+
+-- src/play.rt:44:1
+same-length-5 : tie.Need-same-length-5
+same-length-5 c = search needs
+
+-- src/play.rt:44:1
+same-length-6 : tie.Need-same-length-6
+same-length-6 c = search needs
+
+-- src/play.rt:44:1
+returns-2 : tie.Need-returns-2
+unfolding openedOn
+returns-2 c =
+    let a = c .before .before .before .before .before .before .before .before .before .before .before .before .before .before .before .before .args in
+    let o = output (a .out .now) (a .at) in
+    c .before .before .unopened .ensures
+    ∙ ap (λ (x : Outcome). printedAt o (opensAs x (c .before .before .before .before .before .before .before .before .«open» .result .card) (a .file .now) (a .store .now) (a .marks .now) (a .tuples .now))) (sym (c .before .before .before .before .before .outcome .given .1))
+    ∙ ap (λ (x : Answer). printedAt o (opensAs (x .outcome) (x .card) (a .file .now) (a .store .now) (a .marks .now) (a .tuples .now))) (c .before .before .before .before .before .before .before .before .«open» .ensures)
+
+pub opened-on-spec : {M : Type 1} → statement M
+opened-on-spec =
+    tie.close
+    (tie.spec
+    open-requires
+    enum-told
+    run-from-requires
+    enum-known-outcome
+    unopened-requires
+    same-length
+    same-length-2
+    same-length-3
+    returns
+    same-length-4
+    same-length-5
+    same-length-6
+    returns-2)

@@ -1,0 +1,33 @@
+use Rattle.session.proofs.Plays.{after-header, text-counts}
+use mathlib.Core.Path.{_≡_, sym, ap, _∙_}
+use Rattle.session.specs.Output.{Output}
+use Rattle.session.specs.Play.{sessionOf, printedAt}
+use borrow.Author.Needs.{needs}
+use Rattle.session.proofs.play.play.Statement.{statement}
+use Rattle.session.proofs.play.play.Tie as tie
+use Rattle.session.proofs.play.play.Reads as reads
+use Rattle.session.proofs.play.play.Lts as lts
+use Rattle.session.proofs.play.session.Reads as session-reads
+use Rattle.session.proofs.text.put_header.Reads as put-header-reads
+
+-- src/play.rt:132:9
+put-header-requires : tie.Need-put-header-requires
+put-header-requires c κs = search needs
+
+-- src/play.rt:133:5
+session-requires : tie.Need-session-requires
+session-requires c κs = search needs
+
+-- src/play.rt:129:1
+same-length : tie.Need-same-length
+same-length c = search needs
+
+-- src/play.rt:129:1
+returns : tie.Need-returns
+returns c =
+    let a = c .before .before .before .before .before .before .before .before .before .before .args in
+    let e = c .before .before .session .ensures ∙ ap (λ (o : Output). printedAt o (sessionOf (a .file .now))) (c .before .before .before .before .before .before .put-header .ensures) ∙ after-header (a .out .now) (a .file .now) in
+    (e, text-counts (a .out .now) (a .file .now) _ _ e)
+
+pub play-spec : {M : Type 1} → statement M
+play-spec = tie.close (tie.spec put-header-requires session-requires same-length returns)

@@ -1,0 +1,102 @@
+use mathlib.Core.Path.{_≡_, sym, ap, _∙_}
+use borrow.Author.Tests.{eq-eqb, ne-eqb, lt-ltb, le-ltb, le-leb, lt-leb}
+use Rattle.session.specs.Record.{firstOf}
+use Rattle.session.specs.Play.{sessionOf}
+use borrow.Author.Needs.{needs}
+use Rattle.session.proofs.play.session.Statement.{statement}
+use Rattle.session.proofs.play.session.Tie as tie
+use Rattle.session.proofs.play.session.Reads as reads
+use Rattle.session.proofs.play.session.Lts as lts
+use Rattle.session.proofs.Record.first.Reads as first-reads
+use Rattle.session.proofs.play.bad.Reads as bad-reads
+use Rattle.session.proofs.play.begun.Reads as begun-reads
+use Rattle.session.proofs.records.record_at.Reads as record-at-reads
+
+-- src/play.rt:116:9
+bad-requires : tie.Need-bad-requires
+bad-requires c κs = search needs
+
+-- src/play.rt:116:9
+same-length : tie.Need-same-length
+same-length c = search needs
+
+-- src/play.rt:116:9
+returns : tie.Need-returns
+unfolding sessionOf
+returns c = simp (lt-ltb _ _ (c .before .before .before .before .if1 .taken)) (c .before .before .bad .ensures)
+
+-- src/play.rt:119:9
+bad-requires-2 : tie.Need-bad-requires-2
+bad-requires-2 c κs = search needs
+
+-- src/play.rt:119:9
+same-length-2 : tie.Need-same-length-2
+same-length-2 c = search needs
+
+-- src/play.rt:119:9
+returns-2 : tie.Need-returns-2
+unfolding sessionOf
+returns-2 c = simp (le-ltb _ _ (c .before .before .before .before .before .if1 .left), eq-eqb _ _ (c .before .before .before .before .if2 .taken)) (c .before .before .bad2 .ensures)
+
+-- src/play.rt:121:9
+record-at-requires : tie.Need-record-at-requires
+record-at-requires c κs = search needs
+
+-- src/play.rt:122:11
+first-requires : tie.Need-first-requires
+first-requires c κs = search needs
+
+-- src/play.rt:123:24
+enum-known-sizes : tie.Need-enum-known-sizes
+enum-known-sizes c = search needs
+
+-- src/play.rt:123:34
+begun-requires : tie.Need-begun-requires
+begun-requires c κs = search needs
+
+-- src/play.rt:124:21
+enum-known-why : tie.Need-enum-known-why
+enum-known-why c = search needs
+
+-- src/play.rt:124:29
+bad-requires-3 : tie.Need-bad-requires-3
+bad-requires-3 c κs = search needs
+
+-- src/play.rt:112:1
+same-length-3 : tie.Need-same-length-3
+same-length-3 c = search needs
+
+-- src/play.rt:112:1
+returns-3 : tie.Need-returns-3
+unfolding sessionOf
+returns-3 c = let e = sym (ap firstOf (c .before .before .before .before .before .before .before .before .record-at .ensures)) ∙ sym (c .before .before .before .before .before .before .before .first .ensures) ∙ c .before .before .before .before .before .sizes .given .1 in simp (le-ltb _ _ (c .before .before .before .before .before .before .before .before .before .before .if1 .left), ne-eqb _ _ (c .before .before .before .before .before .before .before .before .before .if2 .left), e) (c .before .before .begun .ensures)
+
+-- src/play.rt:112:1
+same-length-4 : tie.Need-same-length-4
+same-length-4 c = search needs
+
+-- src/play.rt:112:1
+returns-4 : tie.Need-returns-4
+unfolding sessionOf
+returns-4 c = let e = sym (ap firstOf (c .before .before .before .before .before .before .before .before .record-at .ensures)) ∙ sym (c .before .before .before .before .before .before .before .first .ensures) ∙ c .before .before .before .before .before .why .given .1 in simp (le-ltb _ _ (c .before .before .before .before .before .before .before .before .before .before .if1 .left), ne-eqb _ _ (c .before .before .before .before .before .before .before .before .before .if2 .left), e) (c .before .before .bad3 .ensures)
+
+pub session-spec : {M : Type 1} → statement M
+session-spec =
+    tie.close
+    (tie.spec
+    bad-requires
+    same-length
+    returns
+    bad-requires-2
+    same-length-2
+    returns-2
+    record-at-requires
+    first-requires
+    enum-known-sizes
+    begun-requires
+    enum-known-why
+    bad-requires-3
+    same-length-3
+    returns-3
+    same-length-4
+    returns-4)

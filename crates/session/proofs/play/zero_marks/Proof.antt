@@ -1,0 +1,14 @@
+use mathlib.Core.Path.{refl}
+use Rattle.session.specs.Play.{zeroBytes}
+use Rattle.session.proofs.play.zero_marks.Statement.{statement}
+use Rattle.session.proofs.play.zero_marks.Tie as tie
+use Rattle.session.proofs.play.zero_marks.Reads as reads
+use Rattle.session.proofs.play.zero_marks.Lts as lts
+
+-- src/play.rt:79:1
+returns : tie.Need-returns
+unfolding zeroBytes
+returns c = refl
+
+pub zero-marks-spec : {M : Type 1} → statement M
+zero-marks-spec = tie.close (tie.spec returns)

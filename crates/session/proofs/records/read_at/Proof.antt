@@ -1,0 +1,67 @@
+use borrow.Author.Tests.{eq-eqb, ne-eqb, lt-ltb, le-ltb, le-leb, lt-leb}
+use Rattle.session.specs.Record.{readAt}
+use borrow.Author.Needs.{needs}
+use Rattle.session.proofs.records.read_at.Statement.{statement}
+use Rattle.session.proofs.records.read_at.Tie as tie
+use Rattle.session.proofs.records.read_at.Reads as reads
+use Rattle.session.proofs.records.read_at.Lts as lts
+use Rattle.session.proofs.records.fields_tested.Reads as fields-tested-reads
+use Rattle.session.proofs.records.word_at.Reads as word-at-reads
+
+-- src/records.rt:104:9
+returns : tie.Need-returns
+unfolding readAt
+returns c = simp (c .if1 .taken)
+
+-- src/records.rt:107:9
+returns-2 : tie.Need-returns-2
+unfolding readAt
+returns-2 c = simp (c .before .if1 .left, ne-eqb _ _ (c .if2 .taken))
+
+-- src/records.rt:109:22
+add-space : tie.Need-add-space
+add-space c = search needs
+
+-- src/records.rt:109:17
+shared-slice-read-space : tie.Need-shared-slice-read-space
+shared-slice-read-space c = search needs
+
+-- src/records.rt:110:22
+add-width : tie.Need-add-width
+add-width c = search needs
+
+-- src/records.rt:110:17
+shared-slice-read-width : tie.Need-shared-slice-read-width
+shared-slice-read-width c = search needs
+
+-- src/records.rt:111:33
+add-word-at : tie.Need-add-word-at
+add-word-at c = search needs
+
+-- src/records.rt:111:9
+word-at-requires : tie.Need-word-at-requires
+word-at-requires c κs = search needs
+
+-- src/records.rt:112:5
+fields-tested-requires : tie.Need-fields-tested-requires
+fields-tested-requires c κs = search needs
+
+-- src/records.rt:99:1
+returns-3 : tie.Need-returns-3
+unfolding readAt
+returns-3 c = simp (c .before .before .before .before .before .if1 .left, eq-eqb _ _ (c .before .before .before .before .if2 .left), c .fields-tested .ensures, c .before .word-at .ensures)
+
+pub read-at-spec : {M : Type 1} → statement M
+read-at-spec =
+    tie.close
+    (tie.spec
+    returns
+    returns-2
+    add-space
+    shared-slice-read-space
+    add-width
+    shared-slice-read-width
+    add-word-at
+    word-at-requires
+    fields-tested-requires
+    returns-3)

@@ -1,0 +1,249 @@
+use mathlib.Core.Path.{_≡_, refl, sym, ap, _∙_}
+use borrow.Author.Needs.{needs}
+use native.Mathlib.Omega.{arith}
+use Prim.Native.Nat.{ℕ, _+_, _-_, _^_, _<_, _≤_}
+use lib.ListN.{length}
+use Rattle.registers.specs.State.{machine}
+use Rattle.session.specs.declared.Ending.the-variants.{Broken}
+use Rattle.session.specs.Record.{turnOf}
+use Rattle.session.specs.Text.{bad}
+use Rattle.session.specs.Output.{Output, output, put}
+use Rattle.session.specs.Verdict.{verdictOf}
+use Rattle.session.specs.Run.{accessOf, wrapped, scriptFrom, resultOf, shown}
+use Rattle.session.proofs.Fits.{access-fits}
+use Rattle.session.proofs.Verdicts.{steady}
+use Rattle.session.proofs.Runs.{lines-end, lines-none, lines-stop, lines-turn}
+use Rattle.session.proofs.run.lines.Statement.{statement}
+use Rattle.session.proofs.run.lines.Tie as tie
+use Rattle.session.proofs.run.lines.Reads as reads
+use Rattle.session.proofs.run.lines.Lts as lts
+use Rattle.ground.proofs.told.Reads as told-reads
+use Rattle.session.proofs.Record.turn.Reads as turn-reads
+use Rattle.session.proofs.records.record_at.Reads as record-at-reads
+use Rattle.session.proofs.run.answer.Reads as answer-reads
+use Rattle.session.proofs.run.count_known.Reads as count-known-reads
+use Rattle.session.proofs.run.put_answer.Reads as put-answer-reads
+use Rattle.session.proofs.run.ran.Reads as ran-reads
+use Rattle.session.proofs.run.size_of.Reads as size-of-reads
+use Rattle.session.proofs.text.put_bad.Reads as put-bad-reads
+use Rattle.std.proofs.num.wrapping_add_u64.Reads as wrapping-add-u64-reads
+
+abbrev Inv-loop : tie.InvT-loop
+Inv-loop verdict part from first number tuples store₀ marks₀ out₀ start buffer₀ core₀ at₀ next₀ done₀ text₀ left₀ store marks out buffer core at next done text left =
+    (done + left ≤ length part)
+    × (length part < 2 ^ 64)
+    × (length store ≡ length store₀)
+    × (length marks ≡ length marks₀)
+    × (length out ≡ length out₀)
+    × (verdict ≡ verdictOf (core .phase) (core .state) store marks tuples)
+    × (shown (output out text) (resultOf first next done (machine core buffer store marks) (scriptFrom left part tuples at)) ≡ shown (output out₀ text₀) (resultOf first next₀ done₀ (machine core₀ buffer₀ store₀ marks₀) (scriptFrom left₀ part tuples at₀)))
+
+abbrev μ-loop : tie.MeasureT-loop
+μ-loop verdict part from first number tuples store₀ marks₀ out₀ start buffer₀ core₀ at₀ next₀ done₀ text₀ left₀ store marks out buffer core at next done text left = left
+
+-- src/run.rt:188:5
+loop-holds : tie.Need-loop-holds Inv-loop μ-loop
+loop-holds c = (search needs, search needs, refl, refl, refl, c .before .before .before .before .before .before .before .pre, refl)
+
+-- src/run.rt:190:13
+ran-requires : tie.Need-ran-requires Inv-loop μ-loop
+ran-requires c κs = search needs
+
+-- src/run.rt:190:13
+same-length : tie.Need-same-length Inv-loop μ-loop
+same-length c = search needs
+
+-- src/run.rt:190:13
+same-length-2 : tie.Need-same-length-2 Inv-loop μ-loop
+same-length-2 c = search needs
+
+-- src/run.rt:190:13
+same-length-3 : tie.Need-same-length-3 Inv-loop μ-loop
+same-length-3 c = search needs
+
+-- src/run.rt:190:13
+returns : tie.Need-returns Inv-loop μ-loop
+returns c =
+    let l = c .before .before .before .loop in
+    let a = c .before .before .before .before .before .before .before .before .before .before .before .args in
+    rw (c .ran .ensures) (sym (lines-end (output (l .out) (l .text)) (a .first) (l .next) (l .done) (l .left) (l .at) (a .part .now) (a .tuples .now) (machine (l .core) (l .buffer) (l .store) (l .marks)) (c .before .if1 .taken)) ∙ l .inv .6)
+
+-- src/run.rt:192:13
+record-at-requires : tie.Need-record-at-requires Inv-loop μ-loop
+record-at-requires c κs = search needs
+
+-- src/run.rt:193:15
+turn-requires : tie.Need-turn-requires Inv-loop μ-loop
+turn-requires c κs = search needs
+
+-- src/run.rt:194:24
+enum-known-why : tie.Need-enum-known-why Inv-loop μ-loop
+enum-known-why c = search needs
+
+-- src/run.rt:195:21
+wrapping-add-u64-requires : tie.Need-wrapping-add-u64-requires Inv-loop μ-loop
+wrapping-add-u64-requires c κs = search needs
+
+-- src/run.rt:196:21
+put-bad-requires : tie.Need-put-bad-requires Inv-loop μ-loop
+put-bad-requires c κs = search needs
+
+-- src/run.rt:197:17
+ran-requires-2 : tie.Need-ran-requires-2 Inv-loop μ-loop
+ran-requires-2 c κs = search needs
+
+-- src/run.rt:197:17
+same-length-4 : tie.Need-same-length-4 Inv-loop μ-loop
+same-length-4 c = c .before .before .before .before .before .before .before .before .before .before .before .before .before .loop .inv .2
+
+-- src/run.rt:197:17
+same-length-5 : tie.Need-same-length-5 Inv-loop μ-loop
+same-length-5 c = c .before .before .before .before .before .before .before .before .before .before .before .before .before .loop .inv .3
+
+-- src/run.rt:197:17
+same-length-6 : tie.Need-same-length-6 Inv-loop μ-loop
+same-length-6 c = c .before .before .before .put-bad .kept .0 ∙ c .before .before .before .before .before .before .before .before .before .before .before .before .before .loop .inv .4
+
+-- src/run.rt:197:17
+returns-2 : tie.Need-returns-2 Inv-loop μ-loop
+returns-2 c =
+    let l = c .before .before .before .before .before .before .before .before .before .before .before .before .before .loop in
+    let a = c .before .before .before .before .before .before .before .before .before .before .before .before .before .before .before .before .before .before .before .before .before .args in
+    let o = output (l .out) (l .text) in
+    let m = machine (l .core) (l .buffer) (l .store) (l .marks) in
+    let p = c .before .before .before .put-bad .ensures ∙ ap (λ (n : ℕ). put o (bad n)) (c .before .before .before .before .before .wrapping-add-u64 .ensures) in
+    let e = sym (ap turnOf (c .before .before .before .before .before .before .before .before .before .before .record-at .ensures)) ∙ sym (c .before .before .before .before .before .before .before .before .before .turn .ensures) ∙ c .before .before .before .before .before .before .before .why .given .1 in
+    rw (c .ran2 .ensures)
+    (ap (λ (x : Output). record { machine = m; place = wrapped (a .first + l .at); done = l .done; end = Broken (c .before .before .before .before .before .before .before .why .given .0 .0); out = x }) p
+    ∙ sym (lines-stop o (a .first) (l .next) (l .done) (l .left) (l .at) (a .part .now) (a .tuples .now) m (c .before .before .before .before .before .before .before .why .given .0 .0) (c .before .before .before .before .before .before .before .before .before .before .before .before .loop-test .taken) (c .before .before .before .before .before .before .before .before .before .before .before .if1 .left) e)
+    ∙ l .inv .6)
+
+-- src/run.rt:199:26
+enum-known-write : tie.Need-enum-known-write Inv-loop μ-loop
+enum-known-write c = search needs
+
+-- src/run.rt:200:17
+told-requires : tie.Need-told-requires Inv-loop μ-loop
+told-requires c κs = search needs
+
+-- src/run.rt:201:17
+count-known-requires : tie.Need-count-known-requires Inv-loop μ-loop
+count-known-requires c κs = search needs
+
+-- src/run.rt:202:21
+answer-requires : tie.Need-answer-requires Inv-loop μ-loop
+answer-requires c κs = search needs
+
+-- src/run.rt:205:17
+put-answer-requires : tie.Need-put-answer-requires Inv-loop μ-loop
+put-answer-requires c κs = search needs
+
+-- src/run.rt:207:17
+wrapping-add-u64-requires-2 : tie.Need-wrapping-add-u64-requires-2 Inv-loop μ-loop
+wrapping-add-u64-requires-2 c κs = search needs
+
+-- src/run.rt:208:23
+size-of-requires : tie.Need-size-of-requires Inv-loop μ-loop
+size-of-requires c κs = search needs
+
+-- src/run.rt:208:17
+add-at : tie.Need-add-at Inv-loop μ-loop
+add-at c =
+    let l = c .before .before .before .before .before .before .before .before .before .before .before .before .before .before .before .before .before .before .before .before .before .before .before .before .before .loop in
+    let f = access-fits _ _ (c .before .before .before .before .before .before .before .before .before .before .before .before .before .before .before .before .before .before .before .before .before .before .before .before .before .before .before .before .before .before .before .before .before .args .part .now) (l .at) (c .before .before .before .before .before .before .before .before .before .before .before .before .before .before .before .before .before .before .before .before .before .before .before .if1 .left) (sym (ap turnOf (c .before .before .before .before .before .before .before .before .before .before .before .before .before .before .before .before .before .before .before .before .before .before .record-at .ensures)) ∙ sym (c .before .before .before .before .before .before .before .before .before .before .before .before .before .before .before .before .before .before .before .before .before .turn .ensures) ∙ c .before .before .before .before .before .before .before .before .before .before .before .before .before .before .before .before .before .before .before .write .given .1) in
+    omega (arith, f, c .size-of .ensures, l .inv .1)
+
+-- src/run.rt:209:17
+add-done : tie.Need-add-done Inv-loop μ-loop
+add-done c = omega (arith, c .before .before .before .before .before .before .before .before .before .before .before .before .before .before .before .before .before .before .before .before .before .before .before .before .before .loop .inv .0, c .before .before .before .before .before .before .before .before .before .before .before .before .before .before .before .before .before .before .before .before .before .before .before .before .before .loop .inv .1, c .before .before .before .before .before .before .before .before .before .before .before .before .before .before .before .before .before .before .before .before .before .before .before .before .loop-test .taken)
+
+-- src/run.rt:210:17
+sub-left : tie.Need-sub-left Inv-loop μ-loop
+sub-left c = omega (arith, c .before .before .before .before .before .before .before .before .before .before .before .before .before .before .before .before .before .before .before .before .before .before .before .before .before .loop .inv .0, c .before .before .before .before .before .before .before .before .before .before .before .before .before .before .before .before .before .before .before .before .before .before .before .before .before .loop .inv .1, c .before .before .before .before .before .before .before .before .before .before .before .before .before .before .before .before .before .before .before .before .before .before .before .before .loop-test .taken)
+
+-- src/run.rt:188:5
+loop-less : tie.Need-loop-less Inv-loop μ-loop
+loop-less c = omega (arith, c .before .before .before .before .before .before .before .before .before .before .before .before .before .before .before .before .before .before .before .before .before .before .before .before .before .loop .inv .0, c .before .before .before .before .before .before .before .before .before .before .before .before .before .before .before .before .before .before .before .before .before .before .before .before .before .loop .inv .1, c .before .before .before .before .before .before .before .before .before .before .before .before .before .before .before .before .before .before .before .before .before .before .before .before .loop-test .taken)
+
+-- src/run.rt:188:5
+loop-again : tie.Need-loop-again Inv-loop μ-loop
+loop-again c =
+    let l = c .before .before .before .before .before .before .before .before .before .before .before .before .before .before .before .before .before .before .before .before .before .before .before .before .before .loop in
+    let a = c .before .before .before .before .before .before .before .before .before .before .before .before .before .before .before .before .before .before .before .before .before .before .before .before .before .before .before .before .before .before .before .before .before .args in
+    let r = c .before .before .before .before .before .before .before .before .before .before .before .answer in
+    let k = r .kept .1 .1 .1 .1 .1 .1 in
+    let o = output (l .out) (l .text) in
+    let e = sym (ap turnOf (c .before .before .before .before .before .before .before .before .before .before .before .before .before .before .before .before .before .before .before .before .before .before .record-at .ensures)) ∙ sym (c .before .before .before .before .before .before .before .before .before .before .before .before .before .before .before .before .before .before .before .before .before .turn .ensures) ∙ c .before .before .before .before .before .before .before .before .before .before .before .before .before .before .before .before .before .before .before .write .given .1 in
+    let t = steady (a .verdict) (machine (l .core) (l .buffer) (l .store) (l .marks)) (accessOf _ _ (a .tuples .now)) _ (l .inv .5) (c .before .before .before .before .before .before .before .before .before .before .before .before .before .before .before .count-known .ensures) (c .before .before .before .before .before .before .before .before .before .before .before .before .before .before .before .before .told .ensures) (r .ensures) in
+    let f = lines-turn o _ (a .first) (l .next) (l .done) (l .left) (l .at) (a .part .now) (a .tuples .now) (machine (l .core) (l .buffer) (l .store) (l .marks)) _ _ _ (c .before .before .before .before .before .before .before .before .before .before .before .before .before .before .before .before .before .before .before .before .before .before .before .before .loop-test .taken) (c .before .before .before .before .before .before .before .before .before .before .before .before .before .before .before .before .before .before .before .before .before .before .before .if1 .left) e (t .0) (c .before .before .before .before .put-answer .ensures) in (
+      omega (arith, l .inv .0, c .before .before .before .before .before .before .before .before .before .before .before .before .before .before .before .before .before .before .before .before .before .before .before .before .loop-test .taken),
+      l .inv .1,
+      k .0 ∙ l .inv .2,
+      k .1 .0 ∙ l .inv .3,
+      c .before .before .before .before .put-answer .kept .0 ∙ l .inv .4,
+      t .1,
+      rw (c .before .wrapping-add-u642 .ensures, c .size-of .ensures) (f ∙ l .inv .6),
+    )
+
+-- src/run.rt:214:5
+ran-requires-3 : tie.Need-ran-requires-3 Inv-loop μ-loop
+ran-requires-3 c κs = search needs
+
+-- src/run.rt:160:1
+same-length-7 : tie.Need-same-length-7 Inv-loop μ-loop
+same-length-7 c = search needs
+
+-- src/run.rt:160:1
+same-length-8 : tie.Need-same-length-8 Inv-loop μ-loop
+same-length-8 c = search needs
+
+-- src/run.rt:160:1
+same-length-9 : tie.Need-same-length-9 Inv-loop μ-loop
+same-length-9 c = search needs
+
+-- src/run.rt:160:1
+returns-3 : tie.Need-returns-3 Inv-loop μ-loop
+returns-3 c =
+    let l = c .before .before .loop in
+    let a = c .before .before .before .before .before .before .before .before .before .before .args in
+    rw (c .ran3 .ensures) (sym (lines-none (output (l .out) (l .text)) (a .first) (l .next) (l .done) (l .left) (l .at) (a .part .now) (a .tuples .now) (machine (l .core) (l .buffer) (l .store) (l .marks)) (c .before .loop-test .left)) ∙ l .inv .6)
+
+pub lines-spec : {M : Type 1} → statement M
+lines-spec =
+    tie.close
+    (tie.spec
+    Inv-loop
+    μ-loop
+    loop-holds
+    ran-requires
+    same-length
+    same-length-2
+    same-length-3
+    returns
+    record-at-requires
+    turn-requires
+    enum-known-why
+    wrapping-add-u64-requires
+    put-bad-requires
+    ran-requires-2
+    same-length-4
+    same-length-5
+    same-length-6
+    returns-2
+    enum-known-write
+    told-requires
+    count-known-requires
+    answer-requires
+    put-answer-requires
+    wrapping-add-u64-requires-2
+    size-of-requires
+    add-at
+    add-done
+    sub-left
+    loop-less
+    loop-again
+    ran-requires-3
+    same-length-7
+    same-length-8
+    same-length-9
+    returns-3)

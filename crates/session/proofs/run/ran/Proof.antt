@@ -1,0 +1,17 @@
+use borrow.Author.Needs.{needs}
+use Rattle.session.proofs.run.ran.Statement.{statement}
+use Rattle.session.proofs.run.ran.Tie as tie
+use Rattle.session.proofs.run.ran.Reads as reads
+use Rattle.session.proofs.run.ran.Lts as lts
+use Rattle.std.proofs.num.wrapping_add_u64.Reads as wrapping-add-u64-reads
+
+-- src/run.rt:127:9
+wrapping-add-u64-requires : tie.Need-wrapping-add-u64-requires
+wrapping-add-u64-requires c κs = search needs
+
+-- src/run.rt:116:1
+returns : tie.Need-returns
+returns c = simp (c .before .wrapping-add-u64 .ensures)
+
+pub ran-spec : {M : Type 1} → statement M
+ran-spec = tie.close (tie.spec wrapping-add-u64-requires returns)

@@ -1,0 +1,38 @@
+use mathlib.Core.Path.{_≡_, sym, ap, _∙_}
+use lib.ListN.{length}
+use Rattle.card.specs.Doors.{machineOf}
+use Rattle.session.specs.Output.{Output}
+use Rattle.session.specs.Run.{scriptFrom, resultOf, inOutput}
+use Rattle.session.proofs.Outputs.{put-holds}
+use borrow.Author.Needs.{needs}
+use Rattle.session.proofs.run.run.Statement.{statement}
+use Rattle.session.proofs.run.run.Tie as tie
+use Rattle.session.proofs.run.run.Reads as reads
+use Rattle.session.proofs.run.run.Lts as lts
+use Rattle.session.proofs.run.run_from.Reads as run-from-reads
+
+-- src/run.rt:255:5
+run-from-requires : tie.Need-run-from-requires
+run-from-requires c κs = search needs
+
+-- src/run.rt:243:1
+same-length : tie.Need-same-length
+same-length c = search needs
+
+-- src/run.rt:243:1
+same-length-2 : tie.Need-same-length-2
+same-length-2 c = search needs
+
+-- src/run.rt:243:1
+same-length-3 : tie.Need-same-length-3
+same-length-3 c = search needs
+
+-- src/run.rt:243:1
+returns : tie.Need-returns
+returns c =
+    let a = c .before .before .before .before .before .before .before .before .before .before .before .before .before .before .before .args in
+    let r = resultOf (a .first) (a .number) 0 (machineOf (a .card) (a .store .now) (a .marks .now)) (scriptFrom (length (a .part .now)) (a .part .now) (a .tuples .now) 0) in
+    c .before .before .before .before .before .before .run-from .ensures ∙ ap (λ (o : Output). inOutput o r) (put-holds (r .text) (a .out .now))
+
+pub run-spec : {M : Type 1} → statement M
+run-spec = tie.close (tie.spec run-from-requires same-length same-length-2 same-length-3 returns)

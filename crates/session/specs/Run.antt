@@ -1,0 +1,110 @@
+-- 01, "Session file": the accesses of a file or of a part of one, in turn, and what is printed of them.
+use Prim.Native.Nat.{ℕ, zero, suc, _+_, _%_, _^_, min}
+use mathlib.Core.Bool.{Bool, true, false}
+use mathlib.Core.List.{List, [], _∷_, _++_}
+use lib.Dec.{leb}
+use lib.ListN.{length}
+use Rattle.ground.specs.Choice.{pick}
+use Rattle.answers.specs.Answers.{numberOf, outcomeNumber}
+use Rattle.answers.specs.declared.Outcome.{Outcome}
+use Rattle.registers.specs.State.{Machine}
+use Rattle.card.specs.Access.{Access}
+use Rattle.card.specs.Step.{Stepped, Played, play}
+use Rattle.card.specs.Doors.{machineOf}
+use Rattle.session.specs.declared.Asked.{Asked}
+use Rattle.session.specs.declared.Turn.{Turn}
+use Rattle.session.specs.declared.Ending.{Ending}
+use Rattle.session.specs.declared.Ending.the-variants.{Whole, Broken, Unopened}
+use Rattle.session.specs.declared.Ran.{Ran}
+use Rattle.session.specs.Record.{recordAt, turnOf, sizeOf}
+use Rattle.session.specs.Text.{line, shownValue, bad, unopened}
+use Rattle.session.specs.Output.{Output, output, put, holding}
+
+-- what the records of a part ask for: its accesses, and the place where it ends and how
+pub record Script : Type 0 where
+  pub accesses : List Access
+  pub place : ℕ
+  pub end : Ending
+
+abbrev pub ends : ℕ → Ending → Script
+ends place e = record { accesses = []; place = place; end = e }
+
+abbrev pub asks : Access → Script → Script
+asks a s = record { accesses = a ∷ s .accesses; place = s .place; end = s .end }
+
+abbrev pub accessOf : Bool → Asked → List ℕ → Access
+accessOf write a tuples = record { space = a .space; width = a .width; write = write; address = a .address; value = a .value; tuples = tuples }
+
+abbrev pub byTurn : Turn → (ℕ → Script) → List ℕ → ℕ → Script
+byTurn (Turn.Access write a) rest tuples at = asks (accessOf write a tuples) (rest (at + sizeOf write))
+byTurn (Turn.Stop why) rest tuples at = ends at (Broken why)
+
+-- at most so many accesses, from a place on: "accesses before it stand", and nothing after it
+unfoldable pub scriptFrom : ℕ → List ℕ → List ℕ → ℕ → Script
+scriptFrom zero part tuples at = ends at Whole
+scriptFrom (suc most) part tuples at =
+    pick (leb (length part) at) (ends at Whole)
+    (byTurn (turnOf (recordAt part at false)) (scriptFrom most part tuples) tuples at)
+
+-- numbers and places have 64 bits
+abbrev pub wrapped : ℕ → ℕ
+wrapped n = n % 2 ^ 64
+
+abbrev pub lineOf : ℕ → Access → Outcome → List ℕ
+lineOf number a o = line number (a .write) (outcomeNumber o) (shownValue o (a .write) (a .value))
+
+abbrev pub linesOf : ℕ → List Access → List Stepped → List ℕ
+linesOf number [] steps = []
+linesOf number (a ∷ l) [] = []
+linesOf number (a ∷ l) (s ∷ steps) = lineOf number a (s .outcome) ++ linesOf (wrapped (number + 1)) l steps
+
+-- "at a broken record `bad` and the place of its first byte"; "A refused opening prints `open` and the number"
+abbrev pub endText : Ending → ℕ → List ℕ
+endText Whole place = []
+endText (Broken why) place = bad place
+endText (Unopened r) place = unopened (numberOf r)
+
+-- what a run leaves: the machine, the place reached, the accesses done, how it ended, and its text
+pub record Result : Type 0 where
+  pub machine : Machine
+  pub place : ℕ
+  pub done : ℕ
+  pub end : Ending
+  pub text : List ℕ
+
+abbrev pub resultAs : Played → ℕ → ℕ → ℕ → Script → Result
+resultAs p first number done s =
+    record {
+      machine = p .last;
+      place = wrapped (first + s .place);
+      done = done + length (s .accesses);
+      end = s .end;
+      text = linesOf number (s .accesses) (p .steps) ++ endText (s .end) (wrapped (first + s .place));
+    }
+
+-- the part begins at the place `first` of its file, its first access has this number
+unfoldable pub resultOf : ℕ → ℕ → ℕ → Machine → Script → Result
+resultOf first number done m s = resultAs (play m (s .accesses)) first number done s
+
+-- with the text in an output
+pub record Shown : Type 0 where
+  pub machine : Machine
+  pub place : ℕ
+  pub done : ℕ
+  pub end : Ending
+  pub out : Output
+
+abbrev pub inOutput : Output → Result → Shown
+inOutput o r = record { machine = r .machine; place = r .place; done = r .done; end = r .end; out = o }
+
+abbrev pub shown : Output → Result → Shown
+shown o r = inOutput (put o (r .text)) r
+
+-- of an output from its start
+abbrev pub held : List ℕ → Result → Shown
+held bytes r = inOutput (output (holding bytes (r .text)) (min (length (r .text)) (length bytes))) r
+
+-- all that a run leaves, of its answer and what was lent
+abbrev pub ranAs : Ran → List ℕ → List ℕ → List ℕ → Shown
+ranAs r store marks bytes =
+    record { machine = machineOf (r .card) store marks; place = r .place; done = r .done; end = r .end; out = output bytes (r .text) }

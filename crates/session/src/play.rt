@@ -1,0 +1,164 @@
+// A whole file: the card from its opening, with a zero store, zero marks and tuples of FFH, and everything that is printed.
+use super::Break;
+use super::Ending;
+use super::First;
+use super::Sizes;
+use super::Told;
+use super::records;
+use super::run;
+use super::text;
+use answers::Outcome;
+use answers::Refusal;
+use card::Card;
+use geometry::Geometry;
+ghost use mathlib.Core.Path.{_≡_};
+ghost use Rattle.session.specs.declared.Ending.the-variants.{Broken, Unopened};
+ghost use Rattle.session.specs.Output.{output, Counts};
+ghost use Rattle.session.specs.Play.{stopped, openedOn, zeroBytes, noTuples, begun, byFirst, sessionOf, printedAt, printed, toldAs, endNumber};
+
+fn bad(out: &mut [u8], at: usize, place: u64, why: Break) -> Told
+    ensures { λ r. ⌜ toldAs r (now (out .exit)) ≡ printedAt (output (now (out .entry)) at) (stopped place (Broken why)) ⌝ }
+{
+    let size = text::put_bad(out, at, place);
+    Told {
+        place: place,
+        done: 0,
+        end: Ending::Broken(why),
+        text: size,
+    }
+}
+
+fn unopened(out: &mut [u8], at: usize, refusal: Refusal) -> Told
+    ensures { λ r. ⌜ toldAs r (now (out .exit)) ≡ printedAt (output (now (out .entry)) at) (stopped 0 (Unopened refusal)) ⌝ }
+{
+    let size = text::put_unopened(out, at, refusal.number());
+    Told {
+        place: 0,
+        done: 0,
+        end: Ending::Unopened(refusal),
+        text: size,
+    }
+}
+
+// The opening on what is lent, and the accesses after it.
+fn opened_on(
+    sizes: Sizes,
+    file: &[u8],
+    tuples: &[u8],
+    store: &mut [u8],
+    marks: &mut [u8],
+    out: &mut [u8],
+    at: usize,
+) -> Told
+    ensures { λ r. ⌜ toldAs r (now (out .exit)) ≡ printedAt (output (now (out .entry)) at) (openedOn sizes (now (file .entry)) (now (store .entry)) (now (marks .entry)) (now (tuples .entry))) ⌝ }
+{
+    let answer = Card::open(
+        sizes.cylinders,
+        sizes.heads,
+        sizes.sectors,
+        sizes.mode,
+        store,
+        marks,
+        tuples,
+    );
+    let outcome = answer.outcome;
+    let card = answer.card;
+    match outcome {
+        Outcome::Accepted(_) => {
+            let ran = run::run_from(card, file, 12, 0, 1, tuples, store, marks, out, at);
+            let end = ran.end;
+            Told {
+                place: ran.place,
+                done: ran.done,
+                end: end,
+                text: ran.text,
+            }
+        }
+        Outcome::Refused(refusal) => unopened(out, at, refusal),
+    }
+}
+
+fn zero_store() -> [u8; 16384]
+    ensures { λ r. ⌜ r ≡ zeroBytes 16384 ⌝ }
+{
+    [0u8; 16384]
+}
+
+fn zero_marks() -> [u8; 32]
+    ensures { λ r. ⌜ r ≡ zeroBytes 32 ⌝ }
+{
+    [0u8; 32]
+}
+
+fn no_tuples() -> [u8; 256]
+    ensures { λ r. ⌜ r ≡ noTuples ⌝ }
+{
+    [255u8; 256]
+}
+
+// 01: N at most 32.
+fn begun(sizes: Sizes, file: &[u8], out: &mut [u8], at: usize) -> Told
+    ensures { λ r. ⌜ toldAs r (now (out .exit)) ≡ printedAt (output (now (out .entry)) at) (begun sizes (now (file .entry))) ⌝ }
+{
+    let geometry = Geometry {
+        cylinders: sizes.cylinders,
+        heads: sizes.heads,
+        sectors: sizes.sectors,
+    };
+    let total = geometry.capacity();
+    if 32 < total {
+        return unopened(out, at, Refusal::GeometryOrMode);
+    }
+    let size = 512 * total;
+    let mut store = zero_store();
+    let mut marks = zero_marks();
+    let tuples = no_tuples();
+    opened_on(
+        sizes,
+        file,
+        &tuples,
+        &mut store[..size],
+        &mut marks[..total],
+        out,
+        at,
+    )
+}
+
+// What follows the header.
+fn session(file: &[u8], out: &mut [u8], at: usize) -> Told
+    ensures { λ r. ⌜ toldAs r (now (out .exit)) ≡ printedAt (output (now (out .entry)) at) (sessionOf (now (file .entry))) ⌝ }
+{
+    if 32768 < file.len() {
+        return bad(out, at, 32768, Break::TooLong);
+    }
+    if file.len() == 0 {
+        return bad(out, at, 0, Break::Empty);
+    }
+    let record = records::record_at(file, 0, true);
+    match record.first() {
+        First::Opening(sizes) => begun(sizes, file, out, at),
+        First::Stop(why) => bad(out, at, 0, why),
+    }
+}
+
+// Everything that is printed of any bytes.
+pub fn play(file: &[u8], out: &mut [u8]) -> Told
+    ensures { λ r. ⌜ toldAs r (now (out .exit)) ≡ printed (now (out .entry)) (now (file .entry)) ⌝ }
+    ensures { λ r. ⌜ Counts (r .text) (now (out .exit)) ⌝ }
+{
+    let at = text::put_header(out, 0);
+    session(file, out, at)
+}
+
+impl Ending {
+    // 01: 17 is a broken file's; a refused opening has its own number.
+    pub fn number(self) -> u8
+        ensures { λ r. ⌜ r ≡ endNumber self ⌝ }
+    {
+        match self {
+            Ending::Whole => 0,
+            Ending::Broken(_) => 17,
+            Ending::Unopened(refusal) => refusal.number(),
+        }
+    }
+}

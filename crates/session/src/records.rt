@@ -1,0 +1,186 @@
+// A record at a place of the file: which one it is, or the first test that breaks it.
+use super::Asked;
+use super::Break;
+use super::First;
+use super::Record;
+use super::Sizes;
+use super::Turn;
+ghost use mathlib.Core.Path.{_≡_};
+ghost use Prim.Native.Nat.{_+_, _≤_};
+ghost use lib.ListN.{length};
+ghost use Rattle.session.specs.Record.{wordAt, valueAbove, fieldsTested, openingAt, writeAt, readAt, kindAt, recordAt, firstOf, turnOf};
+
+// 01: all little-endian.
+fn word_at(file: &[u8], at: usize) -> u16
+    requires { ⌜ at + 2 ≤ length (now file) ⌝ }
+    ensures { λ r. ⌜ r ≡ wordAt (now (file .entry)) at ⌝ }
+{
+    ground::wide(file[at]) + 256 * ground::wide(file[at + 1])
+}
+
+fn value_above(width: u8, value: u16) -> bool
+    ensures { λ r. ⌜ r ≡ valueAbove width value ⌝ }
+{
+    if width == 1 {
+        return 255 < value;
+    }
+    false
+}
+
+// The tests of an access's fields.
+fn fields_tested(write: bool, asked: Asked) -> Record
+    ensures { λ r. ⌜ r ≡ fieldsTested write asked ⌝ }
+{
+    if 3 < asked.space {
+        return Record::Broken(Break::Space);
+    }
+    if asked.width < 1 {
+        return Record::Broken(Break::Width);
+    }
+    if 2 < asked.width {
+        return Record::Broken(Break::Width);
+    }
+    if value_above(asked.width, asked.value) {
+        return Record::Broken(Break::Value);
+    }
+    if write {
+        return Record::Write(asked);
+    }
+    Record::Read(asked)
+}
+
+fn opening_at(file: &[u8], at: usize, size: u16, first: bool) -> Record
+    requires { ⌜ at + size ≤ length (now file) ⌝ }
+    ensures { λ r. ⌜ r ≡ openingAt (now (file .entry)) at size first ⌝ }
+{
+    if !first {
+        return Record::Broken(Break::Misplaced);
+    }
+    if size != 12 {
+        return Record::Broken(Break::Length);
+    }
+    let cylinders = word_at(file, at + 4);
+    let heads = word_at(file, at + 6);
+    let sectors = word_at(file, at + 8);
+    let mode = word_at(file, at + 10);
+    Record::Opening(Sizes {
+        cylinders: cylinders,
+        heads: heads,
+        sectors: sectors,
+        mode: mode,
+    })
+}
+
+fn write_at(file: &[u8], at: usize, size: u16, first: bool) -> Record
+    requires { ⌜ at + size ≤ length (now file) ⌝ }
+    ensures { λ r. ⌜ r ≡ writeAt (now (file .entry)) at size first ⌝ }
+{
+    if first {
+        return Record::Broken(Break::Misplaced);
+    }
+    if size != 10 {
+        return Record::Broken(Break::Length);
+    }
+    let space = file[at + 4];
+    let width = file[at + 5];
+    let address = word_at(file, at + 6);
+    let value = word_at(file, at + 8);
+    fields_tested(
+        true,
+        Asked {
+            space: space,
+            width: width,
+            address: address,
+            value: value,
+        },
+    )
+}
+
+fn read_at(file: &[u8], at: usize, size: u16, first: bool) -> Record
+    requires { ⌜ at + size ≤ length (now file) ⌝ }
+    ensures { λ r. ⌜ r ≡ readAt (now (file .entry)) at size first ⌝ }
+{
+    if first {
+        return Record::Broken(Break::Misplaced);
+    }
+    if size != 8 {
+        return Record::Broken(Break::Length);
+    }
+    let space = file[at + 4];
+    let width = file[at + 5];
+    let address = word_at(file, at + 6);
+    fields_tested(
+        false,
+        Asked {
+            space: space,
+            width: width,
+            address: address,
+            value: 0,
+        },
+    )
+}
+
+// By the kind of a record that fits.
+fn kind_at(file: &[u8], at: usize, size: u16, first: bool) -> Record
+    requires { ⌜ (4 ≤ size) × (at + size ≤ length (now file)) ⌝ }
+    ensures { λ r. ⌜ r ≡ kindAt (now (file .entry)) at size first ⌝ }
+{
+    let kind = word_at(file, at + 2);
+    if kind == 1 {
+        return opening_at(file, at, size, first);
+    }
+    if kind == 2 {
+        return write_at(file, at, size, first);
+    }
+    if kind == 3 {
+        return read_at(file, at, size, first);
+    }
+    Record::Broken(Break::Kind)
+}
+
+// What stands at a place of any bytes, where an opening is due (`first`) or after it.
+pub fn record_at(file: &[u8], at: usize, first: bool) -> Record
+    ensures { λ r. ⌜ r ≡ recordAt (now (file .entry)) at first ⌝ }
+{
+    if file.len() <= at {
+        return Record::Broken(Break::DoesNotFit);
+    }
+    let left = file.len() - at;
+    if left < 2 {
+        return Record::Broken(Break::DoesNotFit);
+    }
+    let size = word_at(file, at);
+    if left < size as usize {
+        return Record::Broken(Break::DoesNotFit);
+    }
+    if size < 4 {
+        return Record::Broken(Break::Length);
+    }
+    kind_at(file, at, size, first)
+}
+
+impl Record {
+    // Where an opening is due nothing else will do.
+    pub fn first(self) -> First
+        ensures { λ r. ⌜ r ≡ firstOf self ⌝ }
+    {
+        match self {
+            Record::Opening(sizes) => First::Opening(sizes),
+            Record::Write(_) => First::Stop(Break::Misplaced),
+            Record::Read(_) => First::Stop(Break::Misplaced),
+            Record::Broken(why) => First::Stop(why),
+        }
+    }
+
+    // After the opening.
+    pub fn turn(self) -> Turn
+        ensures { λ r. ⌜ r ≡ turnOf self ⌝ }
+    {
+        match self {
+            Record::Opening(_) => Turn::Stop(Break::Misplaced),
+            Record::Write(asked) => Turn::Access(true, asked),
+            Record::Read(asked) => Turn::Access(false, asked),
+            Record::Broken(why) => Turn::Stop(why),
+        }
+    }
+}
