@@ -18,3 +18,7 @@ pub mod BySectors
 pub mod ChangesFew
 pub mod ChangesWhole
 pub mod Codes
+pub mod OptionIsAccess
+pub mod ControlIsAccess
+pub mod StatusBits
+pub mod StepNumber

@@ -15,7 +15,9 @@ use Rattle.card.specs.Access.{Access, meaning}
 
 pub record Made (p : Phase) (s : State) : Type 0 where
   pub current : currentFor (s .current) (totalIn s) ≡ true
+  pub index : indexFits (s .option) ≡ true
   pub status : statusFits p (s .registers .status) ≡ true
+  pub hold : holdFits p (heldIn s) ≡ true
   pub run : runFits p s ≡ true
 
 pub made-facts : (p : Phase) (s : State) → wellMade p s ≡ true → Made p s
@@ -34,7 +36,7 @@ made-facts p s e =
     ∷ [])
     e
     in
-    record { current = t 1; status = t 4; run = t 7 }
+    record { current = t 1; index = t 2; status = t 4; hold = t 5; run = t 7 }
 
 pub not-made : (m : Machine) (a : Access) → wellMade (m .phase) (m .state) ≡ false → meaning m a ≡ Meaning.Refused NotWellMade
 unfolding meaning

@@ -15,6 +15,7 @@ use Rattle.card.specs.declared.Reply.{Reply}
 use Rattle.card.specs.declared.Answer.{Answer}
 use Rattle.card.specs.Step.{Stepped, replied}
 use Rattle.card.specs.Doors.{answered}
+use Rattle.laws.specs.Lent.{Lent}
 
 -- two promises at once
 pub only-both {ℓ κ} : {A : Type ℓ} {B : Type κ} (d r r′ : A) (e s s′ : B) → (r ≡ d) × (s ≡ e) → (r′ ≡ d) × (s′ ≡ e) → (r ≡ r′) × (s ≡ s′)
@@ -49,9 +50,6 @@ abbrev answerIn : Stepped → Answer
 answerIn x = record { outcome = x .outcome; line = x .line; card = record { phase = x .next .phase; state = x .next .state; buffer = x .next .buffer } }
 
 -- what was lent besides
-abbrev pub Lent : List ℕ → List ℕ → List ℕ → List ℕ → List ℕ → List ℕ → Type 0
-Lent b b′ s s′ m m′ = (b ≡ b′) × (s ≡ s′) × (m ≡ m′)
-
 lent : (x y : Machine) → x ≡ y → Lent (x .buffer) (y .buffer) (x .store) (y .store) (x .marks) (y .marks)
 lent x y e = (ap (λ (n : Machine). n .buffer) e, ap (λ (n : Machine). n .store) e, ap (λ (n : Machine). n .marks) e)
 

@@ -5,3 +5,6 @@ pub mod Mark
 pub mod Line
 pub mod Changes
 pub mod MayChange
+pub mod DoorAccesses
+pub mod Bits
+pub mod Lent

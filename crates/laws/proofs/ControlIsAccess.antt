@@ -1,0 +1,97 @@
+-- Device Control as a method is the byte write to its register: the same answer, the same line, the same card, and what is lent as it was.
+use Prim.Native.Nat.{ℕ, zero, suc, _*_, _%_, _<_, _≤_}
+use native.Mathlib.Omega.{arith}
+use mathlib.Core.Path.{_≡_, refl, subst, _∙_}
+use mathlib.Core.Bool.{Bool, true, false}
+use mathlib.Core.List.{List}
+use lib.ListN.{length}
+use borrow.Author.Tests.{ne-eqb, le-ltb, leb-true}
+use Rattle.answers.specs.declared.Refusal.the-variants.{HeldBySreset}
+use Rattle.maps.specs.declared.Mode.{Mode}
+use Rattle.maps.specs.declared.Mode.the-variants.{PcCard, TrueIde}
+use Rattle.maps.specs.declared.Register.the-variants.{AlternateControl}
+use Rattle.maps.specs.declared.Target.the-variants.{Named}
+use Rattle.maps.specs.declared.Standing.{Standing}
+use Rattle.maps.specs.declared.Standing.the-variants.{There}
+use Rattle.maps.specs.Spaces.{cardAnswers, answersAt}
+use Rattle.maps.specs.Offsets.{memoryAt, within, windowAt, ioAt, offsetAt}
+use Rattle.maps.specs.Places.{misfits, byteAt, evenData, namedAt, placeAt, registerAt}
+use Rattle.maps.specs.Maps.{standsAt}
+use Rattle.maps.proofs.Standings.{Fits, stands-fits}
+use Rattle.registers.specs.declared.State.{State}
+use Rattle.registers.specs.State.{sresetIn, indexIn}
+use Rattle.registers.specs.WellMade.{indexFits, wellMade, totalIn}
+use Rattle.card.specs.declared.Meaning.{Meaning}
+use Rattle.card.specs.declared.Meaning.the-variants.{WriteRegister}
+use Rattle.card.specs.declared.Card.{Card}
+use Rattle.card.specs.Access.{Access, heldAway, decided}
+use Rattle.card.specs.Perform.{registerWritten, perform}
+use Rattle.card.specs.Step.{step}
+use Rattle.card.specs.Doors.{machineOf, answered, controlAnswered}
+use Rattle.laws.specs.DoorAccesses.{Reaches, controlSpace, controlAddress, controlAccess}
+use Rattle.laws.proofs.Made.{made-facts}
+use Rattle.laws.proofs.OptionIsAccess.{meant, step-as, unmade}
+
+abbrev controlMeaning : Bool → ℕ → Meaning
+controlMeaning true v = Meaning.Refused HeldBySreset
+controlMeaning false v = WriteRegister AlternateControl v
+
+-- it is in no attribute memory, and its value is a byte
+reaches-fits : (s : State) (a : Access) → Reaches s a → Fits (There (Named AlternateControl)) (a .space) (a .width) (a .write) (a .value)
+reaches-fits s a r =
+    subst (λ (x : Standing). Fits x (a .space) (a .width) (a .write) (a .value)) (r .stands)
+    (stands-fits (a .space) (indexIn (s .option)) (a .address) (a .width) (a .write) (a .value))
+
+control-decided : (b : Bool) (s : State) (a : Access) → Reaches s a → sresetIn (s .option) ≡ b → decided s a ≡ controlMeaning b (a .value)
+unfolding decided heldAway
+control-decided true s a r e = rw (e, ne-eqb (a .space) 0 (reaches-fits s a r .0))
+control-decided false s a r e =
+    let l : a .value ≤ 255 = reaches-fits s a r .1 .small (r .write) in
+    let n : a .value % 256 ≡ a .value = omega arith in
+    rw (e, r .answers, r .stands, r .write, n)
+
+control-by : (b : Bool) (w : Bool) (c : Card) (store marks : List ℕ) (a : Access) → wellMade (c .phase) (c .state) ≡ w → sresetIn (c .state .option) ≡ b → Reaches (c .state) a →
+    length store ≡ 512 * totalIn (c .state) → length marks ≡ totalIn (c .state) → length (a .tuples) ≡ 256 →
+    answered (controlAnswered (a .value) c) store marks ≡ step (machineOf c store marks) a
+unfolding controlAnswered perform registerWritten
+control-by b false c store marks a e f r s k t = rw (unmade (machineOf c store marks) a e, e)
+control-by true true c store marks a e f r s k t =
+    let m = machineOf c store marks in
+    rw (step-as m a (controlMeaning true (a .value)) (meant m a e s k t ∙ control-decided true (c .state) a r f), e, f)
+control-by false true c store marks a e f r s k t =
+    let m = machineOf c store marks in
+    rw (step-as m a (controlMeaning false (a .value)) (meant m a e s k t ∙ control-decided false (c .state) a r f), e, f)
+
+-- Device Control as a method is every byte write that reaches the register, in whatever map
+pub control-is-access : (c : Card) (store marks : List ℕ) (a : Access) → Reaches (c .state) a →
+    length store ≡ 512 * totalIn (c .state) → length marks ≡ totalIn (c .state) → length (a .tuples) ≡ 256 →
+    answered (controlAnswered (a .value) c) store marks ≡ step (machineOf c store marks) a
+control-is-access c store marks a r s k t = control-by (sresetIn (c .state .option)) (wellMade (c .phase) (c .state)) c store marks a refl refl r s k t
+
+-- offset E of each map is reached
+control-stands : (mode : Mode) (index v : ℕ) → index ≤ 3 → v < 256 →
+    (answersAt (controlSpace mode index) mode index ≡ true)
+    × (standsAt (controlSpace mode index) index (controlAddress mode index) 1 true v ≡ There (Named AlternateControl))
+unfolding controlSpace controlAddress answersAt cardAnswers standsAt offsetAt memoryAt ioAt within windowAt registerAt placeAt evenData namedAt byteAt misfits
+control-stands TrueIde index v i l = (refl, rw (le-ltb 255 v (omega arith)))
+control-stands PcCard zero v i l = (refl, rw (le-ltb 255 v (omega arith)))
+control-stands PcCard (suc zero) v i l = (refl, rw (le-ltb 255 v (omega arith)))
+control-stands PcCard (suc (suc zero)) v i l = (refl, rw (le-ltb 255 v (omega arith)))
+control-stands PcCard (suc (suc (suc zero))) v i l = (refl, rw (le-ltb 255 v (omega arith)))
+control-stands PcCard (suc (suc (suc (suc n)))) v i l = absurd (omega arith)
+
+control-at : (w : Bool) (v : ℕ) (c : Card) (store marks tuples : List ℕ) → wellMade (c .phase) (c .state) ≡ w → v < 256 →
+    length store ≡ 512 * totalIn (c .state) → length marks ≡ totalIn (c .state) → length tuples ≡ 256 →
+    answered (controlAnswered v c) store marks ≡ step (machineOf c store marks) (controlAccess v (c .state) tuples)
+unfolding controlAnswered perform indexFits
+control-at false v c store marks tuples e l s k t = rw (unmade (machineOf c store marks) (controlAccess v (c .state) tuples) e, e)
+control-at true v c store marks tuples e l s k t =
+    let i = leb-true (indexIn (c .state .option)) 3 (made-facts (c .phase) (c .state) e .index) in
+    let x = control-stands (c .state .made .mode) (indexIn (c .state .option)) v i l in
+    control-is-access c store marks (controlAccess v (c .state) tuples) (record { write = refl; answers = x .0; stands = x .1 }) s k t
+
+-- of every card: the write to offset E of the map that it has
+pub control-is-offset-e : (v : ℕ) (c : Card) (store marks tuples : List ℕ) → v < 256 →
+    length store ≡ 512 * totalIn (c .state) → length marks ≡ totalIn (c .state) → length tuples ≡ 256 →
+    answered (controlAnswered v c) store marks ≡ step (machineOf c store marks) (controlAccess v (c .state) tuples)
+control-is-offset-e v c store marks tuples l s k t = control-at (wellMade (c .phase) (c .state)) v c store marks tuples refl l s k t

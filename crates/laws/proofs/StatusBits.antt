@@ -1,0 +1,83 @@
+-- What the bits of Status say of a well-made card: "Status is 58H exactly while a transfer runs, else 50H, 51H or 71H".
+use Prim.Native.Nat.{ℕ}
+use mathlib.Core.Path.{_≡_, refl, sym, subst, _∙_}
+use mathlib.Core.Bool.{Bool, true, false, true≢false}
+use lib.Dec.{eqb}
+use borrow.Author.Tests.{eqb-true}
+use Rattle.ground.specs.Choice.{pick}
+use Rattle.ground.proofs.Picks.{pick-elim, no}
+use Rattle.maps.specs.declared.Register.{Register}
+use Rattle.maps.specs.declared.Register.the-variants.{StatusCommand}
+use Rattle.registers.specs.declared.Phase.{Phase}
+use Rattle.registers.specs.declared.Phase.the-variants.{Idle, DataIn, DataOut}
+use Rattle.registers.specs.declared.State.{State}
+use Rattle.registers.specs.declared.Core.{Core}
+use Rattle.registers.specs.State.{core, sresetIn, runs}
+use Rattle.registers.specs.WellMade.{atRest, statusFits, heldIn, holdFits, wellMade}
+use Rattle.registers.specs.Values.{valueRead}
+use Rattle.card.specs.Perform.{plainCore}
+use Rattle.laws.specs.Coded.{inError}
+use Rattle.laws.specs.Bits.{bsy, rdy, dwf, dsc, drq, err}
+use Rattle.laws.proofs.Made.{made-facts}
+
+-- what holds of each of the four, with whether a transfer runs, holds of Status
+at-rest : (P : ℕ → Type 0) (status : ℕ) → atRest status ≡ true → P 0x50 → P 0x51 → P 0x71 → P status
+unfolding atRest
+at-rest P status h a b c =
+    pick-elim (λ (t : Bool). t ≡ true → P status) (eqb status 0x50) _ _
+    (λ e i. subst P (sym (eqb-true status 0x50 e)) a)
+    (λ n. pick-elim (λ (t : Bool). t ≡ true → P status) (eqb status 0x51) _ _
+    (λ e i. subst P (sym (eqb-true status 0x51 e)) b)
+    (λ n i. subst P (sym (eqb-true status 0x71 i)) c))
+    h
+
+status-elim : (P : ℕ → Bool → Type 0) (p : Phase) (status : ℕ) → statusFits p status ≡ true → P 0x50 false → P 0x58 true → P 0x51 false → P 0x71 false → P status (runs p)
+unfolding statusFits
+status-elim P Idle status h a d b c = at-rest (λ (n : ℕ). P n false) status h a b c
+status-elim P (DataIn t) status h a d b c = subst (λ (n : ℕ). P n true) (sym (eqb-true status 0x58 h)) d
+status-elim P (DataOut t) status h a d b c = subst (λ (n : ℕ). P n true) (sym (eqb-true status 0x58 h)) d
+
+made-elim : (P : ℕ → Bool → Type 0) (p : Phase) (s : State) → wellMade p s ≡ true → P 0x50 false → P 0x58 true → P 0x51 false → P 0x71 false → P (s .registers .status) (runs p)
+made-elim P p s e = status-elim P p (s .registers .status) (made-facts p s e .status)
+
+-- DRQ is set exactly while a transfer runs
+pub drq-runs : (p : Phase) (s : State) → wellMade p s ≡ true → drq (s .registers .status) ≡ runs p
+drq-runs p s e = made-elim (λ (n : ℕ) (b : Bool). drq n ≡ b) p s e refl refl refl refl
+
+-- ERR in "error 51H, write fault 71H", and DWF in the latter
+pub err-error : (p : Phase) (s : State) → wellMade p s ≡ true → err (s .registers .status) ≡ inError (s .registers .status)
+err-error p s e = made-elim (λ (n : ℕ) (b : Bool). err n ≡ inError n) p s e refl refl refl refl
+
+pub dwf-fault : (p : Phase) (s : State) → wellMade p s ≡ true → dwf (s .registers .status) ≡ eqb (s .registers .status) 0x71
+dwf-fault p s e = made-elim (λ (n : ℕ) (b : Bool). dwf n ≡ eqb n 0x71) p s e refl refl refl refl
+
+-- the others stay
+pub others-stay : (p : Phase) (s : State) → wellMade p s ≡ true →
+    (bsy (s .registers .status) ≡ false) × (rdy (s .registers .status) ≡ true) × (dsc (s .registers .status) ≡ true)
+others-stay p s e =
+    made-elim (λ (n : ℕ) (b : Bool). (bsy n ≡ false) × (rdy n ≡ true) × (dsc n ≡ true)) p s e (refl, refl, refl) (refl, refl, refl) (refl, refl, refl) (refl, refl, refl)
+
+-- "While DRQ is set, writes to 1..6 and D have no effect."
+pub drq-blocks : (r : Register) (v : ℕ) (p : Phase) (s : State) → wellMade p s ≡ true → drq (s .registers .status) ≡ true → plainCore r v (core p s) ≡ core p s
+unfolding plainCore
+drq-blocks r v p s e d =
+    let h : runs p ≡ true = sym (drq-runs p s e) ∙ d in
+    pick-elim (λ (k : Core). k ≡ core p s) (s .control .held) _ _ (λ f. refl) (λ f. rw h)
+
+-- a host sees it so: no transfer runs in a held reset, where Status reads 80H
+held-rests : (p : Phase) (b : Bool) → holdFits p b ≡ true → b ≡ true → runs p ≡ false
+unfolding holdFits
+held-rests Idle b h e = refl
+held-rests (DataIn t) b h e = absurd (true≢false (sym e ∙ no b h))
+held-rests (DataOut t) b h e = absurd (true≢false (sym e ∙ no b h))
+
+held-by : (a b : Bool) → b ≡ true → pick a true b ≡ true
+held-by true b e = refl
+held-by false b e = e
+
+pub drq-read : (p : Phase) (s : State) → wellMade p s ≡ true → drq (valueRead StatusCommand p s) ≡ runs p
+unfolding valueRead heldIn
+drq-read p s e =
+    pick-elim (λ (n : ℕ). drq n ≡ runs p) (s .control .held) _ _
+    (λ h. sym (held-rests p (heldIn s) (made-facts p s e .hold) (held-by (sresetIn (s .option)) (s .control .held) h)))
+    (λ h. drq-runs p s e)

@@ -1,0 +1,22 @@
+-- 01, "Registers": "Status: 80H BSY, 40H RDY, 20H DWF, 10H DSC, 08H DRQ, 01H ERR."
+use Prim.Native.Nat.{ℕ, _/_, _%_}
+use mathlib.Core.Bool.{Bool}
+use lib.Dec.{eqb}
+
+abbrev pub bsy : ℕ → Bool
+bsy status = eqb (status / 0x80 % 2) 1
+
+abbrev pub rdy : ℕ → Bool
+rdy status = eqb (status / 0x40 % 2) 1
+
+abbrev pub dwf : ℕ → Bool
+dwf status = eqb (status / 0x20 % 2) 1
+
+abbrev pub dsc : ℕ → Bool
+dsc status = eqb (status / 0x10 % 2) 1
+
+abbrev pub drq : ℕ → Bool
+drq status = eqb (status / 0x08 % 2) 1
+
+abbrev pub err : ℕ → Bool
+err status = eqb (status / 0x01 % 2) 1
