@@ -76,12 +76,13 @@ const BUSY: usize = HELD + 32;
 const BREAK: usize = BUSY + 32;
 const OPENING: usize = BREAK + 17;
 const CONDITION: usize = OPENING + 8;
-const LINE: usize = CONDITION + 20;
+const LINE: usize = CONDITION + 22;
 const MARK: usize = LINE + 3;
 const CARRY: usize = MARK + 16;
 const TUPLES: usize = CARRY + 2;
-const ENTRY: usize = TUPLES + 8;
-const SIZE: usize = ENTRY + 4;
+const CHAIN: usize = TUPLES + 8;
+const ENTRY: usize = CHAIN + 9;
+const SIZE: usize = ENTRY + 6;
 
 static COUNTS: [[AtomicU64; SIZE]; 2] = [const { [const { AtomicU64::new(0) }; SIZE] }; 2];
 
@@ -250,16 +251,17 @@ pub fn opening(g: Geometry, mode: u16) {
 /// Just this condition of the well-made list fails.
 pub fn condition(only: usize, card: &Card) {
     let row = match only {
-        0 => (card.default.h <= 16) as usize,
-        1 => 2 + (card.current.h > 16) as usize,
-        2 => 4,
-        3 => 5 + (card.current.c == 0) as usize,
-        4 => 7,
-        5 => 8,
-        6 if card.running() => 9,
-        6 => 11 - (card.status == 0x58) as usize,
-        7 => 12 + card.hold as usize,
-        8 => 14,
+        0 if card.default.h > 16 => 0,
+        0 => 2 - (card.default.s > 255) as usize,
+        1 => 3 + (card.current.h > 16) as usize,
+        2 => 5 + (card.current.s > 255) as usize,
+        3 => 7 + (card.current.c == 0) as usize,
+        4 => 9,
+        5 => 10,
+        6 if card.running() => 11,
+        6 => 13 - (card.status == 0x58) as usize,
+        7 => 14 + card.hold as usize,
+        8 => 16,
         _ => sector_condition(card),
     };
     hit(CONDITION + row);
@@ -267,10 +269,10 @@ pub fn condition(only: usize, card: &Card) {
 
 fn sector_condition(card: &Card) -> usize {
     match (card.locate().is_err(), card.left) {
-        (true, _) => 15 + card.lba() as usize,
-        (_, 0) => 17,
-        (_, 257..) => 18,
-        _ => 19,
+        (true, _) => 17 + card.lba() as usize,
+        (_, 0) => 19,
+        (_, 257..) => 20,
+        _ => 21,
     }
 }
 
@@ -301,14 +303,40 @@ pub fn tuples(writer: bool, refused: Option<u8>) {
     refusal(refused.unwrap_or(0));
 }
 
-pub fn entry(code: u8, inside: bool) {
+pub fn entry(code: u8, length: u16, end: usize, inside: bool) {
     let row = match (code, inside) {
         (0, _) => 1,
         (0xFF, _) => 2,
+        (_, false) if end > 65_535 => 5,
         (_, false) => 3,
+        (_, true) if length > 255 => 4,
         _ => 0,
     };
     hit(ENTRY + row);
+}
+
+/// A chain's reader stands at a place.
+pub fn chain(buffer: &[u8], at: usize) {
+    let byte = |i: usize| buffer.get(i).map(|&b| b as usize);
+    match (byte(at), byte(at + 1)) {
+        (None, _) => hit(CHAIN + 1),
+        (Some(0xFF), _) => hit(CHAIN + 2 + (at == 255) as usize),
+        (Some(0), _) => hit(CHAIN),
+        (Some(_), None) => hit(CHAIN + 4),
+        (Some(_), Some(link)) if at + 2 + link == 256 => hit(CHAIN + 5),
+        (Some(_), Some(link)) if at + 2 + link > 256 => hit(CHAIN + 6),
+        _ => {}
+    }
+}
+
+/// A chain was read into a list of so many places.
+pub fn places(places: usize, entries: usize) {
+    if entries < places {
+        hit(CHAIN + 7);
+    }
+    if entries == 127 {
+        hit(CHAIN + 8);
+    }
 }
 
 // ---------------------------------------------------------------- the table
@@ -377,6 +405,7 @@ fn groups() -> Vec<Group> {
             named(&["out of the low LBA byte", "into Cylinder High"], Need::Trial),
         ),
         group("Tuple reader and writer", TUPLES, tuple_rows()),
+        group("Chains read", CHAIN, chain_rows()),
         group("Entries to be written", ENTRY, entry_rows()),
     ]
 }
@@ -595,10 +624,12 @@ fn opening_rows() -> Vec<(String, Need)> {
 fn condition_rows() -> Vec<(String, Need)> {
     let names = [
         "default H above 16",
+        "default S above 255",
         "N above 65535",
         "current H 0",
         "current H above 16",
         "current S 0",
+        "current S above 255",
         "current C disagrees",
         "current C 0",
         "index above 3",
@@ -635,11 +666,29 @@ fn tuple_rows() -> Vec<(String, Need)> {
 }
 
 fn entry_rows() -> Vec<(String, Need)> {
-    named(&["good", "code 00H", "code FFH", "body outside"], Need::Trial)
+    let names =
+        ["good", "code 00H", "code FFH", "body outside", "longer than 255", "end above 65535"];
+    named(&names, Need::Trial)
 }
 
-/// Prints the table; the numbers of rows reached and missed.
-pub fn table(with_trials: bool) -> (usize, usize) {
+fn chain_rows() -> Vec<(String, Need)> {
+    let names = [
+        "null tuple",
+        "no byte is left",
+        "end mark",
+        "end mark at byte 255",
+        "code at byte 255",
+        "body to byte 255",
+        "body past byte 255",
+        "places left over",
+        "127 entries",
+    ];
+    named(&names, Need::Trial)
+}
+
+/// Prints the table; the numbers of rows reached and missed, of those that sessions and trials (as far
+/// as they were played) have to reach.
+pub fn table(played: [bool; 2]) -> (usize, usize) {
     let (mut reached, mut missed) = (0, Vec::new());
     let groups = groups();
     println!("Coverage, sessions/trials:");
@@ -648,7 +697,7 @@ pub fn table(with_trials: bool) -> (usize, usize) {
         assert_eq!(next - g.start, g.rows.len(), "rows of {}", g.title);
         print_group(g);
         for (k, (name, need)) in g.rows.iter().enumerate() {
-            match met(g.start + k, *need, with_trials) {
+            match met(g.start + k, *need, played) {
                 None => {}
                 Some(true) => reached += 1,
                 Some(false) => missed.push(format!("{}: {name}", g.title)),
@@ -662,13 +711,13 @@ pub fn table(with_trials: bool) -> (usize, usize) {
 }
 
 /// Is a row reached by the one who has to? None if nobody has.
-fn met(row: usize, need: Need, with_trials: bool) -> Option<bool> {
+fn met(row: usize, need: Need, played: [bool; 2]) -> Option<bool> {
     let column = match need {
         Need::Session => SESSIONS,
-        Need::Trial if with_trials => TRIALS,
-        _ => return None,
+        Need::Trial => TRIALS,
+        Need::Nobody => return None,
     };
-    Some(COUNTS[column][row].load(Relaxed) > 0)
+    played[column].then(|| COUNTS[column][row].load(Relaxed) > 0)
 }
 
 fn print_group(g: &Group) {

@@ -106,7 +106,7 @@ impl Host {
         self.stride = self.rng.next() as u16 | 1;
     }
 
-    /// Lends what the geometry wants, and a full list.
+    /// Lends what the geometry wants.
     pub fn lend_right(&mut self, g: Geometry) {
         let n = g.sectors() as usize;
         self.lend(512 * n, n, 256);
@@ -114,7 +114,7 @@ impl Host {
 
     pub fn lend(&mut self, store: usize, marks: usize, tuples: usize) {
         let (low, high) = (store as u16, (store >> 16) as u16);
-        self.record(&[8, marks as u16, low, high, tuples as u16, 256, 127]);
+        self.record(&[8, marks as u16, low, high, tuples as u16, 256]);
     }
 
     /// One record of a trial.
@@ -148,6 +148,18 @@ impl Host {
     pub fn set_field(&mut self, field: u16, value: u16) {
         self.record(&[4, field, value]);
         trial::set_field(&mut self.card, field, value);
+    }
+
+    /// Sets up to eight bytes of the card's buffer (trials only).
+    pub fn set_buffer(&mut self, place: usize, bytes: &[u8]) {
+        let mut words = [13, place as u16, bytes.len() as u16, 0, 0, 0, 0];
+        for (i, &byte) in bytes.iter().enumerate() {
+            words[3 + i / 2] |= (byte as u16) << (8 * (i % 2));
+            if let Some(cell) = self.card.buffer.get_mut(place + i) {
+                *cell = byte;
+            }
+        }
+        self.record(&words);
     }
 
     /// Writes down an access and does it.

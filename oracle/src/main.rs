@@ -26,6 +26,7 @@ const USAGE: &str = "usage: oracle play < SESSION
        oracle trial < TRIAL
        oracle gen SEED DIR
        oracle compare CARDRUN [TRIAL]
+       oracle compare - TRIAL
        oracle coverage
        oracle mutants
        oracle selftest
@@ -42,8 +43,9 @@ fn main() -> ExitCode {
             filter(if words[0] == "play" { session::play } else { trial::play })
         }
         ["gen", seed, dir] => write_files(seed, dir),
-        ["compare", cardrun] => compare::compare(seed(), cardrun, None),
-        ["compare", cardrun, trial] => compare::compare(seed(), cardrun, Some(trial)),
+        ["compare", cardrun] => compare::compare(seed(), Some(cardrun), None),
+        ["compare", "-", trial] => compare::compare(seed(), None, Some(trial)),
+        ["compare", cardrun, trial] => compare::compare(seed(), Some(cardrun), Some(trial)),
         ["coverage"] => compare::coverage(seed()),
         ["mutants"] => compare::mutants(seed()),
         ["selftest"] => selftest::run(),

@@ -16,7 +16,7 @@ pub fn switch(number: usize) {
 }
 
 /// What each number changes; number 1 is the first.
-pub const CHANGES: [&str; 60] = [
+pub const CHANGES: [&str; 63] = [
     "attribute memory answers in True IDE mode",
     "memory 400H..7FFH goes by the low four bits",
     "index 2 ignores address lines above A9",
@@ -77,4 +77,7 @@ pub const CHANGES: [&str; 60] = [
     "91H is bounded by the current capacity",
     "a new cylinder clears the drive bit",
     "the good end of Verify does not set the mark",
+    "the reader clears the places after its entries",
+    "the writer keeps the bytes after its tuples",
+    "the writer refuses an empty body at the end of the bodies",
 ];

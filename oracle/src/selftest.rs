@@ -292,7 +292,7 @@ fn sense_twice() -> bool {
 fn alternate_status() -> bool {
     let record = |words: [u16; 8]| words.map(u16::to_le_bytes).concat();
     let input = [
-        record([8, 32, 32 * 512, 0, 256, 0, 127, 0]),
+        record([8, 32, 32 * 512, 0, 256, 0, 0, 0]),
         record([1, 4, 2, 4, 1, 0, 0, 0]),
         record([3, 3, 1, 1, 7, 0x10, 1, 0]),
         record([3, 3, 1, 0, 0x16, 0, 1, 0]),

@@ -3,13 +3,15 @@
 use std::fmt::Write;
 
 use crate::card::{Access, Answer, Card, Geometry, Half, Lent, Phase};
+use crate::maps::Mode;
 use crate::tuples::{self, Entry};
 
 pub const STORE: usize = 524_288;
 pub const MARKS: usize = 1_024;
 pub const TUPLES: usize = 512;
 pub const BODIES: usize = 1_024;
-pub const LIST: usize = 256;
+/// No list has more places.
+const PLACES: usize = 256;
 
 pub struct Bench {
     card: Card,
@@ -17,7 +19,8 @@ pub struct Bench {
     marks: Vec<u8>,
     tuples: Vec<u8>,
     bodies: Vec<u8>,
-    list: Vec<Entry>,
+    /// The last entry of a list to be written.
+    last: Entry,
     lent: Lengths,
     text: String,
 }
@@ -28,7 +31,6 @@ struct Lengths {
     marks: usize,
     tuples: usize,
     bodies: usize,
-    list: usize,
 }
 
 /// The text for a trial input.
@@ -39,7 +41,7 @@ pub fn play(input: &[u8]) -> String {
         marks: vec![0; MARKS],
         tuples: vec![0xFF; TUPLES],
         bodies: vec![0; BODIES],
-        list: vec![Entry::default(); LIST],
+        last: Entry::default(),
         lent: Lengths::default(),
         text: String::new(),
     };
@@ -64,13 +66,15 @@ impl Bench {
             3 => self.accesses(&w),
             4 => set_field(&mut self.card, w[1], w[2]),
             5 => self.fill(&w),
-            6 => self.read_chain(),
-            7 => self.write_list(),
+            6 => self.read_chain(place, entry(&w)),
+            7 => self.write_list(place, entry(&w)),
             8 => self.lend(&w),
             9 => put_all(&mut self.tuples, place, bytes),
             10 => put_all(&mut self.bodies, place, bytes),
-            11 => put(&mut self.list, place, Entry { code: w[2] as u8, start: w[3], length: w[4] }),
+            11 => self.last = entry(&w),
             12 => self.show(),
+            13 => put_all(&mut self.card.buffer, place, bytes),
+            14 => self.write_back(),
             _ => {}
         }
     }
@@ -82,7 +86,6 @@ impl Bench {
             marks: (w[1] as usize).min(MARKS),
             tuples: (w[4] as usize).min(TUPLES),
             bodies: (w[5] as usize).min(BODIES),
-            list: (w[6] as usize).min(LIST),
         };
     }
 
@@ -126,37 +129,62 @@ impl Bench {
         }
     }
 
-    fn read_chain(&mut self) {
-        let list = &mut self.list[..self.lent.list];
-        let result = tuples::read(&self.tuples[..self.lent.tuples], list);
-        let (number, value) = match result {
-            Ok(count) => (0, count),
-            Err(number) => (number, 0),
-        };
-        let sum = list_sum(list);
-        let _ = writeln!(self.text, "R {number:02X} {value:04X} {sum:04X}");
-        for e in &list[..value as usize] {
+    /// A list whose places all hold one entry is read into; its first places are shown.
+    fn read_chain(&mut self, places: usize, held: Entry) {
+        let mut list = vec![held; PLACES];
+        let lent = &mut list[..places.min(PLACES)];
+        let result = tuples::read(&self.tuples[..self.lent.tuples], lent);
+        self.outcome('R', result);
+        self.text.push('\n');
+        let entries = result.unwrap_or(0) as usize;
+        for e in &list[..(entries + 2).min(PLACES)] {
             let _ = writeln!(self.text, "E {:02X} {:04X} {:04X}", e.code, e.start, e.length);
         }
     }
 
-    fn write_list(&mut self) {
+    /// A list of one entry many times, and the last entry, is written.
+    fn write_list(&mut self, places: usize, first: Entry) {
+        let mut list = vec![first; places.min(PLACES)];
+        if let Some(end) = list.last_mut() {
+            *end = self.last;
+        }
         let buffer = &mut self.tuples[..self.lent.tuples];
-        let result =
-            tuples::write(&self.list[..self.lent.list], &self.bodies[..self.lent.bodies], buffer);
-        let number = result.err().unwrap_or(0);
-        let _ = writeln!(self.text, "W {number:02X} 0000 {:04X}", sum(buffer));
+        let result = tuples::write(&list, &self.bodies[..self.lent.bodies], buffer);
+        self.written(result.map(|()| 0));
+    }
+
+    /// The chain in the bodies is read, and its list written over the same bytes.
+    fn write_back(&mut self) {
+        let bodies = &self.bodies[..self.lent.bodies];
+        let buffer = &mut self.tuples[..self.lent.tuples];
+        let mut list = [Entry::default(); 127];
+        let read = tuples::read(bodies, &mut list);
+        let result = read.and_then(|n| tuples::write(&list[..n as usize], bodies, buffer));
+        self.written(result.map(|()| 0));
+    }
+
+    fn written(&mut self, result: Result<u16, u8>) {
+        self.outcome('W', result);
+        let buffer = &self.tuples[..self.lent.tuples];
+        let _ = writeln!(self.text, " {:04X}", sum(buffer));
         hex_line('T', buffer, &mut self.text);
+    }
+
+    fn outcome(&mut self, letter: char, result: Result<u16, u8>) {
+        let (number, value) = match result {
+            Ok(value) => (0, value),
+            Err(number) => (number, 0),
+        };
+        let _ = write!(self.text, "{letter} {number:02X} {value:04X}");
     }
 
     fn show(&mut self) {
         let _ = writeln!(
             self.text,
-            "S {:04X} {:04X} {:04X} {:04X}",
+            "S {:04X} {:04X} {:04X}",
             sum(&self.store[..self.lent.store]),
             sum(&self.card.buffer),
             sum(&self.tuples[..self.lent.tuples]),
-            list_sum(&self.list[..self.lent.list]),
         );
         hex_line('M', &self.marks[..self.lent.marks], &mut self.text);
     }
@@ -183,10 +211,14 @@ impl Bench {
             let _ = write!(text, " {byte:02X}");
         }
         let now = k.current;
-        let _ = write!(text, " {} {:04X} {:02X} {:02X}", k.mark as u8, now.c, now.h, now.s);
+        let _ = write!(text, " {} {:04X} {:04X} {:04X}", k.mark as u8, now.c, now.h, now.s);
         let (phase, half) = (k.phase as u8, k.half as u8);
         let _ = writeln!(text, " {phase} {half} {:04X} {:04X}", k.words, k.left);
     }
+}
+
+fn entry(w: &[u16; 8]) -> Entry {
+    Entry { code: w[2] as u8, start: w[3], length: w[4] }
 }
 
 pub fn next_value(a: &Access, step: u16) -> u16 {
@@ -198,7 +230,7 @@ pub fn next_value(a: &Access, step: u16) -> u16 {
     }
 }
 
-fn put<T>(row: &mut [T], place: usize, value: T) {
+fn put(row: &mut [u8], place: usize, value: u8) {
     if let Some(cell) = row.get_mut(place) {
         *cell = value;
     }
@@ -216,11 +248,11 @@ pub fn set_field(k: &mut Card, field: u16, value: u16) {
     let bit = value & 1 == 1;
     match field {
         1 => k.default.c = value,
-        2 => k.default.h = byte as u16,
-        3 => k.default.s = byte as u16,
+        2 => k.default.h = value,
+        3 => k.default.s = value,
         4 => k.current.c = value,
-        5 => k.current.h = byte as u16,
-        6 => k.current.s = byte as u16,
+        5 => k.current.h = value,
+        6 => k.current.s = value,
         7 => k.setting = byte & 0x7F,
         8 => k.sreset = bit,
         9 => k.hold = bit,
@@ -232,9 +264,29 @@ pub fn set_field(k: &mut Card, field: u16, value: u16) {
         15 => k.sector = byte,
         16 => k.cyl_low = byte,
         17 => k.cyl_high = byte,
-        18 => k.head = byte & 0x5F,
+        18 => k.head = byte,
         19 => k.code = byte,
-        20..=22 if k.phase != Phase::Idle => set_transfer_field(k, field, value),
+        23 => set_mode(k, value),
+        24 => set_phase(k, value),
+        20..=25 if k.phase != Phase::Idle => set_transfer_field(k, field, value),
+        _ => {}
+    }
+}
+
+fn set_mode(k: &mut Card, value: u16) {
+    match value {
+        0 => k.mode = Mode::PcCard,
+        1 => k.mode = Mode::TrueIde,
+        _ => {}
+    }
+}
+
+/// A transfer that runs goes on, or turns round.
+fn set_phase(k: &mut Card, value: u16) {
+    match value {
+        0 => k.stop_transfer(),
+        1 => k.phase = Phase::In,
+        2 => k.phase = Phase::Out,
         _ => {}
     }
 }
@@ -246,24 +298,14 @@ fn set_transfer_field(k: &mut Card, field: u16, value: u16) {
         (20, 2) => k.half = Half::High,
         (21, _) => k.words = value,
         (22, _) if k.sectors => k.left = value,
+        (25, 0) => (k.sectors, k.left) = (false, 0),
+        (25, 1) => k.sectors = true,
         _ => {}
     }
 }
 
-fn sum_of(bytes: impl Iterator<Item = u8>) -> u32 {
-    bytes.fold(0, |sum, b| (31 * sum + b as u32 + 1) % 65_521)
-}
-
 fn sum(bytes: &[u8]) -> u32 {
-    sum_of(bytes.iter().copied())
-}
-
-fn list_sum(list: &[Entry]) -> u32 {
-    let five = |e: &Entry| {
-        let ([s0, s1], [l0, l1]) = (e.start.to_le_bytes(), e.length.to_le_bytes());
-        [e.code, s0, s1, l0, l1]
-    };
-    sum_of(list.iter().flat_map(five))
+    bytes.iter().fold(0, |sum, &b| (31 * sum + b as u32 + 1) % 65_521)
 }
 
 fn hex_line(letter: char, bytes: &[u8], text: &mut String) {

@@ -3,6 +3,7 @@
 use crate::card::{Access, Geometry};
 use crate::gen::{bring, geometry, sub_seed, Case, State};
 use crate::host::{Host, Style};
+use crate::maps::Mode;
 use crate::rng::Rng;
 
 /// Geometries of some hundred sectors: many cylinders, many heads, long tracks, and small ones.
@@ -29,6 +30,7 @@ pub fn trials(seed: u64) -> Vec<Case> {
     lines(seed, &mut all);
     wanderings(seed, &mut all);
     breaks(seed, &mut all);
+    made_up(seed, &mut all);
     chains(seed, &mut all);
     lists(seed, &mut all);
     oddities(seed, &mut all);
@@ -55,7 +57,7 @@ fn oddities(seed: u64, all: &mut Vec<Case>) {
     all.push(Case::new("trial-no-record".into(), vec![3; 15]));
     let mut host = small(sub_seed(seed, 19, 0), 1);
     host.record(&[8, 0xFFFF, 0xFFFF, 0xFFFF, 0xFFFF, 0xFFFF, 0xFFFF]);
-    for kind in [0, 13, 255, 256, 257, 0xFFFF] {
+    for kind in [0, 15, 16, 255, 256, 257, 0xFFFF] {
         host.record(&[kind, 3, 1, 0, 7, 0, 1, 0]);
     }
     for place in [0, 255, 256, 505, 511, 512, 1020, 1023, 1024, 0xFFFF] {
@@ -64,15 +66,21 @@ fn oddities(seed: u64, all: &mut Vec<Case>) {
         host.record(&[9, place, 9, 0x0201, 0x0403, 0x0605, 0x0807, 0x0A09]);
         host.record(&[10, place, 5, 0x0201, 0x0403, 0x0605, 0x0807, 0x0A09]);
         host.record(&[11, place, 0x1234, 0x5678, 0x9ABC]);
-        host.record(&[6]);
-        host.record(&[7]);
+        host.record(&[13, place, 7, 0x0201, 0x0403, 0x0605, 0x0807, 0x0A09]);
+        for count in [0, 1, 256, 257, 0xFFFF] {
+            host.record(&[6, count, 0x1FE, place, place]);
+            host.record(&[7, count, 0x1FE, place, place]);
+        }
+        host.record(&[14]);
         host.record(&[12]);
     }
     host.lend_right(Geometry::new(4, 2, 4));
     for field in 0..30 {
-        host.record(&[4, field, 0x1FF]);
-        host.record(&[3, 3, 1, 0, 0x16, 0, 0, 0]);
-        host.record(&[1, 4, 2, 4, 1]);
+        for value in [0x1FF, 0, 1, 2, 3, 0x8000, 0xFFFF] {
+            host.record(&[4, field, value]);
+            host.record(&[3, 3, 1, 0, 0x16, 0, 0, 0]);
+            host.record(&[1, 4, 2, 4, 1]);
+        }
     }
     host.record(&[3, 0x103, 0x101, 0x100, 7, 0xE8, 0, 9]);
     host.record(&[3, 3, 2, 1, 0, 0xFFF0, 300, 5]);
@@ -154,21 +162,30 @@ fn lent_lengths(seed: u64, all: &mut Vec<Case>) {
 type Fields = &'static [(u16, u16)];
 
 /// Cards in a map and a state, and fields that break one condition when all are set.
-const CONDITIONS: [(&str, u8, State, Fields); 24] = [
+const CONDITIONS: [(&str, u8, State, Fields); 33] = [
     ("default-h", 0, State::Idle, &[(2, 17), (4, 34)]),
+    ("default-h-65535", 0, State::Idle, &[(2, 65535)]),
+    ("default-s", 0, State::Idle, &[(1, 1), (2, 1), (3, 256), (4, 32)]),
     ("default-n", 0, State::Idle, &[(1, 300), (2, 16), (3, 255), (5, 16), (6, 255), (4, 300)]),
     ("zero-c", 0, State::Idle, &[(1, 0)]),
     ("zero-h", 0, State::Idle, &[(2, 0)]),
     ("zero-s", 0, State::Idle, &[(3, 0)]),
     ("current-h-0", 0, State::Idle, &[(5, 0)]),
     ("current-h-17", 0, State::Idle, &[(5, 17), (6, 1), (4, 1)]),
+    ("current-h-257", 0, State::Idle, &[(1, 130), (5, 257), (6, 4), (4, 1)]),
     ("current-s-0", 0, State::Idle, &[(6, 0)]),
+    ("current-s-256", 0, State::Idle, &[(1, 64), (5, 1), (6, 256), (4, 2)]),
+    ("current-s-257", 4, State::Idle, &[(1, 64), (5, 1), (6, 257), (4, 1)]),
     ("current-c-3", 0, State::Idle, &[(4, 3)]),
     ("current-c-5", 4, State::Idle, &[(4, 5)]),
     ("current-c-0", 0, State::Idle, &[(4, 0), (5, 16), (6, 3)]),
     ("index-4", 0, State::Idle, &[(7, 4)]),
     ("index-63", 1, State::Idle, &[(7, 0x7F)]),
     ("sreset-ide", 4, State::Idle, &[(8, 1)]),
+    ("ide-sreset", 0, State::Sreset, &[(23, 1)]),
+    ("no-transfer-58", 0, State::In, &[(24, 0)]),
+    ("transfer-58", 0, State::Idle, &[(24, 1)]),
+    ("out-58", 4, State::Idle, &[(24, 2), (12, 0x50)]),
     ("transfer-50", 0, State::In, &[(12, 0x50)]),
     ("transfer-51", 0, State::Out, &[(12, 0x51)]),
     ("idle-58", 0, State::Idle, &[(12, 0x58)]),
@@ -227,7 +244,11 @@ fn mend(host: &mut Host, whole: &crate::card::Card, fields: &[(u16, u16)]) {
             16 => whole.cyl_low as u16,
             17 => whole.cyl_high as u16,
             18 => whole.head as u16,
+            20 => whole.half as u16,
             21 => whole.words,
+            23 => (whole.mode == Mode::TrueIde) as u16,
+            24 => whole.phase as u16,
+            25 => whole.sectors as u16,
             _ => whole.left,
         };
         host.set_field(field, value);
@@ -285,7 +306,7 @@ fn marks(seed: u64, all: &mut Vec<Case>) {
 }
 
 fn marked(host: &mut Host, opcode: u8) {
-    for (first, lba) in [(2, true), (0, false), (1, true), (2, false)] {
+    for (first, lba) in [(2, false), (2, true), (0, false), (1, true)] {
         host.name_sector(first, lba);
         host.put(2, 4);
         host.put(7, opcode);
@@ -297,6 +318,8 @@ fn marked(host: &mut Host, opcode: u8) {
         host.record(&[12]);
         host.put(7, 0xE4);
         host.transfer(4, Style::Mixed);
+        // Ends the transfer, so that the next address is taken.
+        host.put(7, 0x10);
     }
 }
 
@@ -414,7 +437,7 @@ fn breaks(seed: u64, all: &mut Vec<Case>) {
         for _ in 0..60 {
             prepare(&mut host);
             let whole = host.card.clone();
-            let field = 1 + host.rng.below(22) as u16;
+            let field = 1 + host.rng.below(25) as u16;
             let value = some_value(&mut host, field);
             host.set_field(field, value);
             poke(&mut host);
@@ -423,6 +446,58 @@ fn breaks(seed: u64, all: &mut Vec<Case>) {
             }
         }
         finish(format!("break-{number}"), host, all);
+    }
+}
+
+/// Well-made cards that no command has left so: transfers set up by hand, a buffer set by hand.
+fn made_up(seed: u64, all: &mut Vec<Case>) {
+    for number in 0..60 {
+        let g = geometry([(4, 2, 4), (300, 1, 2), (3, 3, 40)][number % 3]);
+        let mut host = Host::trial(sub_seed(seed, 30, number), g, (number % 2) as u16);
+        for _ in 0..12 {
+            make_up(&mut host);
+            host.look();
+            let (words, style) =
+                (host.rng.pick(&[1, 2, 255, 256]), host.rng.pick(&[Style::Words, Style::Mixed]));
+            host.transfer(words, style);
+            host.look();
+            host.record(&[12]);
+        }
+        finish(format!("made-{number}"), host, all);
+    }
+}
+
+fn make_up(host: &mut Host) {
+    if host.card.hold || host.card.sreset {
+        return host.change_map();
+    }
+    let (lba, n) = (host.rng.flip(), host.marks.len());
+    let i = host.rng.below(n);
+    host.put(7, 0x10);
+    host.name_sector(i, lba);
+    let bytes: Vec<u8> = (0..8).map(|_| host.rng.byte()).collect();
+    let place = host.rng.pick(&[0, 6, 100, 504, 508, 511, 512]);
+    host.set_buffer(place, &bytes);
+    let left = host.rng.pick(&[1, 2, 3, 255, 256]);
+    let (phase, sectors) = (1 + host.rng.below(2) as u16, host.rng.flip() as u16);
+    let words = host.rng.pick(&[0, 1, 3, 127, 254, 255]);
+    let half = host.rng.below(3) as u16;
+    let high = host.rng.pick(&[0, 0x20, 0x80, 0xA0]);
+    let head = host.card.head as u16 | high;
+    for (field, value) in [
+        (24, phase),
+        (25, sectors),
+        (20, half),
+        (21, words),
+        (22, left),
+        (14, left),
+        (12, 0x58),
+        (18, head),
+    ] {
+        host.set_field(field, value);
+        if host.rng.percent(20) {
+            probe(host);
+        }
     }
 }
 
@@ -454,11 +529,11 @@ fn some_value(host: &mut Host, field: u16) -> u16 {
     match field {
         12 => host.rng.pick(&[0x50, 0x51, 0x58, 0x71, 0x80, any]),
         19 => host.rng.pick(&[0x00, 0x03, 0x11, 0x20, 0x21, 0x2F]),
-        20 => near % 3,
+        20 | 23 | 24 | 25 => near % 4,
         21 => host.rng.pick(&[0, 1, 254, 255, 256, any]),
         22 => host.rng.pick(&[0, 1, 2, 255, 256, 257, any]),
         1 | 4 => host.rng.pick(&[near, any, 4, 300]),
-        2 | 3 | 5 | 6 => host.rng.pick(&[near, near, 16, 17, 255]),
+        2 | 3 | 5 | 6 => host.rng.pick(&[near, near, 16, 17, 255, 256, any]),
         _ => host.rng.pick(&[near, any]),
     }
 }
@@ -478,7 +553,7 @@ fn poke(host: &mut Host) {
 
 /// Gives every settable field its former value.
 fn set_back(host: &mut Host, whole: &crate::card::Card) {
-    let fields = [1, 2, 3, 4, 5, 6, 7, 8, 9, 12, 14, 15, 16, 17, 18, 21, 22];
+    let fields = [1, 2, 3, 4, 5, 6, 7, 8, 9, 12, 14, 15, 16, 17, 18, 23, 24, 25, 20, 21, 22];
     let fields: Vec<(u16, u16)> = fields.iter().map(|&f| (f, 0)).collect();
     mend(host, whole, &fields);
 }
@@ -496,35 +571,78 @@ fn bytes_record(host: &mut Host, kind: u16, place: usize, bytes: &[u8]) {
     }
 }
 
-fn lend_tuples(host: &mut Host, tuples: usize, bodies: usize, list: usize) {
-    host.record(&[8, 0, 0, 0, tuples as u16, bodies as u16, list as u16]);
+fn lend_tuples(host: &mut Host, tuples: usize, bodies: usize) {
+    host.record(&[8, 0, 0, 0, tuples as u16, bodies as u16]);
 }
 
 /// Chains to be read: good ones, ones that end badly, short lists, wrong lengths.
 fn chains(seed: u64, all: &mut Vec<Case>) {
     let mut host = small(3, 0);
     bytes_record(&mut host, 9, 0, &[0x18, 0x02, 0xDF, 0x01, 0x14, 0x00, 0xFF]);
-    for (tuples, list) in [(256, 127), (256, 126), (255, 127), (257, 126), (256, 256), (0, 0)] {
-        lend_tuples(&mut host, tuples, 0, list);
-        host.record(&[6]);
+    for (tuples, places) in
+        [(256, 127), (256, 126), (255, 127), (257, 126), (256, 256), (256, 257), (0, 0)]
+    {
+        lend_tuples(&mut host, tuples, 0);
+        host.record(&[6, places, 0xAA, 0x1234, 0x5678]);
     }
     finish("chain-sample".into(), host, all);
-    for number in 0..60 {
+    edges(all);
+    for number in 0..120 {
         let mut rng = Rng::new(sub_seed(seed, 28, number));
         let mut host = small(4, 0);
-        for _ in 0..6 {
+        for _ in 0..12 {
             let chain = some_chain(&mut rng);
             bytes_record(&mut host, 9, 0, &chain);
-            let (tuples, list) =
-                (rng.pick(&[256, 256, 256, 255, 257]), rng.pick(&[127, 127, 128, 256, 126]));
-            lend_tuples(&mut host, tuples, 256, list);
-            let (place, code) = (rng.below(256) as u16, rng.byte() as u16);
-            host.record(&[11, place, code, rng.next() as u16, rng.next() as u16]);
-            host.record(&[6]);
-            host.record(&[12]);
+            bytes_record(&mut host, 10, 0, &chain);
+            let tuples = rng.pick(&[256, 256, 256, 256, 255, 257]);
+            let bodies = rng.pick(&[256, 256, 256, 256, 255, 257]);
+            lend_tuples(&mut host, tuples, bodies);
+            let (places, code) = (rng.pick(&[127, 127, 128, 256, 126]), rng.byte() as u16);
+            host.record(&[6, places, code, rng.next() as u16, rng.next() as u16]);
+            host.record(&[14]);
+            host.record(&[6, 127]);
         }
         finish(format!("chain-{number}"), host, all);
     }
+}
+
+/// Every end mark's place in a chain of nulls, and every link of a first and of a second tuple.
+fn edges(all: &mut Vec<Case>) {
+    let mut host = small(6, 0);
+    lend_tuples(&mut host, 256, 256);
+    bytes_record(&mut host, 9, 0, &[0; 256]);
+    for place in (0..=256).rev().step_by(15) {
+        host.record(&[9, place, 1, 0xFF]);
+        host.record(&[6, 127, 0x55]);
+    }
+    bytes_record(&mut host, 9, 0, &[0xFF; 256]);
+    for start in [0, 2, 100, 250, 252, 253, 254, 255] {
+        let mut chain = vec![0x14, 0].repeat(start / 2);
+        chain.resize(start, 0);
+        bytes_record(&mut host, 9, 0, &chain);
+        for past in 0..5 {
+            let link = (256 - start + past).saturating_sub(4) as u16;
+            host.record(&[9, start as u16, 2, 0x21 | link.min(255) << 8]);
+            for last in [0xFF, 0x00, 0x21] {
+                host.record(&[9, 255, 1, last]);
+                host.record(&[6, 128, 0x66, 0xFFFF, 0xFFFF]);
+            }
+        }
+        bytes_record(&mut host, 9, 0, &[0xFF; 256]);
+    }
+    full_chain(&mut host);
+    finish("chain-edges".into(), host, all);
+}
+
+/// 127 empty tuples and the end mark, into lists about that long.
+fn full_chain(host: &mut Host) {
+    let chain = [&[0x40, 0].repeat(127)[..], &[0xFF, 0xFF]].concat();
+    bytes_record(host, 9, 0, &chain);
+    bytes_record(host, 10, 0, &chain);
+    for places in [126, 127, 128, 129, 256] {
+        host.record(&[6, places, 0x77, 1, 2]);
+    }
+    host.record(&[14]);
 }
 
 /// 256 bytes: tuples of some length, perhaps nulls, an end mark or none.
@@ -569,9 +687,9 @@ fn lists(seed: u64, all: &mut Vec<Case>) {
     for number in 0..80 {
         let mut rng = Rng::new(sub_seed(seed, 29, number));
         let mut host = small(5, 0);
-        let bodies: Vec<u8> = (0..300).map(|_| rng.byte()).collect();
+        let bodies: Vec<u8> = (0..1024).map(|_| rng.byte()).collect();
         bytes_record(&mut host, 10, 0, &bodies);
-        for _ in 0..5 {
+        for _ in 0..20 {
             one_list(&mut host, &mut rng);
         }
         finish(format!("list-{number}"), host, all);
@@ -579,59 +697,53 @@ fn lists(seed: u64, all: &mut Vec<Case>) {
 }
 
 fn one_list(host: &mut Host, rng: &mut Rng) {
-    let bodies = rng.pick(&[0, 10, 256, 300]);
-    let entries = rng.pick(&[0, 1, 2, 5, 40, 85, 127, 128]);
-    let longest = 253usize.saturating_sub(2 * entries) / entries.max(1) + rng.below(2);
-    for place in 0..entries {
-        let length = if rng.percent(1) { 254 } else { rng.below(longest + 2).min(bodies) };
-        let start = rng.below(bodies + 1 - length.min(bodies));
-        let code = 1 + rng.below(254) as u16;
-        host.record(&[11, place as u16, code, start as u16, length as u16]);
+    let bodies = rng.pick(&[0, 10, 256, 300, 1024]);
+    let count = rng.pick(&[0, 1, 2, 5, 40, 85, 127, 128, 256]);
+    let longest = (253usize.saturating_sub(2 * count) / count.max(1)).min(bodies);
+    let length = rng.below(longest + 1);
+    let code = 1 + rng.below(254) as u16;
+    let mut first = (code, rng.below(bodies + 1 - length) as u16, length as u16);
+    let mut last = filling(rng, count, length, bodies);
+    match rng.below(8) {
+        0 => first = spoiled(rng, bodies),
+        1..=3 => last = spoiled(rng, bodies),
+        _ => {}
     }
-    if rng.flip() {
-        fill_up(host, rng, entries);
-    }
-    spoil(host, rng, entries, bodies);
+    host.record(&[11, 0, last.0, last.1, last.2]);
     let tuples = rng.pick(&[256, 256, 256, 256, 255, 0, 512]);
-    lend_tuples(host, tuples, bodies, entries);
-    host.record(&[7]);
-    lend_tuples(host, 256, bodies, 127);
-    host.record(&[6]);
+    lend_tuples(host, tuples, bodies);
+    host.record(&[7, count as u16, first.0, first.1, first.2]);
+    lend_tuples(host, 256, bodies);
+    host.record(&[6, 127, 0xAB, 0xCDEF, 0x0123]);
 }
 
-/// Entries of equal length, the last one such that all take 254 to 257 bytes.
-fn fill_up(host: &mut Host, rng: &mut Rng, entries: usize) {
-    let Some(others) = entries.checked_sub(1) else {
-        return;
-    };
-    let each = 200 / entries;
-    let target: usize = rng.pick(&[254, 255, 256, 257]);
-    for place in 0..others {
-        host.record(&[11, place as u16, 0x40, 0, each.saturating_sub(2) as u16]);
-    }
-    let used = others * each.max(2);
-    let last = target.saturating_sub(used + 2) as u16;
-    host.record(&[11, others as u16, 0x41, 0, last]);
+/// A last entry such that all take 253 to 257 bytes, where that can be.
+fn filling(rng: &mut Rng, count: usize, length: usize, bodies: usize) -> (u16, u16, u16) {
+    let used = count.saturating_sub(1) * (2 + length);
+    let target: usize = rng.pick(&[253, 254, 255, 256, 257]);
+    let last = target.saturating_sub(used + 2).min(bodies);
+    (0x41, rng.below(bodies + 1 - last) as u16, last as u16)
 }
 
-/// Sometimes makes one entry faulty: its code, or a body at or over the end.
-fn spoil(host: &mut Host, rng: &mut Rng, entries: usize, bodies: usize) {
-    if entries == 0 || rng.flip() {
-        return;
-    }
+/// An entry that is faulty or nearly: its code, its length, a body at or over the end.
+fn spoiled(rng: &mut Rng, bodies: usize) -> (u16, u16, u16) {
     let end = bodies as u16;
-    let (code, start, length) = rng.pick(&[
+    rng.pick(&[
         (0x00, 0, 0),
         (0xFF, 0, 0),
         (0x21, end, 0),
         (0x21, end + 1, 0),
         (0x21, end, 1),
+        (0x21, end.saturating_sub(2), 2),
+        (0x21, end.saturating_sub(2), 3),
         (0x21, 0, end),
+        (0x21, 1, end),
         (0x21, 0xFFFF, 0xFFFF),
+        (0x21, 0xFFFF, 1),
         (0x21, 1, 0xFFFF),
         (0x21, 0, 253),
         (0x21, 0, 254),
-    ]);
-    let place = rng.below(entries) as u16;
-    host.record(&[11, place, code, start, length]);
+        (0x21, 0, 256),
+        (0x21, 7, 300),
+    ])
 }

@@ -15,7 +15,11 @@ pub fn read(buffer: &[u8], list: &mut [Entry]) -> Result<u16, u8> {
     let found = check_read(buffer, list.len());
     cover::tuples(false, found.as_ref().err().copied());
     let entries = found?;
+    cover::places(list.len(), entries.len());
     list[..entries.len()].copy_from_slice(&entries);
+    if on(61) {
+        list[entries.len()..].fill(Entry::default());
+    }
     Ok(entries.len() as u16)
 }
 
@@ -34,6 +38,7 @@ fn walk(buffer: &[u8]) -> Option<Vec<Entry>> {
     let mut entries = Vec::new();
     let mut at = 0;
     loop {
+        cover::chain(buffer, at);
         match *buffer.get(at)? {
             0xFF => return Some(entries),
             0x00 => at += 1,
@@ -55,7 +60,9 @@ pub fn write(list: &[Entry], bodies: &[u8], buffer: &mut [u8]) -> Result<(), u8>
     let checked = check_write(list, bodies, buffer.len());
     cover::tuples(true, checked.err());
     checked?;
-    buffer.fill(0xFF);
+    if !on(62) {
+        buffer.fill(0xFF);
+    }
     let mut at = 0;
     for entry in list {
         let (start, length) = (entry.start as usize, entry.length as usize);
@@ -87,7 +94,7 @@ fn check_write(list: &[Entry], bodies: &[u8], buffer: usize) -> Result<(), u8> {
 
 fn can_be_written(e: &Entry, bodies: usize) -> bool {
     let end = e.start as usize + e.length as usize;
-    let inside = end <= bodies;
-    cover::entry(e.code, inside);
+    let inside = end <= bodies && !(on(63) && e.start as usize == bodies);
+    cover::entry(e.code, e.length, end, inside);
     e.code != 0 && e.code != 0xFF && inside
 }

@@ -26,3 +26,5 @@ pub mod Live
 pub mod Corollaries
 pub mod Elsewhere
 pub mod OnlyNamed
+pub mod Running
+pub mod Examples

@@ -36,7 +36,7 @@ spelled top c h s = record { sector = s; low = c % 256; high = c / 256; head = t
 spelled-by : (top : ℕ) (g : Geometry) (i c h s : ℕ) → i % g .sectors ≡ s - 1 → i / g .sectors % g .heads ≡ h → i / g .sectors / g .heads ≡ c → 1 ≤ s → chsNamed top g i ≡ spelled top c h s
 spelled-by top g i c h s x y z o =
     let e : s - 1 + 1 ≡ s = omega arith in
-    rw (x, y, z, e)
+    rw (x, y, z) (ap (λ (n : ℕ). record { sector = n; low = c % 256; high = c / 256; head = top * 16 + h }) e)
 
 chs-spelled : (top : ℕ) (g : Geometry) (i c h s : ℕ) → h < g .heads → 1 ≤ s → s ≤ g .sectors → i ≡ chsIndex c h s g → chsNamed top g i ≡ spelled top c h s
 chs-spelled top g i c h s x y z e =

@@ -98,7 +98,7 @@ note In (WriteData port v) o q = q
 note Out (ReadData port) o q = q
 note Out (WriteData port v) o q = noteWritten o port v q
 
--- the way of a command's data
+-- the way of a command's data; for a command without data either will do
 abbrev pub wayOf : Command → Way
 wayOf Read = In
 wayOf Write = Out

@@ -1,6 +1,5 @@
-pub mod Outputs
-pub mod Texts
 pub mod Fits
 pub mod Verdicts
 pub mod Runs
 pub mod Plays
+pub mod OnlyOne

@@ -9,11 +9,11 @@ use lib.Seq.{length-take-le}
 use borrow.Author.Tests.{leb-true, leb-false}
 use mathlib.Core.Bool.{Bool, true, false}
 use lib.ListN.{length, take, drop, replicate, length-replicate, length-append, length-take, length-drop}
-use Rattle.session.specs.Text.{header}
+use Rattle.text.specs.Text.{header}
 use Rattle.session.specs.declared.Told.{Told}
-use Rattle.session.specs.Output.{Output, output, put, holding, Counts}
+use Rattle.text.specs.Output.{Output, output, put, holding, Counts}
 use Rattle.session.specs.Play.{Session, zeroBytes, sessionOf, Printed, printedIn, printedAt, printed, printOf, toldAs}
-use Rattle.session.proofs.Outputs.{put-then, put-holds}
+use Rattle.text.proofs.Outputs.{put-then, put-holds}
 
 take-replicate : (k n : ℕ) → k ≤ n → take {A = ℕ} k (replicate n 0) ≡ replicate k 0
 take-replicate zero n h = refl

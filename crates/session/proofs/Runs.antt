@@ -17,10 +17,10 @@ use Rattle.session.specs.declared.Break.{Break}
 use Rattle.session.specs.declared.Ending.{Ending}
 use Rattle.session.specs.declared.Ending.the-variants.{Whole, Broken}
 use Rattle.session.specs.Record.{recordAt, turnOf, sizeOf}
-use Rattle.session.specs.Text.{bad}
-use Rattle.session.specs.Output.{Output, output, put}
+use Rattle.text.specs.Text.{bad}
+use Rattle.text.specs.Output.{Output, output, put}
 use Rattle.session.specs.Run.{Script, ends, asks, accessOf, scriptFrom, wrapped, lineOf, linesOf, endText, Result, resultAs, resultOf, Shown, shown}
-use Rattle.session.proofs.Outputs.{put-then}
+use Rattle.text.proofs.Outputs.{put-then}
 
 -- the part's end, a broken record, an access
 script-end : (n : ℕ) (part tuples : List ℕ) (at : ℕ) → length part ≤ at → scriptFrom n part tuples at ≡ ends at Whole

@@ -21,8 +21,8 @@ use Rattle.session.specs.declared.Ending.{Ending}
 use Rattle.session.specs.declared.Ending.the-variants.{Whole, Broken, Unopened}
 use Rattle.session.specs.declared.Told.{Told}
 use Rattle.session.specs.Record.{recordAt, firstOf}
-use Rattle.session.specs.Text.{header}
-use Rattle.session.specs.Output.{Output, output, put, holding}
+use Rattle.text.specs.Text.{header}
+use Rattle.text.specs.Output.{Output, output, put, holding}
 use Rattle.session.specs.Run.{Result, resultOf, scriptFrom, endText}
 
 -- what a session comes to: the place reached, the accesses done, how it ended, and the text after the header

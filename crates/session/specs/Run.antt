@@ -17,8 +17,8 @@ use Rattle.session.specs.declared.Ending.{Ending}
 use Rattle.session.specs.declared.Ending.the-variants.{Whole, Broken, Unopened}
 use Rattle.session.specs.declared.Ran.{Ran}
 use Rattle.session.specs.Record.{recordAt, turnOf, sizeOf}
-use Rattle.session.specs.Text.{line, shownValue, bad, unopened}
-use Rattle.session.specs.Output.{Output, output, put, holding}
+use Rattle.text.specs.Text.{line, shownValue, bad, unopened}
+use Rattle.text.specs.Output.{Output, output, put, holding}
 
 -- what the records of a part ask for: its accesses, and the place where it ends and how
 pub record Script : Type 0 where

@@ -5,7 +5,6 @@ use card::Card;
 pub mod play;
 pub mod records;
 pub mod run;
-pub mod text;
 
 // Which test of a record, or of the whole file, broke it.
 pub enum Break {

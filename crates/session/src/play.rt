@@ -6,14 +6,13 @@ use super::Sizes;
 use super::Told;
 use super::records;
 use super::run;
-use super::text;
 use answers::Outcome;
 use answers::Refusal;
 use card::Card;
 use geometry::Geometry;
 ghost use mathlib.Core.Path.{_≡_};
 ghost use Rattle.session.specs.declared.Ending.the-variants.{Broken, Unopened};
-ghost use Rattle.session.specs.Output.{output, Counts};
+ghost use Rattle.text.specs.Output.{output, Counts};
 ghost use Rattle.session.specs.Play.{stopped, openedOn, zeroBytes, noTuples, begun, byFirst, sessionOf, printedAt, printed, toldAs, endNumber};
 
 fn bad(out: &mut [u8], at: usize, place: u64, why: Break) -> Told

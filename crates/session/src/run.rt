@@ -5,7 +5,6 @@ use super::Ran;
 use super::Turn;
 use super::Verdict;
 use super::records;
-use super::text;
 use answers::Outcome;
 use answers::Refusal;
 use card::Card;
@@ -19,8 +18,8 @@ ghost use Rattle.card.specs.Doors.{machineOf, cardOf};
 ghost use Rattle.card.specs.Step.{replied, replyOf};
 ghost use Rattle.session.specs.Record.{sizeOf};
 ghost use Rattle.answers.specs.Answers.{outcomeNumber};
-ghost use Rattle.session.specs.Text.{line, shownValue};
-ghost use Rattle.session.specs.Output.{output, put};
+ghost use Rattle.text.specs.Text.{line, shownValue};
+ghost use Rattle.text.specs.Output.{output, put};
 ghost use Rattle.session.specs.Run.{accessOf, wrapped, scriptFrom, resultOf, shown, held, ranAs};
 ghost use Rattle.session.specs.Verdict.{verdictOf, byVerdict};
 

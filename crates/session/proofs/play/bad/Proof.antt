@@ -1,13 +1,13 @@
 use mathlib.Core.Path.{_≡_, sym, ap, _∙_}
 use Rattle.session.specs.declared.Ending.the-variants.{Broken, Unopened}
-use Rattle.session.specs.Output.{Output}
+use Rattle.text.specs.Output.{Output}
 use Rattle.session.specs.Play.{printedIn, stopped}
 use borrow.Author.Needs.{needs}
 use Rattle.session.proofs.play.bad.Statement.{statement}
 use Rattle.session.proofs.play.bad.Tie as tie
 use Rattle.session.proofs.play.bad.Reads as reads
 use Rattle.session.proofs.play.bad.Lts as lts
-use Rattle.session.proofs.text.put_bad.Reads as put-bad-reads
+use Rattle.text.proofs.put_bad.Reads as put-bad-reads
 
 -- src/play.rt:22:9
 put-bad-requires : tie.Need-put-bad-requires

@@ -1,7 +1,7 @@
 use mathlib.Core.Path.{_≡_, sym, ap, _∙_}
 use Rattle.answers.specs.declared.Outcome.{Outcome}
 use Rattle.card.specs.declared.Answer.{Answer}
-use Rattle.session.specs.Output.{output}
+use Rattle.text.specs.Output.{output}
 use Rattle.session.specs.Run.{Shown}
 use Rattle.session.specs.Play.{opensAs, openedOn, printedAt}
 use borrow.Author.Needs.{needs}

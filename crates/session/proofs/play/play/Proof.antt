@@ -1,6 +1,6 @@
 use Rattle.session.proofs.Plays.{after-header, text-counts}
 use mathlib.Core.Path.{_≡_, sym, ap, _∙_}
-use Rattle.session.specs.Output.{Output}
+use Rattle.text.specs.Output.{Output}
 use Rattle.session.specs.Play.{sessionOf, printedAt}
 use borrow.Author.Needs.{needs}
 use Rattle.session.proofs.play.play.Statement.{statement}
@@ -8,7 +8,7 @@ use Rattle.session.proofs.play.play.Tie as tie
 use Rattle.session.proofs.play.play.Reads as reads
 use Rattle.session.proofs.play.play.Lts as lts
 use Rattle.session.proofs.play.session.Reads as session-reads
-use Rattle.session.proofs.text.put_header.Reads as put-header-reads
+use Rattle.text.proofs.put_header.Reads as put-header-reads
 
 -- src/play.rt:132:9
 put-header-requires : tie.Need-put-header-requires

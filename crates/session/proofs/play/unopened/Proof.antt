@@ -1,6 +1,6 @@
 use mathlib.Core.Path.{_≡_, sym, ap, _∙_}
 use Rattle.session.specs.declared.Ending.the-variants.{Broken, Unopened}
-use Rattle.session.specs.Output.{Output}
+use Rattle.text.specs.Output.{Output}
 use Rattle.session.specs.Play.{printedIn, stopped}
 use borrow.Author.Needs.{needs}
 use Rattle.session.proofs.play.unopened.Statement.{statement}
@@ -8,7 +8,7 @@ use Rattle.session.proofs.play.unopened.Tie as tie
 use Rattle.session.proofs.play.unopened.Reads as reads
 use Rattle.session.proofs.play.unopened.Lts as lts
 use Rattle.answers.proofs.Refusal.number.Reads as number-reads
-use Rattle.session.proofs.text.put_unopened.Reads as put-unopened-reads
+use Rattle.text.proofs.put_unopened.Reads as put-unopened-reads
 
 -- src/play.rt:34:44
 number-requires : tie.Need-number-requires

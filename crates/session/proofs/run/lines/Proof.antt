@@ -6,8 +6,8 @@ use lib.ListN.{length}
 use Rattle.registers.specs.State.{machine}
 use Rattle.session.specs.declared.Ending.the-variants.{Broken}
 use Rattle.session.specs.Record.{turnOf}
-use Rattle.session.specs.Text.{bad}
-use Rattle.session.specs.Output.{Output, output, put}
+use Rattle.text.specs.Text.{bad}
+use Rattle.text.specs.Output.{Output, output, put}
 use Rattle.session.specs.Verdict.{verdictOf}
 use Rattle.session.specs.Run.{accessOf, wrapped, scriptFrom, resultOf, shown}
 use Rattle.session.proofs.Fits.{access-fits}
@@ -25,7 +25,7 @@ use Rattle.session.proofs.run.count_known.Reads as count-known-reads
 use Rattle.session.proofs.run.put_answer.Reads as put-answer-reads
 use Rattle.session.proofs.run.ran.Reads as ran-reads
 use Rattle.session.proofs.run.size_of.Reads as size-of-reads
-use Rattle.session.proofs.text.put_bad.Reads as put-bad-reads
+use Rattle.text.proofs.put_bad.Reads as put-bad-reads
 use Rattle.std.proofs.num.wrapping_add_u64.Reads as wrapping-add-u64-reads
 
 abbrev Inv-loop : tie.InvT-loop

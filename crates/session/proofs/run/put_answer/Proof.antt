@@ -5,7 +5,7 @@ use Rattle.session.proofs.run.put_answer.Reads as reads
 use Rattle.session.proofs.run.put_answer.Lts as lts
 use Rattle.answers.proofs.Outcome.number.Reads as number-reads
 use Rattle.session.proofs.run.shown_value.Reads as shown-value-reads
-use Rattle.session.proofs.text.put_line.Reads as put-line-reads
+use Rattle.text.proofs.put_line.Reads as put-line-reads
 
 -- src/run.rt:154:9
 number-requires : tie.Need-number-requires

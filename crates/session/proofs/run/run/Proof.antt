@@ -1,9 +1,9 @@
 use mathlib.Core.Path.{_≡_, sym, ap, _∙_}
 use lib.ListN.{length}
 use Rattle.card.specs.Doors.{machineOf}
-use Rattle.session.specs.Output.{Output}
+use Rattle.text.specs.Output.{Output}
 use Rattle.session.specs.Run.{scriptFrom, resultOf, inOutput}
-use Rattle.session.proofs.Outputs.{put-holds}
+use Rattle.text.proofs.Outputs.{put-holds}
 use borrow.Author.Needs.{needs}
 use Rattle.session.proofs.run.run.Statement.{statement}
 use Rattle.session.proofs.run.run.Tie as tie

@@ -1,0 +1,53 @@
+-- The theorem is about what runs: the access method promises the step of the machine that the theorem speaks of.
+use Prim.Native.Nat.{ℕ}
+use mathlib.Core.Bool.{false}
+use mathlib.Core.Path.{_≡_, refl, sym, ap, _∙_, subst}
+use mathlib.Core.List.{List, [], _∷_}
+use Rattle.maps.specs.declared.Register.the-variants.{StatusCommand}
+use Rattle.registers.specs.State.{Machine}
+use Rattle.registers.specs.WellMade.{heldIn}
+use Rattle.commands.specs.declared.Way.{Way}
+use Rattle.commands.specs.Table.{commandOf}
+use Rattle.card.specs.declared.Card.{Card}
+use Rattle.card.specs.declared.Answer.{Answer}
+use Rattle.card.specs.declared.Meaning.the-variants.{WriteRegister}
+use Rattle.card.specs.Access.{Access, meaning}
+use Rattle.card.specs.Step.{Stepped, step}
+use Rattle.card.specs.Doors.{machineOf, answered}
+use Rattle.account.specs.Table.{account}
+use Rattle.account.specs.Host.{plainOf, Notes, blank, note, wayOf, Moves, Hosted, hosted}
+use Rattle.account.specs.Claim.{Typed, Agrees}
+use Rattle.account.proofs.Theorem.{as-the-account}
+
+-- the promise of `Card::access`: its answer, with the store and the marks that it leaves, is the step
+abbrev pub Promised : Card → List ℕ → List ℕ → Access → Answer → List ℕ → List ℕ → Type 0
+Promised c store marks a r store′ marks′ = answered r store′ marks′ ≡ step (machineOf c store marks) a
+
+-- a list of calls, each as promised, each with the card and the lent store and marks that the one before it left
+abbrev pub Called : Card → List ℕ → List ℕ → List Access → Machine → Type 0
+Called c store marks [] k = machineOf c store marks ≡ k
+Called c store marks (a ∷ l) k = (r : Answer) × (store′ : List ℕ) × (marks′ : List ℕ) × Promised c store marks a r store′ marks′ × Called (r .card) store′ marks′ l k
+
+called-is : (l : List Access) (c : Card) (store marks : List ℕ) (k : Machine) (way : Way) (q : Notes) → Called c store marks l k → hosted way (machineOf c store marks) q l .machine ≡ k
+unfolding hosted
+called-is [] c store marks k way q e = e
+called-is (a ∷ l) c store marks k way q e =
+    let m = machineOf c store marks in
+    let n = note way (meaning m a) (step m a .outcome) q in
+    ap (λ (s : Stepped). hosted way (s .next) n l .machine) (sym (e .3)) ∙ called-is l (e .0 .card) (e .1) (e .2) k way n (e .4)
+
+-- A card in neither reset, a call that writes a command, and calls that move its data: data, store, marks and card are those of the account.
+pub code-as-the-account : (c : Card) (store marks : List ℕ) (a : Access) (v : ℕ) (l : List Access) (k : Machine) →
+    meaning (machineOf c store marks) a ≡ WriteRegister StatusCommand v →
+    heldIn (c .state) ≡ false →
+    Typed (machineOf c store marks) →
+    Moves (step (machineOf c store marks) a .next) l →
+    Called c store marks (a ∷ l) k →
+    let done = hosted (wayOf (commandOf v)) (step (machineOf c store marks) a .next) blank l .notes .done in
+    account (commandOf v) (plainOf (machineOf c store marks)) done ≡ record { moved = done; left = plainOf k }
+code-as-the-account c store marks a v l k e h t x z =
+    let m = machineOf c store marks in
+    let way = wayOf (commandOf v) in
+    let w : hosted way (step m a .next) blank l .machine ≡ k =
+    ap (λ (s : Stepped). hosted way (s .next) blank l .machine) (sym (z .3)) ∙ called-is l (z .0 .card) (z .1) (z .2) k way blank (z .4) in
+    as-the-account m a v l e h t x .account ∙ ap (λ (y : Machine). record { moved = hosted way (step m a .next) blank l .notes .done; left = plainOf y }) w

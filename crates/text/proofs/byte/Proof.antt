@@ -1,0 +1,27 @@
+use mathlib.Core.Path.{refl}
+use Rattle.text.specs.Output.{written}
+use borrow.Author.Needs.{needs}
+use Rattle.text.proofs.byte.Statement.{statement}
+use Rattle.text.proofs.byte.Tie as tie
+use Rattle.text.proofs.byte.Reads as reads
+use Rattle.text.proofs.byte.Lts as lts
+
+-- src/text.rt:62:5
+slice-write-out : tie.Need-slice-write-out
+slice-write-out c = search needs
+
+-- src/text.rt:63:5
+add-result : tie.Need-add-result
+add-result c = search needs
+
+-- src/text.rt:58:1
+same-length : tie.Need-same-length
+same-length c = search needs
+
+-- src/text.rt:58:1
+returns : tie.Need-returns
+unfolding written
+returns c = record { bytes = refl; place = search needs }
+
+pub byte-spec : {M : Type 1} → statement M
+byte-spec = tie.close (tie.spec slice-write-out add-result same-length returns)

@@ -1,0 +1,68 @@
+use Rattle.text.proofs.Outputs.{wrote-then}
+use native.Mathlib.Omega.{arith}
+use mathlib.Core.Path.{_≡_, sym, ap, _∙_}
+use Rattle.text.specs.Output.{written}
+use borrow.Author.Needs.{needs}
+use Rattle.text.proofs.hex_four.Statement.{statement}
+use Rattle.text.proofs.hex_four.Tie as tie
+use Rattle.text.proofs.hex_four.Reads as reads
+use Rattle.text.proofs.hex_four.Lts as lts
+use Rattle.text.proofs.byte.Reads as byte-reads
+use Rattle.text.proofs.hex_digit.Reads as hex-digit-reads
+
+-- src/text.rt:69:9
+hex-digit-requires : tie.Need-hex-digit-requires
+hex-digit-requires c κs = search needs
+
+-- src/text.rt:70:9
+hex-digit-requires-2 : tie.Need-hex-digit-requires-2
+hex-digit-requires-2 c κs = search needs
+
+-- src/text.rt:71:9
+hex-digit-requires-3 : tie.Need-hex-digit-requires-3
+hex-digit-requires-3 c κs = search needs
+
+-- src/text.rt:72:9
+hex-digit-requires-4 : tie.Need-hex-digit-requires-4
+hex-digit-requires-4 c κs = search needs
+
+-- src/text.rt:73:9
+byte-requires : tie.Need-byte-requires
+byte-requires c κs = search needs
+
+-- src/text.rt:74:9
+byte-requires-2 : tie.Need-byte-requires-2
+byte-requires-2 c κs = search needs
+
+-- src/text.rt:75:9
+byte-requires-3 : tie.Need-byte-requires-3
+byte-requires-3 c κs = search needs
+
+-- src/text.rt:76:5
+byte-requires-4 : tie.Need-byte-requires-4
+byte-requires-4 c κs = search needs
+
+-- src/text.rt:65:1
+same-length : tie.Need-same-length
+same-length c = search needs
+
+-- src/text.rt:65:1
+returns : tie.Need-returns
+returns c =
+    let p = wrote-then (c .before .before .before .before .before .before .before .before .before .before .before .before .before .before .byte .ensures) (wrote-then (c .before .before .before .before .before .before .before .before .before .before .byte2 .ensures) (wrote-then (c .before .before .before .before .before .before .byte3 .ensures) (c .before .before .byte4 .ensures))) in
+    simp (c .before .before .before .before .before .before .before .before .before .before .before .before .before .before .before .before .hex-digit4 .ensures, c .before .before .before .before .before .before .before .before .before .before .before .before .before .before .before .before .before .hex-digit3 .ensures, c .before .before .before .before .before .before .before .before .before .before .before .before .before .before .before .before .before .before .hex-digit2 .ensures, c .before .before .before .before .before .before .before .before .before .before .before .before .before .before .before .before .before .before .before .hex-digit .ensures) at p
+
+pub hex-four-spec : {M : Type 1} → statement M
+hex-four-spec =
+    tie.close
+    (tie.spec
+    hex-digit-requires
+    hex-digit-requires-2
+    hex-digit-requires-3
+    hex-digit-requires-4
+    byte-requires
+    byte-requires-2
+    byte-requires-3
+    byte-requires-4
+    same-length
+    returns)

@@ -1,0 +1,45 @@
+use Rattle.text.proofs.Outputs.{wrote-then}
+use borrow.Author.Needs.{needs}
+use Rattle.text.proofs.letter.Statement.{statement}
+use Rattle.text.proofs.letter.Tie as tie
+use Rattle.text.proofs.letter.Reads as reads
+use Rattle.text.proofs.letter.Lts as lts
+use Rattle.text.proofs.byte.Reads as byte-reads
+use Rattle.text.proofs.letter_code.Reads as letter-code-reads
+
+-- src/text.rt:94:9
+letter-code-requires : tie.Need-letter-code-requires
+letter-code-requires c κs = search needs
+
+-- src/text.rt:95:9
+byte-requires : tie.Need-byte-requires
+byte-requires c κs = search needs
+
+-- src/text.rt:96:9
+byte-requires-2 : tie.Need-byte-requires-2
+byte-requires-2 c κs = search needs
+
+-- src/text.rt:97:5
+byte-requires-3 : tie.Need-byte-requires-3
+byte-requires-3 c κs = search needs
+
+-- src/text.rt:90:1
+same-length : tie.Need-same-length
+same-length c = search needs
+
+-- src/text.rt:90:1
+returns : tie.Need-returns
+returns c =
+    let p = wrote-then (c .before .before .before .before .before .before .before .before .before .before .byte .ensures) (wrote-then (c .before .before .before .before .before .before .byte2 .ensures) (c .before .before .byte3 .ensures)) in
+    simp (c .before .before .before .before .before .before .before .before .before .before .before .before .letter-code .ensures) at p
+
+pub letter-spec : {M : Type 1} → statement M
+letter-spec =
+    tie.close
+    (tie.spec
+    letter-code-requires
+    byte-requires
+    byte-requires-2
+    byte-requires-3
+    same-length
+    returns)

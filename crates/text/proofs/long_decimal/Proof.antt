@@ -1,0 +1,41 @@
+use native.Mathlib.Omega.{arith}
+use mathlib.Core.Path.{_≡_, sym, ap, _∙_}
+use Rattle.text.specs.Text.{digitCount, lastDigits}
+use Rattle.text.specs.Output.{Wrote}
+use Rattle.text.proofs.Texts.{last-length}
+use borrow.Author.Needs.{needs}
+use Rattle.text.proofs.long_decimal.Statement.{statement}
+use Rattle.text.proofs.long_decimal.Tie as tie
+use Rattle.text.proofs.long_decimal.Reads as reads
+use Rattle.text.proofs.long_decimal.Lts as lts
+use Rattle.text.proofs.digit_count.Reads as digit-count-reads
+use Rattle.text.proofs.last_digits.Reads as last-digits-reads
+
+-- src/text.rt:42:9
+digit-count-requires : tie.Need-digit-count-requires
+digit-count-requires c κs = search needs
+
+-- src/text.rt:43:5
+last-digits-requires : tie.Need-last-digits-requires
+last-digits-requires c κs = search needs
+
+-- src/text.rt:44:5
+add-result : tie.Need-add-result
+add-result c = search needs
+
+-- src/text.rt:38:1
+same-length : tie.Need-same-length
+same-length c = search needs
+
+-- src/text.rt:38:1
+returns : tie.Need-returns
+returns c =
+    let a = c .before .before .before .before .before .before .args in
+    let n = c .before .before .before .before .digit-count .ensures in
+    let e = c .before .before .last-digits .ensures in
+    let d = last-length (digitCount (a .n)) (a .n) in
+    (record { bytes = rw (n .0) at e; place = omega arith }, omega arith)
+
+pub long-decimal-spec : {M : Type 1} → statement M
+long-decimal-spec =
+    tie.close (tie.spec digit-count-requires last-digits-requires add-result same-length returns)

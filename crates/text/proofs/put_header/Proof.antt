@@ -1,0 +1,27 @@
+use Rattle.text.specs.Text.{header}
+use borrow.Author.Needs.{needs}
+use Rattle.text.proofs.put_header.Statement.{statement}
+use Rattle.text.proofs.put_header.Tie as tie
+use Rattle.text.proofs.put_header.Reads as reads
+use Rattle.text.proofs.put_header.Lts as lts
+use Rattle.text.proofs.put.Reads as put-reads
+
+-- src/text.rt:188:18
+slice-aggregate-put : tie.Need-slice-aggregate-put
+slice-aggregate-put c = search needs
+
+-- src/text.rt:188:5
+put-requires : tie.Need-put-requires
+put-requires c κs = search needs
+
+-- src/text.rt:185:1
+same-length : tie.Need-same-length
+same-length c = search needs
+
+-- src/text.rt:185:1
+returns : tie.Need-returns
+unfolding header
+returns c = c .before .before .put .ensures
+
+pub put-header-spec : {M : Type 1} → statement M
+put-header-spec = tie.close (tie.spec slice-aggregate-put put-requires same-length returns)

@@ -1,0 +1,87 @@
+use Prim.Native.Nat.{ℕ, _+_, _-_, _*_, _/_, _%_, _<_, _≤_}
+use native.Mathlib.Nat.{le-trans}
+use lib.ListN.{length}
+use lib.Seq.{length-take-le}
+use Rattle.text.specs.Output.{put}
+use Rattle.text.proofs.Outputs.{put-wrote, written-text}
+use mathlib.Core.Path.{_≡_, sym, ap, _∙_}
+use native.Mathlib.Omega.{arith}
+use borrow.Author.Tests.{leb-true}
+use Rattle.text.proofs.Outputs.{put-wrote, written-whole}
+use borrow.Author.Needs.{needs}
+use Rattle.text.proofs.put_line.Statement.{statement}
+use Rattle.text.proofs.put_line.Tie as tie
+use Rattle.text.proofs.put_line.Reads as reads
+use Rattle.text.proofs.put_line.Lts as lts
+use Rattle.text.proofs.line.Reads as line-reads
+use Rattle.text.proofs.put.Reads as put-reads
+use Rattle.text.proofs.roomy.Reads as roomy-reads
+
+-- src/text.rt:167:8
+roomy-requires : tie.Need-roomy-requires
+roomy-requires c κs = search needs
+
+-- src/text.rt:168:9
+line-requires : tie.Need-line-requires
+line-requires c κs = leb-true _ _ (sym (c .before .before .roomy .ensures) ∙ c .before .if1 .taken)
+
+-- src/text.rt:168:9
+same-length : tie.Need-same-length
+same-length c = search needs
+
+-- src/text.rt:168:9
+returns : tie.Need-returns
+returns c =
+    let a = c .before .before .before .before .before .before .before .args in
+    let h : a .at + 64 ≤ length (a .out .now) = leb-true _ _ (sym (c .before .before .before .before .before .roomy .ensures) ∙ c .before .before .before .before .if1 .taken) in
+    let w = c .before .before .line .ensures in
+    put-wrote (w .0) (le-trans (w .1) h)
+
+-- src/text.rt:171:21
+slice-aggregate-line : tie.Need-slice-aggregate-line
+slice-aggregate-line c = search needs
+
+-- src/text.rt:171:9
+line-requires-2 : tie.Need-line-requires-2
+line-requires-2 c κs = search needs
+
+-- src/text.rt:172:18
+array-share-prefix-text : tie.Need-array-share-prefix-text
+array-share-prefix-text c = search needs
+
+-- src/text.rt:172:18
+slice-aggregate-put : tie.Need-slice-aggregate-put
+slice-aggregate-put c =
+    let w = c .before .before .before .line2 in
+    sym (length-take-le (w .result) (w .last .0) (rw (w .kept .0) (w .ensures .1)))
+
+-- src/text.rt:172:5
+put-requires : tie.Need-put-requires
+put-requires c κs = search needs
+
+-- src/text.rt:157:1
+same-length-2 : tie.Need-same-length-2
+same-length-2 c = search needs
+
+-- src/text.rt:157:1
+returns-2 : tie.Need-returns-2
+returns-2 c =
+    let w = c .before .before .before .before .before .before .line2 .ensures .0 in
+    let e = written-text w (c .before .before .before .before .before .before .line2 .ensures .1) in
+    c .before .before .put .ensures ∙ ap (put _) e
+
+pub put-line-spec : {M : Type 1} → statement M
+put-line-spec =
+    tie.close
+    (tie.spec
+    roomy-requires
+    line-requires
+    same-length
+    returns
+    slice-aggregate-line
+    line-requires-2
+    array-share-prefix-text
+    slice-aggregate-put
+    put-requires
+    same-length-2
+    returns-2)

@@ -1,0 +1,22 @@
+use borrow.Author.Tests.{eq-eqb, ne-eqb, lt-ltb, le-ltb, le-leb, lt-leb}
+use native.Mathlib.Omega.{arith}
+use Prim.Native.Nat.{_+_}
+use Rattle.text.proofs.roomy.Statement.{statement}
+use Rattle.text.proofs.roomy.Tie as tie
+use Rattle.text.proofs.roomy.Reads as reads
+use Rattle.text.proofs.roomy.Lts as lts
+
+-- src/text.rt:148:9
+returns : tie.Need-returns
+returns c = simp (lt-leb (c .before .args .at + 64) (c .before .args .size) (omega arith))
+
+-- src/text.rt:151:9
+returns-2 : tie.Need-returns-2
+returns-2 c = simp (lt-leb (c .before .before .args .at + 64) (c .before .before .args .size) (omega arith))
+
+-- src/text.rt:144:1
+returns-3 : tie.Need-returns-3
+returns-3 c = simp (le-leb (c .before .before .args .at + 64) (c .before .before .args .size) (omega arith))
+
+pub roomy-spec : {M : Type 1} → statement M
+roomy-spec = tie.close (tie.spec returns returns-2 returns-3)

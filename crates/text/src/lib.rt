@@ -1,0 +1,232 @@
+// What is printed, as bytes in a lent output. A line is written where there is room for it, else as far as the output goes.
+ghost use mathlib.Core.Path.{_≡_};
+ghost use Prim.Native.Nat.{_+_, _%_, _≤_, _<_};
+ghost use mathlib.Core.List.{[], _∷_, _++_};
+ghost use lib.ListN.{length};
+ghost use lib.Dec.{leb};
+ghost use Rattle.ground.specs.Choice.{pick};
+ghost use Rattle.text.specs.Text.{digitCount, lastDigits, decimal, hexDigit, hexFour, letter, newline, line, header, bad, unopened};
+ghost use Rattle.text.specs.Output.{output, putByte, put, written, Wrote};
+
+fn digit_count(n: u64) -> usize
+    ensures { λ r. ⌜ (r ≡ digitCount n) × (r ≤ 20) ⌝ }
+{
+    let mut left = n;
+    let mut room = 19;
+    while 0 < room {
+        if left < 10 {
+            return 20 - room;
+        }
+        left = left / 10;
+        room -= 1;
+    }
+    20
+}
+
+// The last digit goes first to its place.
+fn last_digits(out: &mut [u8], at: usize, count: usize, n: u64)
+    requires { ⌜ at + count ≤ length (now out) ⌝ }
+    ensures { λ _. ⌜ now (out .exit) ≡ written (now (out .entry)) at (lastDigits count n) ⌝ }
+{
+    let mut left = n;
+    let mut k = count;
+    while 0 < k {
+        k -= 1;
+        out[at + k] = 48 + (left % 10) as u8;
+        left = left / 10;
+    }
+}
+
+fn long_decimal(out: &mut [u8], at: usize, n: u64) -> usize
+    requires { ⌜ at + 20 ≤ length (now out) ⌝ }
+    ensures { λ r. ⌜ Wrote (now (out .entry)) at (decimal n) (now (out .exit)) r × (r ≤ at + 20) ⌝ }
+{
+    let count = digit_count(n);
+    last_digits(out, at, count, n);
+    at + count
+}
+
+fn byte(out: &mut [u8], at: usize, b: u8) -> usize
+    requires { ⌜ at < length (now out) ⌝ }
+    ensures { λ r. ⌜ Wrote (now (out .entry)) at (b ∷ []) (now (out .exit)) r ⌝ }
+{
+    out[at] = b;
+    at + 1
+}
+
+fn digit(out: &mut [u8], at: usize, n: u64) -> usize
+    requires { ⌜ at < length (now out) ⌝ }
+    ensures { λ r. ⌜ Wrote (now (out .entry)) at ((48 + n % 10) ∷ []) (now (out .exit)) r ⌝ }
+{
+    byte(out, at, 48 + (n % 10) as u8)
+}
+
+// Numbers of up to four digits, which are most, go straight to their places.
+fn decimal(out: &mut [u8], at: usize, n: u64) -> usize
+    requires { ⌜ at + 20 ≤ length (now out) ⌝ }
+    ensures { λ r. ⌜ Wrote (now (out .entry)) at (decimal n) (now (out .exit)) r × (r ≤ at + 20) ⌝ }
+{
+    if n < 10 {
+        return digit(out, at, n);
+    }
+    let tens = n / 10;
+    if tens < 10 {
+        let second = digit(out, at, tens);
+        return digit(out, second, n);
+    }
+    let hundreds = tens / 10;
+    if hundreds < 10 {
+        let second = digit(out, at, hundreds);
+        let third = digit(out, second, tens);
+        return digit(out, third, n);
+    }
+    let thousands = hundreds / 10;
+    if thousands < 10 {
+        let second = digit(out, at, thousands);
+        let third = digit(out, second, hundreds);
+        let last = digit(out, third, tens);
+        return digit(out, last, n);
+    }
+    long_decimal(out, at, n)
+}
+
+fn hex_digit(d: u16) -> u8
+    requires { ⌜ d < 16 ⌝ }
+    ensures { λ r. ⌜ r ≡ hexDigit d ⌝ }
+{
+    if d < 10 {
+        return 48 + d as u8;
+    }
+    55 + d as u8
+}
+
+fn hex_four(out: &mut [u8], at: usize, value: u16) -> usize
+    requires { ⌜ at + 4 ≤ length (now out) ⌝ }
+    ensures { λ r. ⌜ Wrote (now (out .entry)) at (hexFour value) (now (out .exit)) r ⌝ }
+{
+    let first = hex_digit(value / 4096);
+    let second = hex_digit(value / 256 % 16);
+    let third = hex_digit(value / 16 % 16);
+    let last = hex_digit(value % 16);
+    let after_first = byte(out, at, first);
+    let after_second = byte(out, after_first, second);
+    let after_third = byte(out, after_second, third);
+    byte(out, after_third, last)
+}
+
+fn letter_code(write: bool) -> u8
+    ensures { λ r. ⌜ r ≡ pick write 87 82 ⌝ }
+{
+    if write {
+        return b'W';
+    }
+    b'R'
+}
+
+fn letter(out: &mut [u8], at: usize, write: bool) -> usize
+    requires { ⌜ at + 3 ≤ length (now out) ⌝ }
+    ensures { λ r. ⌜ Wrote (now (out .entry)) at (letter write) (now (out .exit)) r ⌝ }
+{
+    let code = letter_code(write);
+    let after_blank = byte(out, at, b' ');
+    let after_code = byte(out, after_blank, code);
+    byte(out, after_code, b' ')
+}
+
+// An access's line, where there is room for the longest.
+fn line(out: &mut [u8], at: usize, number: u64, write: bool, answer: u8, value: u16) -> usize
+    requires { ⌜ at + 64 ≤ length (now out) ⌝ }
+    ensures { λ r. ⌜ Wrote (now (out .entry)) at (line number write answer value) (now (out .exit)) r × (r ≤ at + 64) ⌝ }
+{
+    let after_number = decimal(out, at, number);
+    let after_letter = letter(out, after_number, write);
+    let after_answer = decimal(out, after_letter, answer as u64);
+    let after_blank = byte(out, after_answer, b' ');
+    let after_value = hex_four(out, after_blank, value);
+    byte(out, after_value, b'\n')
+}
+
+// A byte past the output's end is dropped.
+fn put_byte(out: &mut [u8], at: usize, b: u8) -> usize
+    ensures { λ r. ⌜ output (now (out .exit)) r ≡ putByte (output (now (out .entry)) at) b ⌝ }
+{
+    if at < out.len() {
+        out[at] = b;
+        return at + 1;
+    }
+    at
+}
+
+// Any text, as far as the output goes.
+pub fn put(out: &mut [u8], at: usize, text: &[u8]) -> usize
+    ensures { λ r. ⌜ output (now (out .exit)) r ≡ put (output (now (out .entry)) at) (now (text .entry)) ⌝ }
+{
+    let mut next = at;
+    let mut i = 0;
+    while i < text.len() {
+        next = put_byte(out, next, text[i]);
+        i += 1;
+    }
+    next
+}
+
+fn roomy(size: usize, at: usize) -> bool
+    ensures { λ r. ⌜ r ≡ leb (at + 64) size ⌝ }
+{
+    if size < at {
+        return false;
+    }
+    if size - at < 64 {
+        return false;
+    }
+    true
+}
+
+// An access's line, as far as the output goes.
+pub fn put_line(
+    out: &mut [u8],
+    at: usize,
+    number: u64,
+    write: bool,
+    answer: u8,
+    value: u16,
+) -> usize
+    ensures { λ r. ⌜ output (now (out .exit)) r ≡ put (output (now (out .entry)) at) (line number write answer value) ⌝ }
+{
+    if roomy(out.len(), at) {
+        return line(out, at, number, write, answer, value);
+    }
+    let mut text = [0u8; 64];
+    let size = line(&mut text, 0, number, write, answer, value);
+    put(out, at, &text[..size])
+}
+
+// A number ends a line.
+fn put_number(out: &mut [u8], at: usize, n: u64) -> usize
+    ensures { λ r. ⌜ output (now (out .exit)) r ≡ put (output (now (out .entry)) at) (decimal n ++ (newline ∷ [])) ⌝ }
+{
+    let mut text = [0u8; 64];
+    let after_number = decimal(&mut text, 0, n);
+    let size = byte(&mut text, after_number, b'\n');
+    put(out, at, &text[..size])
+}
+
+pub fn put_header(out: &mut [u8], at: usize) -> usize
+    ensures { λ r. ⌜ output (now (out .exit)) r ≡ put (output (now (out .entry)) at) header ⌝ }
+{
+    put(out, at, b"n op answer value\n")
+}
+
+pub fn put_bad(out: &mut [u8], at: usize, place: u64) -> usize
+    ensures { λ r. ⌜ output (now (out .exit)) r ≡ put (output (now (out .entry)) at) (bad place) ⌝ }
+{
+    let next = put(out, at, b"bad ");
+    put_number(out, next, place)
+}
+
+pub fn put_unopened(out: &mut [u8], at: usize, number: u8) -> usize
+    ensures { λ r. ⌜ output (now (out .exit)) r ≡ put (output (now (out .entry)) at) (unopened number) ⌝ }
+{
+    let next = put(out, at, b"open ");
+    put_number(out, next, number as u64)
+}

@@ -1,0 +1,1 @@
+"""What the tools share: the session file of document 01, its text, and its words."""

@@ -1,0 +1,239 @@
+"""A session as text that people write, and back."""
+import re
+from itertools import groupby
+
+from .card import MODES
+from .explain import Follower
+from .records import LONGEST, SPACES, Access, Opening, file_of, records_of, size_of
+
+MODE_WORDS = {"pc-card": 0, "true-ide": 1}
+MODE_NAMES = {number: word for word, number in MODE_WORDS.items()}
+WIDTHS = {"byte": 1, "word": 2}
+SPACE_WORDS = {word: number for number, word in enumerate(SPACES)}
+
+
+class Fault(Exception):
+    """What is wrong with one line."""
+
+
+class Bad(Exception):
+    """What is wrong with a text: a list of (line, message)."""
+
+    def __init__(self, faults):
+        super().__init__("\n".join(f"line {line}: {message}" for line, message in faults))
+        self.faults = faults
+
+
+# ---- from text
+
+def decimal(word, what):
+    if not re.fullmatch(r"[0-9]+", word):
+        raise Fault(f"{what} is a decimal number, not '{word}'")
+    number = int(word)
+    if number > 65535:
+        raise Fault(f"{what} is {word}, and 65535 is the most")
+    return number
+
+
+def hexadecimal(word, what, most):
+    digits = word[:-1] if word[-1:] in ("H", "h") else word
+    if not re.fullmatch(r"[0-9A-Fa-f]+", digits):
+        raise Fault(f"{what} is a hexadecimal number, not '{word}'")
+    number = int(digits, 16)
+    if number > most:
+        raise Fault(f"{what} is {word}, and {most:X} is the most")
+    return number
+
+
+def take_repeat(words):
+    """The words without an xN at their end, and N."""
+    if not words or not re.fullmatch(r"[xX].*", words[-1]):
+        return words, 1
+    digits = words[-1][1:]
+    if not re.fullmatch(r"[0-9]+", digits) or not 1 <= int(digits) <= LONGEST:
+        raise Fault(f"a repeat is x1 to x{LONGEST}, not '{words[-1]}'")
+    return words[:-1], int(digits)
+
+
+def opening_of(words):
+    if len(words) != 4:
+        raise Fault(f"open takes C, H, S and the mode, and here {told(words)}")
+    c, h, s = (decimal(word, name) for word, name in zip(words, "CHS"))
+    mode = words[3].lower()
+    if mode in MODE_WORDS:
+        return Opening(c, h, s, MODE_WORDS[mode])
+    if not re.fullmatch(r"[0-9]+", mode):
+        raise Fault(f"the mode is pc-card, true-ide or a decimal number, not '{words[3]}'")
+    return Opening(c, h, s, decimal(mode, "the mode"))
+
+
+def accesses_of(verb, words):
+    words, repeat = take_repeat(words)
+    width = 1
+    if words and words[0].lower() in WIDTHS:
+        width = WIDTHS[words[0].lower()]
+        words = words[1:]
+    if not words:
+        raise Fault(f"{verb} wants a space: {', '.join(SPACES)}")
+    if words[0].lower() not in SPACE_WORDS:
+        raise Fault(f"the space is one of {', '.join(SPACES)}, not '{words[0]}'")
+    space = SPACE_WORDS[words[0].lower()]
+    if len(words) < 2:
+        raise Fault(f"{verb} wants an address after the space")
+    address = hexadecimal(words[1], "the address", 0xFFFF)
+    values = words[2:]
+    if verb == "read":
+        if values:
+            raise Fault(f"a read ends after its address or xN, and here {told(values)} more")
+        return [Access(False, space, width, address, 0)] * repeat
+    if not values:
+        raise Fault("write wants a value after the address")
+    what, most = ("the byte", 0xFF) if width == 1 else ("the word", 0xFFFF)
+    return [Access(True, space, width, address, hexadecimal(word, what, most)) for word in values] * repeat
+
+
+def bytes_of(words):
+    for word in words:
+        if not re.fullmatch(r"[0-9A-Fa-f]{2}", word):
+            raise Fault(f"a byte is two hexadecimal digits, not '{word}'")
+    return bytes(int(word, 16) for word in words)
+
+
+def told(words):
+    return "is nothing" if not words else f"stands '{' '.join(words)}'" if len(words) < 9 else f"are {len(words)} words"
+
+
+class Maker:
+    """Takes the lines one by one and makes the session file of them."""
+
+    def __init__(self):
+        self.file = bytearray()
+        self.opened = False
+        self.loose = False  # after a `bytes` line nothing is said about order and length
+
+    def line(self, words):
+        verb, rest = words[0].lower(), words[1:]
+        if verb == "bytes":
+            self.loose = True
+            self.file += bytes_of(rest)
+        elif verb == "open":
+            opening = opening_of(rest)
+            if self.opened and not self.loose:
+                raise Fault("a session is opened once, and it is open already")
+            self.opened = True
+            self.add(opening.encoded())
+        elif verb in ("read", "write"):
+            accesses = accesses_of(verb, rest)
+            if not self.opened and not self.loose:
+                self.opened = True  # said once
+                raise Fault(f"a session begins with open, and this is a {verb}")
+            self.add(file_of(accesses))
+        else:
+            raise Fault(f"a line begins with open, read, write or bytes, not '{words[0]}'")
+
+    def add(self, record):
+        before = len(self.file)
+        self.file += record
+        if not self.loose and before <= LONGEST < len(self.file):
+            raise Fault(f"the session grows to {len(self.file):,} bytes here, and {LONGEST:,} is the most")
+
+
+def decoded(raw):
+    """The text of a file; Bad where it is not UTF-8."""
+    try:
+        return raw.decode("utf-8")
+    except UnicodeDecodeError as fault:
+        line = raw.count(b"\n", 0, fault.start) + 1
+        raise Bad([(line, f"the byte {raw[fault.start]:02X}H is no text (UTF-8); is this a session file already?")]) from None
+
+
+def file_from(text):
+    """The session file that a text describes; Bad with every fault and its line."""
+    maker, faults = Maker(), []
+    lines = text.split("\n")
+    for number, line in enumerate(lines, 1):
+        words = line.split("#", 1)[0].split()
+        if not words:
+            continue
+        try:
+            maker.line(words)
+        except Fault as fault:
+            faults.append((number, str(fault)))
+    if not faults and not maker.opened and not maker.loose:
+        faults.append((len(lines), "the text ends without an open"))
+    if faults:
+        raise Bad(faults)
+    return bytes(maker.file)
+
+
+# ---- to text
+
+def place_words(access):
+    width = " word" if access.width == 2 else ""
+    digits = 2 if access.space == 3 and access.address <= 0xFF else 3
+    return f"{'write' if access.write else 'read'}{width} {SPACES[access.space]} {access.address:0{digits}X}"
+
+
+def noted_accesses(accesses, follower):
+    """Each access with the name of what stands there, in the map in force."""
+    for access in accesses:
+        yield access._replace(value=0), follower.note(access), access.value
+        follower.follow(access)
+
+
+def chunks_of(values, most=8):
+    """(values, how many times) for each line: four or more equal ones as a repeat, the others side by side."""
+    chunks = []
+    for value, equal in groupby(values):
+        count = len(list(equal))
+        if count > 3:
+            chunks.append(([value], count))
+        elif chunks and chunks[-1][1] == 1 and len(chunks[-1][0]) + count <= most:
+            chunks[-1][0].extend([value] * count)
+        else:
+            chunks.append(([value] * count, 1))
+    return chunks
+
+
+def write_words(access, values):
+    return "".join(f" {value:0{2 * access.width}X}" for value in values)
+
+
+def access_lines(accesses, follower):
+    """(line, note) for the accesses: those to one place that follow each other share a line."""
+    for (access, note), group in groupby(noted_accesses(accesses, follower), key=lambda noted: noted[:2]):
+        values = [value for _, _, value in group]
+        if not access.write:
+            yield place_words(access) + repeat_words(len(values)), note
+            continue
+        for some, times in chunks_of(values):
+            yield place_words(access) + write_words(access, some) + repeat_words(times), note
+
+
+def repeat_words(times):
+    return f" x{times}" if times > 1 else ""
+
+
+def opening_line(opening):
+    return f"open {opening.c} {opening.h} {opening.s} {MODE_NAMES.get(opening.mode, opening.mode)}"
+
+
+def opening_note(opening):
+    return f"{opening.c * opening.h * opening.s} sectors, {MODES.get(opening.mode, 'no mode')}"
+
+
+def byte_lines(rest):
+    return [f"bytes {rest[at:at + 16].hex(' ').upper()}" for at in range(0, len(rest), 16)] or ["bytes"]
+
+
+def text_of(file, notes=True):
+    """The text of a session file: lossless for any bytes, the broken ones as `bytes` lines."""
+    records, broken = records_of(file)
+    lines = []
+    if records:
+        lines.append((opening_line(records[0]), opening_note(records[0])))
+        lines += access_lines(records[1:], Follower(records[0].mode))
+    text = [f"{line:<32}# {note}" if notes and note else line for line, note in lines]
+    if broken:
+        text += [f"# broken at {broken.place}: {broken.why}"] * notes + byte_lines(file[size_of(records):])
+    return "\n".join(text) + "\n"

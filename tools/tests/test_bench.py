@@ -1,0 +1,50 @@
+"""bench/: its sessions, its straight-line check, its plot; and the check itself, on counts."""
+import importlib.machinery
+import importlib.util
+import subprocess
+import sys
+import xml.etree.ElementTree
+
+sys.path.append("bench")
+import plot  # noqa: E402
+import sessions  # noqa: E402
+from cardtools.records import LONGEST, records_of  # noqa: E402
+
+LOADER = importlib.machinery.SourceFileLoader("bench_run", "bench/run")
+bench = importlib.util.module_from_spec(importlib.util.spec_from_loader("bench_run", LOADER))
+LOADER.exec_module(bench)
+
+
+def test_sessions_are_well_formed_and_equal_each_time():
+    for kind in sessions.KINDS:
+        lengths = sessions.lengths(kind)
+        assert lengths[0] == 0 and len(lengths) > 3, (kind, lengths)
+        for blocks in lengths:
+            file, accesses = sessions.session(kind, blocks)
+            records, broken = records_of(file)
+            assert broken is None and len(records) == accesses + 1 and len(file) <= LONGEST
+            assert file == sessions.session(kind, blocks)[0]
+        assert len(sessions.session(kind, lengths[-1] + 1)[0]) > LONGEST
+
+
+def test_the_line_is_straight_or_told():
+    line = [(x, 5000 + 200 * x) for x in (1, 800, 1600, 2400, 3200)]
+    assert bench.straight("a", "b", line) == 0 and bench.each(line) == 200
+    for bent in ([(x, x * x) for x, _ in line], [(x, 200 * x + (90000 if x > 1000 else 0)) for x, _ in line]):
+        try:
+            bench.straight("a", "b", bent)
+        except bench.Fault as fault:
+            assert "no straight line" in str(fault)
+        else:
+            raise AssertionError("a bent line passed")
+
+
+def test_the_plot_is_svg():
+    text = plot.svg("title", "across", "up", [("one, a", False, [(0, 0), (10, 123456)]), ("one, b", True, [(0, 5), (10, 10)])])
+    assert xml.etree.ElementTree.fromstring(text).tag.endswith("svg") and text.count("<polyline") == 2
+
+
+def test_the_cost_of_cardrun_is_a_straight_line():
+    done = subprocess.run([sys.executable, "bench/run", "--check"], capture_output=True, text=True, check=False)
+    print("".join(f"       {line}\n" for line in done.stdout.splitlines()[:-1]), end="")
+    assert done.returncode == 0, done.stdout + done.stderr

@@ -1,0 +1,113 @@
+"""Every command in the docs is run: each ```sh block of README.md and docs/, as one script at the root.
+
+A ```text block right after it is what it must print. /tmp is a fresh folder for each page. Those that run elsewhere are listed here with the reason, and
+each is named in the output; so nothing is passed over in silence.
+"""
+import glob
+import os
+import re
+import subprocess
+import tempfile
+
+# Commands that are not run here, and why.
+ELSEWHERE = {
+    "./test": "it is what runs these tests",
+    ".ci/run": "it calls ./test",
+    "rt ci": "./test begins with it",
+    "tools/tests/run": "it is what runs these tests",
+}
+# For a quick run by hand: words that begin commands to leave out, as DOCS_WITHOUT="rt bench/run".
+WITHOUT = os.environ.get("DOCS_WITHOUT", "").split()
+LONGEST = 1200  # seconds for one block
+FENCE = re.compile(r"^```(\w*)[ \t]*\n(.*?)^```[ \t]*$", re.M | re.S)
+
+
+def pages():
+    return ["README.md", *sorted(glob.glob("docs/**/*.md", recursive=True)), *sorted(glob.glob("bench/*.md"))]
+
+
+def blocks_of(page):
+    """(line, script, what it must print or None) of each sh block of a page."""
+    with open(page, encoding="utf-8") as file:
+        text = file.read()
+    fences = list(FENCE.finditer(text))
+    for this, after in zip(fences, fences[1:] + [None]):
+        if this[1] != "sh":
+            continue
+        follows = after and after[1] == "text" and not text[this.end():after.start()].strip()
+        yield text.count("\n", 0, this.start()) + 1, this[2], after[2] if follows else None
+
+
+def reason_against(line):
+    for command, why in ELSEWHERE.items():
+        if line == command:
+            return why
+    if line.split()[:1] and line.split()[0] in WITHOUT:
+        return "left out by DOCS_WITHOUT"
+    return None
+
+
+def script_of(where, script):
+    """The lines to run; the others are named."""
+    run = []
+    for line in script.splitlines():
+        why = reason_against(line.split(" #")[0].strip())
+        if why:
+            print(f"       {where}: not run here: {line.strip()} ({why})")
+        else:
+            run.append(line)
+    return "\n".join(run).strip()
+
+
+def tree():
+    return subprocess.run(["git", "status", "--porcelain"], capture_output=True, text=True, check=True).stdout
+
+
+def run_page(page, faults):
+    """Runs the blocks of a page, in their order; gives how many there were."""
+    ran = 0
+    with tempfile.TemporaryDirectory() as folder:
+        for line, script, wanted in blocks_of(page):
+            where = f"{page}:{line}"
+            script = script_of(where, script).replace("/tmp/", f"{folder}/")
+            if not script:
+                continue
+            done = subprocess.run(["bash", "-euo", "pipefail", "-c", script], stdin=subprocess.DEVNULL, capture_output=True, text=True, timeout=LONGEST, check=False)
+            ran += 1
+            if done.returncode:
+                faults.append(f"{where}: exit status {done.returncode}: {(done.stderr or done.stdout).strip()[-400:]}")
+            elif wanted is not None and done.stdout != wanted:
+                faults.append(f"{where}: it printed\n{done.stdout[-2000:]}")
+    return ran
+
+
+def test_every_command_in_the_docs():
+    before, faults = tree(), []
+    ran = sum(run_page(page, faults) for page in pages())
+    print(f"       {ran} blocks run")
+    assert not faults, "\n" + "\n".join(faults)
+    assert ran, "no block found"
+    assert tree() == before, "the commands changed the tree"
+
+
+def test_links_in_the_docs_lead_somewhere():
+    for page in pages():
+        with open(page, encoding="utf-8") as file:
+            links = re.findall(r"\]\(([^)#:]+)(?:#[^)]*)?\)", file.read())
+        for link in links:
+            assert os.path.exists(os.path.join(os.path.dirname(page), link)), f"{page}: {link}"
+
+
+def test_fences_are_sh_or_text():
+    """A command in an untagged fence would be run by nobody."""
+    for page in pages():
+        with open(page, encoding="utf-8") as file:
+            for fence in FENCE.finditer(file.read()):
+                assert fence[1] in ("sh", "text", "rust"), f"{page}: a fence of kind '{fence[1]}': {fence[2][:60]}"
+
+
+def test_files_that_the_docs_name_are_there():
+    for page in pages():
+        with open(page, encoding="utf-8") as file:
+            for path in re.findall(r"\b((?:crates|tools|oracle|bench)/[\w./-]+\.(?:antt|rt|edit|rs|py))\b", file.read()):
+                assert os.path.exists(path), f"{page}: {path}"

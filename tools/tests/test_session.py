@@ -1,0 +1,205 @@
+"""tools/session: round trips, the faults of texts, and runs explained."""
+import os
+import subprocess
+import sys
+
+import made
+from cardtools.explain import Mismatch, annotated
+from cardtools.records import Access, Opening, file_of, records_of
+from cardtools.text import Bad, decoded, file_from, text_of
+
+TOOL = "tools/session"
+SAMPLE = "open 4 2 4 true-ide\nwrite ide 07 FF\nread ide 07\nread ide 01\nwrite ide 07 03\nread ide 01\n"
+SAMPLE_PRINTED = "n op answer value\n1 W 0 00FF\n2 R 0 0051\n3 R 0 0004\n4 W 0 0003\n5 R 0 0020\n"
+
+
+def same_again(file, what):
+    for notes in (True, False):
+        assert file_from(text_of(file, notes)) == file, f"{what} is not the same again"
+
+
+def call(*words, given=b""):
+    done = subprocess.run([sys.executable, TOOL, *words], input=given, capture_output=True, check=False)
+    return done.returncode, done.stdout, done.stderr.decode()
+
+
+def test_round_trip_of_every_file_in_sessions():
+    count = 0
+    for folder, _, names in os.walk("sessions"):
+        for name in sorted(names):
+            path = os.path.join(folder, name)
+            with open(path, "rb") as file:
+                same_again(file.read(), path)
+            count += 1
+    print(f"       {count} files in sessions/")
+    assert count or not os.path.exists("sessions")
+
+
+def test_round_trip_of_well_formed_files():
+    for number, file in enumerate(made.well_formed(7, 150)):
+        assert records_of(file)[1] is None
+        assert "bytes" not in text_of(file), number
+        same_again(file, f"well-formed file {number}")
+
+
+def test_round_trip_of_damaged_files():
+    for number, file in enumerate(made.damaged(11, 60)):
+        same_again(file, f"damaged file {number}")
+
+
+def test_text_means_these_bytes():
+    text = "# a comment\n\nOPEN 4 2 4 True-IDE # another\n write  io 1F7H 20\nread memory 3F7\nread word ide 00 x3\nwrite word ide 0 1 2 x2\n"
+    wanted = [Opening(4, 2, 4, 1), Access(True, 2, 1, 0x1F7, 0x20), Access(False, 1, 1, 0x3F7, 0)]
+    wanted += [Access(False, 3, 2, 0, 0)] * 3 + [Access(True, 3, 2, 0, 1), Access(True, 3, 2, 0, 2)] * 2
+    assert file_from(text) == file_of(wanted)
+    assert file_from(SAMPLE)[:24] == bytes.fromhex("0C0001000400020004000100 0A00020003010700FF00 0800".replace(" ", ""))
+
+
+def test_bytes_make_a_broken_file():
+    assert file_from("open 1 1 1 0\nbytes 08 00\nread ide 0\nopen 1 1 1 0\n")[12:16] == bytes.fromhex("08000800")
+    assert file_from("bytes\n") == b""
+
+
+# Each kind of bad text, its line and a part of what is said.
+FAULTS = (
+    ("", 1, "ends without an open"),
+    ("# nothing\n\n", 3, "ends without an open"),
+    ("read ide 07\n", 1, "begins with open"),
+    ("write ide 07 20\nopen 4 2 4 1\n", 1, "begins with open"),
+    ("open 4 2 4 1\nopen 4 2 4 1\n", 2, "opened once"),
+    ("open 4 2 4 1\n\nfetch ide 07\n", 3, "not 'fetch'"),
+    ("open 4 2 4\n", 1, "open takes C, H, S and the mode"),
+    ("open\n", 1, "here is nothing"),
+    ("open 4 2 4 1 5\n", 1, "open takes C, H, S and the mode"),
+    ("open 4 2 4 ide\n", 1, "the mode is pc-card, true-ide"),
+    ("open 4 2 4 65536\n", 1, "the mode is 65536"),
+    ("open 4 two 4 1\n", 1, "H is a decimal number"),
+    ("open 65536 2 4 1\n", 1, "C is 65536"),
+    ("open -4 2 4 1\n", 1, "C is a decimal number"),
+    ("open 4 2 4 1\nread\n", 2, "read wants a space"),
+    ("open 4 2 4 1\nread word\n", 2, "read wants a space"),
+    ("open 4 2 4 1\nread disk 07\n", 2, "not 'disk'"),
+    ("open 4 2 4 1\nread long ide 07\n", 2, "not 'long'"),
+    ("open 4 2 4 1\nread ide\n", 2, "wants an address"),
+    ("open 4 2 4 1\nread ide 0G\n", 2, "the address is a hexadecimal number"),
+    ("open 4 2 4 1\nread ide H\n", 2, "the address is a hexadecimal number"),
+    ("open 4 2 4 1\nread ide 10000\n", 2, "FFFF is the most"),
+    ("open 4 2 4 1\nread ide 07 20\n", 2, "a read ends after its address"),
+    ("open 4 2 4 1\nread ide 07 x0\n", 2, "a repeat is"),
+    ("open 4 2 4 1\nread ide 07 x\n", 2, "a repeat is"),
+    ("open 4 2 4 1\nread ide 07 x99999\n", 2, "a repeat is"),
+    ("open 4 2 4 1\nread ide x4\n", 2, "wants an address"),
+    ("open 4 2 4 1\nwrite ide 07\n", 2, "write wants a value"),
+    ("open 4 2 4 1\nwrite ide 07 x4\n", 2, "write wants a value"),
+    ("open 4 2 4 1\nwrite ide 07 100\n", 2, "FF is the most"),
+    ("open 4 2 4 1\nwrite ide 07 1 2 zz\n", 2, "the byte is a hexadecimal number"),
+    ("open 4 2 4 1\nwrite word ide 00 10000\n", 2, "FFFF is the most"),
+    ("open 4 2 4 1\nbytes 1\n", 2, "two hexadecimal digits"),
+    ("open 4 2 4 1\nbytes 0x1F\n", 2, "two hexadecimal digits"),
+    ("open 4 2 4 1\nread ide 07 x4094\nread ide 07 x2\nread ide 07\n", 3, "32,768 is the most"),
+)
+
+
+def test_each_fault_is_told_with_its_line():
+    for text, line, part in FAULTS:
+        try:
+            file_from(text)
+        except Bad as bad:
+            assert bad.faults[0][0] == line and part in bad.faults[0][1], (text, bad.faults)
+        else:
+            raise AssertionError(f"no fault found in {text!r}")
+
+
+def test_every_fault_of_a_text_is_told():
+    try:
+        file_from("open 4 2 4 1\nfetch\nread ide 07\nread ide zz\nwrite ide 07\n")
+    except Bad as bad:
+        assert [line for line, _ in bad.faults] == [2, 4, 5]
+    else:
+        raise AssertionError("no fault found")
+
+
+def test_a_file_that_is_no_text_is_told_with_its_line():
+    try:
+        decoded(b"open 4 2 4 1\n\xff\n")
+    except Bad as bad:
+        assert bad.faults[0][0] == 2
+    else:
+        raise AssertionError("no fault found")
+
+
+def test_the_longest_file_is_taken():
+    assert len(file_from("open 4 2 4 1\nread ide 07 x4094\n")) == 32764
+
+
+def lines_of(text, printed, fold=False):
+    return list(annotated(*records_of(file_from(text)), printed.splitlines(), fold))
+
+
+def test_the_sample_explained():
+    lines = lines_of(SAMPLE, SAMPLE_PRINTED)
+    parts = ("32 sectors, True IDE", "Command: FFH, no command", "Status: 51H", "Error: 04H, ABRT", "Request Sense", "Invalid Command")
+    assert len(lines) == len(parts)
+    for line, printed, part in zip(lines, SAMPLE_PRINTED.splitlines(), parts):
+        assert line.startswith(printed) and part in line, line
+
+
+def test_names_follow_the_map():
+    text = "open 4 2 4 pc-card\nread memory 3F7\nwrite attribute 200 42\nread io 1F7\nread memory 0\nwrite attribute 200 04\nread io 170\nwrite attribute 200 82\nread io 1F7\nwrite attribute 200 1\nread io 3F7\nread io 9\n"
+    printed = "n op answer value\n1 R 0 0050\n2 W 0 0042\n3 R 0 0050\n4 R 7 0000\n5 W 10 0000\n6 R 6 0000\n7 W 0 0082\n8 R 8 0000\n9 W 0 0001\n10 R 0 0050\n11 R 0 00FF\n"
+    parts = ("PC Card", "Status", "index 2", "Status", "row 7", "row 10", "row 6", "SRESET holds", "row 8", "power-on; index 1", "Status", "odd byte")
+    for line, part in zip(lines_of(text, printed), parts):
+        assert part in line, (line, part)
+
+
+def test_what_error_holds_follows_the_commands():
+    text = "open 4 2 4 1\nread ide 1\nwrite ide 7 20\nread ide 1\nwrite ide 7 3\nread ide 1\nwrite ide 16 4\nread ide 1\nwrite ide 7 20\nwrite ide 16 0\nread ide 1\n"
+    printed = "n op answer value\n1 R 0 0001\n2 W 0 0020\n3 R 0 0010\n4 W 0 0003\n5 R 0 002F\n6 W 0 0004\n7 R 0 0080\n8 W 0 0020\n9 W 0 0000\n10 R 0 0001\n"
+    parts = ("opening", "diagnostic", "Read Sectors", "IDNF", "Request Sense", "Address Overflow", "holds the card", "holds the card", "no effect", "power-on registers", "diagnostic")
+    for line, part in zip(lines_of(text, printed), parts):
+        assert part in line, (line, part)
+
+
+def test_broken_and_refused_sessions_explained():
+    assert "H is 17" in lines_of("open 1 17 1 0\n", "n op answer value\nopen 1\n")[1]
+    assert "33 sectors" in lines_of("open 33 1 1 2\n", "n op answer value\nopen 1\n")[1]
+    assert "kind is 7" in lines_of("open 1 1 1 1\nread ide 07\nbytes 08 00 07 00\n", "n op answer value\n1 R 0 0050\nbad 20\n")[2]
+    assert "nothing of it is run" in lines_of("open 4 2 4 1\nread ide 7 x4094\nbytes 00 00 00 00 00\n", "n op answer value\nbad 32768\n")[1]
+    assert "40,000 bytes" in list(annotated(*records_of(bytes(40000)), ["n op answer value", "bad 32768"]))[1]
+    assert "empty" in lines_of("bytes\n", "n op answer value\nbad 0\n")[1]
+
+
+def test_fold_joins_data_only():
+    printed = "n op answer value\n" + "".join(f"{n} R 0 FFFF\n" for n in range(1, 7)) + "7 R 0 0050\n8 R 0 0050\n"
+    lines = lines_of("open 4 2 4 1\nread word ide 0 x6\nread ide 7 x2\n", printed, fold=True)
+    assert len(lines) == 4 and lines[1].startswith("1..6 R 0") and "6 times" in lines[1], lines
+
+
+def test_output_of_another_session_is_told_with_its_line():
+    for printed, part in (("", "line 1"), ("n op\n", "line 1"), (SAMPLE_PRINTED[:40], "line 4"), (SAMPLE_PRINTED + "6 R 0 0000\n", "line 7"),
+                          (SAMPLE_PRINTED.replace("3 R", "3 W"), "line 4"), (SAMPLE_PRINTED.replace("2 R 0 0051", "oops"), "line 3")):
+        try:
+            lines_of(SAMPLE, printed)
+        except Mismatch as fault:
+            assert part in str(fault), fault
+        else:
+            raise AssertionError(f"not told: {printed!r}")
+
+
+def test_the_command_itself():
+    status, file, _ = call(given=SAMPLE.encode())
+    assert status == 0 and file == file_from(SAMPLE)
+    status, text, _ = call("--text", "--bare", given=file)
+    assert status == 0 and text.decode() == SAMPLE
+    status, _, said = call(given=b"open 4 2 4 1\nread ide\n")
+    assert status == 1 and said.startswith("standard input:2: "), said
+    status, text, _ = call("--annotate", "--run", "printf '" + SAMPLE_PRINTED.replace("\n", "\\n") + "'", given=file)
+    assert status == 0 and text.decode().count("\n") == 6
+    assert call("--help")[0] == 0 and b"usage:" in call("--help")[1]
+
+
+def test_wrong_calls_are_told():
+    for words in (("--bare",), ("--text", "--annotate"), ("--fold",), ("a", "b"), ("--what",), ("no such file",), ("--annotate", "--run", "no-such-command"),
+                  ("--annotate", "--run", "true"), ("--annotate", "--run", "a 'b"), ("--text", "-o", "x"), ("--annotate", "--printed", "no such file")):
+        status, _, said = call(*words)
+        assert status == 2 and said.startswith("session: "), (words, status, said)
