@@ -13,6 +13,7 @@ use registers::Core;
 ghost use mathlib.Core.Path.{_≡_};
 ghost use Prim.Native.Nat.{_+_, _%_, _^_, _<_};
 ghost use lib.ListN.{length};
+ghost use Rattle.ground.specs.Choice.{pick};
 ghost use Rattle.registers.specs.State.{machine};
 ghost use Rattle.card.specs.Doors.{machineOf, cardOf};
 ghost use Rattle.card.specs.Step.{replied, replyOf};
@@ -32,18 +33,13 @@ fn size_of(write: bool) -> usize
     8
 }
 
-fn shown_value(outcome: Outcome, write: bool, value: u16) -> u16
-    ensures { λ r. ⌜ r ≡ shownValue outcome write value ⌝ }
+fn shown_value(write: bool, value: u16, read: u16) -> u16
+    ensures { λ r. ⌜ r ≡ pick write value read ⌝ }
 {
-    match outcome {
-        Outcome::Accepted(read) => {
-            if write {
-                return value;
-            }
-            read
-        }
-        Outcome::Refused(_) => 0,
+    if write {
+        return value;
     }
+    read
 }
 
 fn verdict_of(core: Core, store: &[u8], marks: &[u8], tuples: &[u8]) -> Verdict
@@ -150,9 +146,12 @@ fn put_answer(
 ) -> usize
     ensures { λ r. ⌜ output (now (out .exit)) r ≡ put (output (now (out .entry)) at) (line number write (outcomeNumber outcome) (shownValue outcome write value)) ⌝ }
 {
-    let answer = outcome.number();
-    let shown = shown_value(outcome, write, value);
-    text::put_line(out, at, number, write, answer, shown)
+    match outcome {
+        Outcome::Accepted(read) => {
+            text::put_accepted(out, at, number, write, shown_value(write, value, read))
+        }
+        Outcome::Refused(refusal) => text::put_line(out, at, number, write, refusal.number(), 0),
+    }
 }
 
 // The accesses of a part from a place on, their lines from a place of the output on. Core and buffer stay here from access to access.

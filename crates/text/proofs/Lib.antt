@@ -1,3 +1,4 @@
 pub mod Outputs
 pub mod Texts
 pub mod OnlyOne
+pub mod Length

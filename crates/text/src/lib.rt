@@ -54,15 +54,15 @@ fn byte(out: &mut [u8], at: usize, b: u8) -> usize
     at + 1
 }
 
-fn digit(out: &mut [u8], at: usize, n: u64) -> usize
+fn digit(out: &mut [u8], at: usize, n: u16) -> usize
     requires { ⌜ at < length (now out) ⌝ }
     ensures { λ r. ⌜ Wrote (now (out .entry)) at ((48 + n % 10) ∷ []) (now (out .exit)) r ⌝ }
 {
     byte(out, at, 48 + (n % 10) as u8)
 }
 
-// Numbers of up to four digits, which are most, go straight to their places.
-fn decimal(out: &mut [u8], at: usize, n: u64) -> usize
+// A short number's digits go straight to their places.
+fn short_decimal(out: &mut [u8], at: usize, n: u16) -> usize
     requires { ⌜ at + 20 ≤ length (now out) ⌝ }
     ensures { λ r. ⌜ Wrote (now (out .entry)) at (decimal n) (now (out .exit)) r × (r ≤ at + 20) ⌝ }
 {
@@ -86,6 +86,16 @@ fn decimal(out: &mut [u8], at: usize, n: u64) -> usize
         let third = digit(out, second, hundreds);
         let last = digit(out, third, tens);
         return digit(out, last, n);
+    }
+    long_decimal(out, at, n as u64)
+}
+
+fn decimal(out: &mut [u8], at: usize, n: u64) -> usize
+    requires { ⌜ at + 20 ≤ length (now out) ⌝ }
+    ensures { λ r. ⌜ Wrote (now (out .entry)) at (decimal n) (now (out .exit)) r × (r ≤ at + 20) ⌝ }
+{
+    if n < 10000 {
+        return short_decimal(out, at, n as u16);
     }
     long_decimal(out, at, n)
 }
@@ -146,6 +156,19 @@ fn line(out: &mut [u8], at: usize, number: u64, write: bool, answer: u8, value: 
     byte(out, after_value, b'\n')
 }
 
+// The same of an accepted access, whose answer is 0.
+fn accepted_line(out: &mut [u8], at: usize, number: u64, write: bool, value: u16) -> usize
+    requires { ⌜ at + 64 ≤ length (now out) ⌝ }
+    ensures { λ r. ⌜ Wrote (now (out .entry)) at (line number write 0 value) (now (out .exit)) r × (r ≤ at + 64) ⌝ }
+{
+    let after_number = decimal(out, at, number);
+    let after_letter = letter(out, after_number, write);
+    let after_answer = byte(out, after_letter, b'0');
+    let after_blank = byte(out, after_answer, b' ');
+    let after_value = hex_four(out, after_blank, value);
+    byte(out, after_value, b'\n')
+}
+
 // A byte past the output's end is dropped.
 fn put_byte(out: &mut [u8], at: usize, b: u8) -> usize
     ensures { λ r. ⌜ output (now (out .exit)) r ≡ putByte (output (now (out .entry)) at) b ⌝ }
@@ -199,6 +222,16 @@ pub fn put_line(
     let mut text = [0u8; 64];
     let size = line(&mut text, 0, number, write, answer, value);
     put(out, at, &text[..size])
+}
+
+// The line of an accepted access, as far as the output goes.
+pub fn put_accepted(out: &mut [u8], at: usize, number: u64, write: bool, value: u16) -> usize
+    ensures { λ r. ⌜ output (now (out .exit)) r ≡ put (output (now (out .entry)) at) (line number write 0 value) ⌝ }
+{
+    if roomy(out.len(), at) {
+        return accepted_line(out, at, number, write, value);
+    }
+    put_line(out, at, number, write, 0, value)
 }
 
 // A number ends a line.

@@ -25,11 +25,20 @@ struct Lengths {
     bodies: u32,
 }
 
-// The card, what is lent, the last entry of a list to be written, and the place that the record's text has reached.
-struct Bench {
-    card: Card,
+// What is lent, and the last entry of a list to be written.
+struct Side {
     lent: Lengths,
     last: Entry,
+}
+
+struct Bench {
+    card: Card,
+    side: Side,
+}
+
+// The card, and the place that the record's text has reached.
+struct Told {
+    card: Card,
     at: usize,
 }
 
@@ -245,21 +254,27 @@ fn phase_text(out: &mut [u8], at: usize, phase: Phase) -> usize {
     word(out, c, left_of(load))
 }
 
-// The A line; the bench takes the card over.
-fn answered(bench: Bench, answer: Answer, out: &mut [u8]) -> Bench {
+// A record's text is written at once.
+fn tell(out: &[u8], at: usize) {
+    if at <= 65536 {
+        let n = io::count(at as isize, out);
+        io::write_all(1, &out[..n]);
+    }
+}
+
+// The A line.
+fn answered(answer: Answer, at: usize, out: &mut [u8]) -> Told {
     let outcome = answer.outcome;
     let card = answer.card;
     let state = card.state;
     let phase = card.phase;
-    let a = outcome_text(out, bench.at, b'A', outcome);
+    let a = outcome_text(out, at, b'A', outcome);
     let b = small(out, a, one(answer.line));
     let c = state_text(out, b, state);
     let d = phase_text(out, c, phase);
-    let e = put(out, d, b'\n');
-    Bench {
+    Told {
         card: card,
-        at: e,
-        ..bench
+        at: put(out, d, b'\n'),
     }
 }
 
@@ -280,10 +295,11 @@ fn opened(w: Words, lent: Lengths, store: &[u8], marks: &[u8], chain: &[u8]) -> 
     )
 }
 
-fn open(bench: Bench, w: Words, store: &[u8], marks: &[u8], chain: &[u8], out: &mut [u8]) -> Bench {
-    let lent = bench.lent;
+fn open(w: Words, lent: Lengths, store: &[u8], marks: &[u8], chain: &[u8], out: &mut [u8]) -> Card {
     let answer = opened(w, lent, store, marks, chain);
-    answered(bench, answer, out)
+    let told = answered(answer, 0, out);
+    tell(out, told.at);
+    told.card
 }
 
 fn accessed(
@@ -311,18 +327,18 @@ fn accessed(
 }
 
 fn access(
-    bench: Bench,
+    told: Told,
     w: Words,
     value: u16,
+    lent: Lengths,
     chain: &[u8],
     store: &mut [u8],
     marks: &mut [u8],
     out: &mut [u8],
-) -> Bench {
-    let lent = bench.lent;
-    let card = bench.card;
+) -> Told {
+    let card = told.card;
     let answer = accessed(card, w, value, lent, chain, store, marks);
-    answered(bench, answer, out)
+    answered(answer, told.at, out)
 }
 
 fn times(asked: u16) -> u16 {
@@ -344,23 +360,39 @@ fn next_value(value: u16, width: u8, step: u16) -> u16 {
 }
 
 fn accesses(
-    bench: Bench,
+    start: Told,
     w: Words,
+    lent: Lengths,
     chain: &[u8],
     store: &mut [u8],
     marks: &mut [u8],
     out: &mut [u8],
-) -> Bench {
+) -> Told {
     let n = times(w.w6);
-    let mut b = bench;
+    let mut told = start;
     let mut value = w.w5;
     let mut i: u16 = 0;
     while i < n {
-        b = access(b, w, value, chain, store, marks, out);
+        told = access(told, w, value, lent, chain, store, marks, out);
         value = next_value(value, low(w.w2), w.w7);
         i += 1;
     }
-    b
+    told
+}
+
+fn access_record(
+    card: Card,
+    w: Words,
+    lent: Lengths,
+    chain: &[u8],
+    store: &mut [u8],
+    marks: &mut [u8],
+    out: &mut [u8],
+) -> Card {
+    let start = Told { card: card, at: 0 };
+    let told = accesses(start, w, lent, chain, store, marks, out);
+    tell(out, told.at);
+    told.card
 }
 
 // ---- fields of the card value
@@ -642,20 +674,15 @@ fn set_phase(phase: Phase, field: u16, value: u16) -> Phase {
     }
 }
 
-fn set_field(bench: Bench, w: Words) -> Bench {
-    let card = bench.card;
+fn set_field(card: Card, w: Words) -> Card {
     let state = card.state;
     let phase = card.phase;
     let next = set_state(state, w.w1, w.w2);
     let then = set_phase(phase, w.w1, w.w2);
-    let made = Card {
+    Card {
         phase: then,
         state: next,
         ..card
-    };
-    Bench {
-        card: made,
-        ..bench
     }
 }
 
@@ -708,30 +735,21 @@ fn buffer_bytes(buffer: [u8; 512], record: &[u8], place: u16, count: u16) -> [u8
     b
 }
 
-fn set_buffer(bench: Bench, w: Words, record: &[u8]) -> Bench {
-    let card = bench.card;
+fn set_buffer(card: Card, w: Words, record: &[u8]) -> Card {
     let buffer = card.buffer;
     let next = buffer_bytes(buffer, record, w.w1, w.w2);
-    let made = Card {
+    Card {
         buffer: next,
         ..card
-    };
-    Bench {
-        card: made,
-        ..bench
     }
 }
 
-fn lend(bench: Bench, w: Words) -> Bench {
-    let lent = Lengths {
+fn lent_by(w: Words) -> Lengths {
+    Lengths {
         store: w.w2 as u32 + 65536 * w.w3 as u32,
         marks: w.w1 as u32,
         tuples: w.w4 as u32,
         bodies: w.w5 as u32,
-    };
-    Bench {
-        lent: lent,
-        ..bench
     }
 }
 
@@ -742,14 +760,6 @@ fn entry(w: Words) -> Entry {
         code: low(w.w2),
         start: w.w3,
         length: w.w4,
-    }
-}
-
-fn set_last(bench: Bench, w: Words) -> Bench {
-    let last = entry(w);
-    Bench {
-        last: last,
-        ..bench
     }
 }
 
@@ -784,11 +794,10 @@ fn read_lines(out: &mut [u8], at: usize, buffer: &[u8], places: usize, held: Ent
     next
 }
 
-fn read_chain(bench: Bench, w: Words, chain: &[u8], out: &mut [u8]) -> Bench {
-    let lent = bench.lent;
+fn read_chain(lent: Lengths, w: Words, chain: &[u8], out: &mut [u8]) {
     let t = io::count(lent.tuples as isize, chain);
-    let next = read_lines(out, bench.at, &chain[..t], w.w1 as usize, entry(w));
-    Bench { at: next, ..bench }
+    let at = read_lines(out, 0, &chain[..t], w.w1 as usize, entry(w));
+    tell(out, at);
 }
 
 // The W line and the T line.
@@ -799,26 +808,24 @@ fn written_lines(out: &mut [u8], at: usize, outcome: Outcome, chain: &[u8]) -> u
     bytes_line(out, c, b'T', chain)
 }
 
-fn write_list(bench: Bench, w: Words, bodies: &[u8], chain: &mut [u8]) -> Outcome {
-    let lent = bench.lent;
-    let last = bench.last;
+fn write_list(side: Side, w: Words, bodies: &[u8], chain: &mut [u8]) -> Outcome {
+    let lent = side.lent;
+    let last = side.last;
     let b = io::count(lent.bodies as isize, bodies);
     let t = io::count(lent.tuples as isize, chain);
     tuples::write_made(entry(w), last, w.w1 as usize, &bodies[..b], &mut chain[..t])
 }
 
-fn write_back(bench: Bench, bodies: &[u8], chain: &mut [u8]) -> Outcome {
-    let lent = bench.lent;
+fn write_back(lent: Lengths, bodies: &[u8], chain: &mut [u8]) -> Outcome {
     let b = io::count(lent.bodies as isize, bodies);
     let t = io::count(lent.tuples as isize, chain);
     tuples::write_back(&bodies[..b], &mut chain[..t])
 }
 
-fn written(bench: Bench, outcome: Outcome, chain: &[u8], out: &mut [u8]) -> Bench {
-    let lent = bench.lent;
+fn written(lent: Lengths, outcome: Outcome, chain: &[u8], out: &mut [u8]) {
     let t = io::count(lent.tuples as isize, chain);
-    let next = written_lines(out, bench.at, outcome, &chain[..t]);
-    Bench { at: next, ..bench }
+    let at = written_lines(out, 0, outcome, &chain[..t]);
+    tell(out, at);
 }
 
 // ---- the S line and the M line
@@ -837,38 +844,54 @@ fn marks_line(out: &mut [u8], at: usize, marks: &[u8], lent: u32) -> usize {
     bytes_line(out, at, b'M', &marks[..n])
 }
 
-fn show(bench: Bench, store: &[u8], marks: &[u8], chain: &[u8], out: &mut [u8]) -> Bench {
-    let lent = bench.lent;
-    let card = bench.card;
-    let buffer = card.buffer;
-    let a = put(out, bench.at, b'S');
+fn show(
+    buffer: [u8; 512],
+    lent: Lengths,
+    store: &[u8],
+    marks: &[u8],
+    chain: &[u8],
+    out: &mut [u8],
+) {
+    let a = put(out, 0, b'S');
     let b = word(out, a, lent_sum(store, lent.store));
     let c = word(out, b, buffer_sum(buffer));
     let d = word(out, c, lent_sum(chain, lent.tuples));
     let e = put(out, d, b'\n');
     let f = marks_line(out, e, marks, lent.marks);
-    Bench { at: f, ..bench }
+    tell(out, f);
 }
 
 // ---- records
 
-// Kinds 6, 7, 11 and 14.
-fn tuple_record(bench: Bench, w: Words, bodies: &[u8], chain: &mut [u8], out: &mut [u8]) -> Bench {
-    if w.w0 == 6 {
-        return read_chain(bench, w, chain, out);
-    }
-    if w.w0 == 7 {
-        let outcome = write_list(bench, w, bodies, chain);
-        return written(bench, outcome, chain, out);
+// Kinds 8 and 11.
+fn changed(side: Side, w: Words) -> Side {
+    if w.w0 == 8 {
+        let lent = lent_by(w);
+        return Side { lent: lent, ..side };
     }
     if w.w0 == 11 {
-        return set_last(bench, w);
+        let last = entry(w);
+        return Side { last: last, ..side };
+    }
+    side
+}
+
+// Kinds 6, 7 and 14.
+fn tuple_record(side: Side, w: Words, bodies: &[u8], chain: &mut [u8], out: &mut [u8]) {
+    let lent = side.lent;
+    if w.w0 == 6 {
+        read_chain(lent, w, chain, out);
+        return;
+    }
+    if w.w0 == 7 {
+        let outcome = write_list(side, w, bodies, chain);
+        written(lent, outcome, chain, out);
+        return;
     }
     if w.w0 == 14 {
-        let back = write_back(bench, bodies, chain);
-        return written(bench, back, chain, out);
+        let back = write_back(lent, bodies, chain);
+        written(lent, back, chain, out);
     }
-    bench
 }
 
 // Kinds 9 and 10.
@@ -882,57 +905,48 @@ fn byte_record(w: Words, record: &[u8], chain: &mut [u8], bodies: &mut [u8]) {
     }
 }
 
-// Kinds 1 to 5, 8, 12 and 13.
+// Kinds 1 to 5, 12 and 13.
 fn card_record(
-    bench: Bench,
+    card: Card,
+    lent: Lengths,
     w: Words,
     record: &[u8],
     store: &mut [u8],
     marks: &mut [u8],
     chain: &[u8],
     out: &mut [u8],
-) -> Bench {
+) -> Card {
     if w.w0 == 1 {
-        return open(bench, w, store, marks, chain, out);
+        return open(w, lent, store, marks, chain, out);
     }
     if w.w0 == 2 {
         set(marks, w.w1 as usize, low(w.w2));
-        return bench;
+        return card;
+    }
+    if w.w0 == 3 {
+        return access_record(card, w, lent, chain, store, marks, out);
+    }
+    if w.w0 == 4 {
+        return set_field(card, w);
     }
     if w.w0 == 5 {
         fill(store, w);
-        return bench;
-    }
-    if w.w0 == 3 {
-        return accesses(bench, w, chain, store, marks, out);
-    }
-    if w.w0 == 4 {
-        return set_field(bench, w);
-    }
-    if w.w0 == 8 {
-        return lend(bench, w);
+        return card;
     }
     if w.w0 == 12 {
-        return show(bench, store, marks, chain, out);
+        let buffer = card.buffer;
+        show(buffer, lent, store, marks, chain, out);
+        return card;
     }
     if w.w0 == 13 {
-        return set_buffer(bench, w, record);
+        return set_buffer(card, w, record);
     }
-    bench
+    card
 }
 
-// A record's text is written at once.
-fn tell(bench: Bench, out: &[u8]) -> Bench {
-    let at = bench.at;
-    if at <= 65536 {
-        let n = io::count(at as isize, out);
-        io::write_all(1, &out[..n]);
-    }
-    Bench { at: 0, ..bench }
-}
-
-fn bench_record(
-    bench: Bench,
+fn printed(
+    card: Card,
+    side: Side,
     w: Words,
     record: &[u8],
     store: &mut [u8],
@@ -940,9 +954,10 @@ fn bench_record(
     chain: &mut [u8],
     bodies: &[u8],
     out: &mut [u8],
-) -> Bench {
-    let next = card_record(bench, w, record, store, marks, chain, out);
-    tuple_record(next, w, bodies, chain, out)
+) -> Card {
+    let lent = side.lent;
+    tuple_record(side, w, bodies, chain, out);
+    card_record(card, lent, w, record, store, marks, chain, out)
 }
 
 fn step(
@@ -955,8 +970,15 @@ fn step(
     out: &mut [u8],
 ) -> Bench {
     let w = words_of(record);
+    let before = bench.side;
+    let side = changed(before, w);
+    let card = bench.card;
     byte_record(w, record, chain, bodies);
-    bench_record(bench, w, record, store, marks, chain, bodies, out)
+    let next = printed(card, side, w, record, store, marks, chain, bodies, out);
+    Bench {
+        card: next,
+        side: side,
+    }
 }
 
 // The all-zero card, as a refused opening gives it.
@@ -969,22 +991,22 @@ fn start() -> Bench {
     let card = zero_card();
     Bench {
         card: card,
-        lent: Lengths {
-            store: 0,
-            marks: 0,
-            tuples: 0,
-            bodies: 0,
+        side: Side {
+            lent: Lengths {
+                store: 0,
+                marks: 0,
+                tuples: 0,
+                bodies: 0,
+            },
+            last: Entry {
+                code: 0,
+                start: 0,
+                length: 0,
+            },
         },
-        last: Entry {
-            code: 0,
-            start: 0,
-            length: 0,
-        },
-        at: 0,
     }
 }
 
-// One record, and its text.
 fn turn(
     bench: Bench,
     input: &[u8],
@@ -998,8 +1020,7 @@ fn turn(
     requires { ⌜ place + 16 ≤ length (now input) ⌝ }
 {
     let end = place + 16;
-    let next = step(bench, &input[place..end], store, marks, chain, bodies, out);
-    tell(next, out)
+    step(bench, &input[place..end], store, marks, chain, bodies, out)
 }
 
 fn turns(
@@ -1022,8 +1043,11 @@ fn turns(
 }
 
 fn finish(bench: Bench, store: &[u8], marks: &[u8], chain: &[u8], out: &mut [u8]) {
-    let shown = show(bench, store, marks, chain, out);
-    tell(shown, out);
+    let card = bench.card;
+    let side = bench.side;
+    let buffer = card.buffer;
+    let lent = side.lent;
+    show(buffer, lent, store, marks, chain, out);
 }
 
 fn play(

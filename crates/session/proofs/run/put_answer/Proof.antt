@@ -3,30 +3,62 @@ use Rattle.session.proofs.run.put_answer.Statement.{statement}
 use Rattle.session.proofs.run.put_answer.Tie as tie
 use Rattle.session.proofs.run.put_answer.Reads as reads
 use Rattle.session.proofs.run.put_answer.Lts as lts
-use Rattle.answers.proofs.Outcome.number.Reads as number-reads
+use Rattle.answers.proofs.Refusal.number.Reads as number-reads
 use Rattle.session.proofs.run.shown_value.Reads as shown-value-reads
+use Rattle.text.proofs.put_accepted.Reads as put-accepted-reads
 use Rattle.text.proofs.put_line.Reads as put-line-reads
 
--- src/run.rt:154:9
-number-requires : tie.Need-number-requires
-number-requires c κs = search needs
+-- src/run.rt:150:27
+enum-known-outcome : tie.Need-enum-known-outcome
+enum-known-outcome c = search needs
 
--- src/run.rt:155:9
+-- src/run.rt:151:56
 shown-value-requires : tie.Need-shown-value-requires
 shown-value-requires c κs = search needs
 
--- src/run.rt:156:5
+-- src/run.rt:151:13
+put-accepted-requires : tie.Need-put-accepted-requires
+put-accepted-requires c κs = search needs
+
+-- src/run.rt:153:26
+enum-known-outcome-2 : tie.Need-enum-known-outcome-2
+enum-known-outcome-2 c = search needs
+
+-- src/run.rt:153:77
+number-requires : tie.Need-number-requires
+number-requires c κs = search needs
+
+-- src/run.rt:153:38
 put-line-requires : tie.Need-put-line-requires
 put-line-requires c κs = search needs
 
--- src/run.rt:144:1
+-- src/run.rt:139:1
 same-length : tie.Need-same-length
 same-length c = search needs
 
--- src/run.rt:144:1
+-- src/run.rt:139:1
 returns : tie.Need-returns
-returns c = simp (c .before .before .before .before .before .number .ensures, c .before .before .before .before .shown-value .ensures) at (c .before .before .put-line .ensures)
+returns c = simp (c .before .before .before .before .before .before .outcome .given .1) (rw (c .before .before .before .shown-value .ensures) at (c .before .before .put-accepted .ensures))
+
+-- src/run.rt:139:1
+same-length-2 : tie.Need-same-length-2
+same-length-2 c = search needs
+
+-- src/run.rt:139:1
+returns-2 : tie.Need-returns-2
+returns-2 c = simp (c .before .before .before .before .before .before .outcome2 .given .1) (rw (c .before .before .before .number .ensures) at (c .before .before .put-line .ensures))
 
 pub put-answer-spec : {M : Type 1} → statement M
 put-answer-spec =
-    tie.close (tie.spec number-requires shown-value-requires put-line-requires same-length returns)
+    tie.close
+    (tie.spec
+    enum-known-outcome
+    shown-value-requires
+    put-accepted-requires
+    enum-known-outcome-2
+    number-requires
+    put-line-requires
+    same-length
+    returns
+    same-length-2
+    returns-2)

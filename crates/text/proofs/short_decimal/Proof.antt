@@ -5,10 +5,10 @@ use native.Mathlib.Omega.{arith}
 use Rattle.text.proofs.Outputs.{wrote-then, wrote-as}
 use Rattle.text.proofs.Texts.{digits-one, digits-more}
 use borrow.Author.Needs.{needs}
-use Rattle.text.proofs.decimal.Statement.{statement}
-use Rattle.text.proofs.decimal.Tie as tie
-use Rattle.text.proofs.decimal.Reads as reads
-use Rattle.text.proofs.decimal.Lts as lts
+use Rattle.text.proofs.short_decimal.Statement.{statement}
+use Rattle.text.proofs.short_decimal.Tie as tie
+use Rattle.text.proofs.short_decimal.Reads as reads
+use Rattle.text.proofs.short_decimal.Lts as lts
 use Rattle.text.proofs.digit.Reads as digit-reads
 use Rattle.text.proofs.long_decimal.Reads as long-decimal-reads
 
@@ -118,8 +118,8 @@ same-length-5 c = search needs
 returns-5 : tie.Need-returns-5
 returns-5 c = search needs
 
-pub decimal-spec : {M : Type 1} → statement M
-decimal-spec =
+pub short-decimal-spec : {M : Type 1} → statement M
+short-decimal-spec =
     tie.close
     (tie.spec
     digit-requires

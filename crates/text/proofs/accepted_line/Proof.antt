@@ -1,0 +1,66 @@
+use native.Mathlib.Omega.{arith}
+use Rattle.text.specs.Text.{furtherDigits, lastDigits}
+use Rattle.text.proofs.Outputs.{wrote-then}
+use borrow.Author.Needs.{needs}
+use Rattle.text.proofs.accepted_line.Statement.{statement}
+use Rattle.text.proofs.accepted_line.Tie as tie
+use Rattle.text.proofs.accepted_line.Reads as reads
+use Rattle.text.proofs.accepted_line.Lts as lts
+use Rattle.text.proofs.byte.Reads as byte-reads
+use Rattle.text.proofs.decimal.Reads as decimal-reads
+use Rattle.text.proofs.hex_four.Reads as hex-four-reads
+use Rattle.text.proofs.letter.Reads as letter-reads
+
+-- src/lib.rt:164:9
+decimal-requires : tie.Need-decimal-requires
+decimal-requires c κs = search needs
+
+-- src/lib.rt:165:9
+letter-requires : tie.Need-letter-requires
+letter-requires c κs = search needs
+
+-- src/lib.rt:166:9
+byte-requires : tie.Need-byte-requires
+byte-requires c κs = search needs
+
+-- src/lib.rt:167:9
+byte-requires-2 : tie.Need-byte-requires-2
+byte-requires-2 c κs = search needs
+
+-- src/lib.rt:168:9
+hex-four-requires : tie.Need-hex-four-requires
+hex-four-requires c κs = search needs
+
+-- src/lib.rt:169:5
+byte-requires-3 : tie.Need-byte-requires-3
+byte-requires-3 c κs = search needs
+
+-- src/lib.rt:160:1
+same-length : tie.Need-same-length
+same-length c = search needs
+
+-- src/lib.rt:160:1
+returns : tie.Need-returns
+unfolding furtherDigits lastDigits
+returns c =
+    let p = wrote-then (c .before .before .before .before .before .before .before .before .before .before .before .before .before .before .before .before .before .before .before .before .before .before .decimal .ensures .0) (wrote-then (c .before .before .before .before .before .before .before .before .before .before .before .before .before .before .before .before .before .before .letter .ensures) (wrote-then (c .before .before .before .before .before .before .before .before .before .before .before .before .before .before .byte .ensures) (wrote-then (c .before .before .before .before .before .before .before .before .before .before .byte2 .ensures) (wrote-then (c .before .before .before .before .before .before .hex-four .ensures) (c .before .before .byte3 .ensures))))) in
+    let a = c .before .before .before .before .before .before .before .before .before .before .before .before .before .before .before .before .before .before .before .before .before .before .decimal .ensures .1 in
+    let b = c .before .before .before .before .before .before .before .before .before .before .before .before .before .before .before .before .before .before .letter .ensures .place in
+    let d = c .before .before .before .before .before .before .before .before .before .before .before .before .before .before .byte .ensures .place in
+    let e = c .before .before .before .before .before .before .before .before .before .before .byte2 .ensures .place in
+    let f = c .before .before .before .before .before .before .hex-four .ensures .place in
+    let g = c .before .before .byte3 .ensures .place in
+    (p, omega arith)
+
+pub accepted-line-spec : {M : Type 1} → statement M
+accepted-line-spec =
+    tie.close
+    (tie.spec
+    decimal-requires
+    letter-requires
+    byte-requires
+    byte-requires-2
+    hex-four-requires
+    byte-requires-3
+    same-length
+    returns)
