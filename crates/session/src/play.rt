@@ -133,7 +133,7 @@ fn session(file: &[u8], out: &mut [u8], at: usize) -> Told
     if file.len() == 0 {
         return bad(out, at, 0, Break::Empty);
     }
-    let record = records::record_at(file, 0, true);
+    let record = records::first_record(file);
     match record.first() {
         First::Opening(sizes) => begun(sizes, file, out, at),
         First::Stop(why) => bad(out, at, 0, why),

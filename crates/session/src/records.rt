@@ -6,6 +6,7 @@ use super::Record;
 use super::Sizes;
 use super::Turn;
 ghost use mathlib.Core.Path.{_≡_};
+ghost use mathlib.Core.Bool.{true};
 ghost use Prim.Native.Nat.{_+_, _≤_};
 ghost use lib.ListN.{length};
 ghost use Rattle.session.specs.Record.{wordAt, valueAbove, fieldsTested, openingAt, writeAt, readAt, kindAt, recordAt, firstOf, turnOf};
@@ -157,6 +158,33 @@ pub fn record_at(file: &[u8], at: usize, first: bool) -> Record
         return Record::Broken(Break::Length);
     }
     kind_at(file, at, size, first)
+}
+
+// The same of the file's first record, where an opening is due: it has its own tests, so that those of the other records stand in the run's loop alone.
+pub fn first_record(file: &[u8]) -> Record
+    ensures { λ r. ⌜ r ≡ recordAt (now (file .entry)) 0 true ⌝ }
+{
+    if file.len() < 2 {
+        return Record::Broken(Break::DoesNotFit);
+    }
+    let size = word_at(file, 0);
+    if file.len() < size as usize {
+        return Record::Broken(Break::DoesNotFit);
+    }
+    if size < 4 {
+        return Record::Broken(Break::Length);
+    }
+    let kind = word_at(file, 2);
+    if kind == 1 {
+        return opening_at(file, 0, size, true);
+    }
+    if kind == 2 {
+        return Record::Broken(Break::Misplaced);
+    }
+    if kind == 3 {
+        return Record::Broken(Break::Misplaced);
+    }
+    Record::Broken(Break::Kind)
 }
 
 impl Record {

@@ -10,7 +10,7 @@ use Rattle.session.proofs.play.session.Lts as lts
 use Rattle.session.proofs.Record.first.Reads as first-reads
 use Rattle.session.proofs.play.bad.Reads as bad-reads
 use Rattle.session.proofs.play.begun.Reads as begun-reads
-use Rattle.session.proofs.records.record_at.Reads as record-at-reads
+use Rattle.session.proofs.records.first_record.Reads as first-record-reads
 
 -- src/play.rt:116:9
 bad-requires : tie.Need-bad-requires
@@ -39,8 +39,8 @@ unfolding sessionOf
 returns-2 c = simp (le-ltb _ _ (c .before .before .before .before .before .if1 .left), eq-eqb _ _ (c .before .before .before .before .if2 .taken)) (c .before .before .bad2 .ensures)
 
 -- src/play.rt:121:9
-record-at-requires : tie.Need-record-at-requires
-record-at-requires c κs = search needs
+first-record-requires : tie.Need-first-record-requires
+first-record-requires c κs = search needs
 
 -- src/play.rt:122:11
 first-requires : tie.Need-first-requires
@@ -69,7 +69,7 @@ same-length-3 c = search needs
 -- src/play.rt:112:1
 returns-3 : tie.Need-returns-3
 unfolding sessionOf
-returns-3 c = let e = sym (ap firstOf (c .before .before .before .before .before .before .before .before .record-at .ensures)) ∙ sym (c .before .before .before .before .before .before .before .first .ensures) ∙ c .before .before .before .before .before .sizes .given .1 in simp (le-ltb _ _ (c .before .before .before .before .before .before .before .before .before .before .if1 .left), ne-eqb _ _ (c .before .before .before .before .before .before .before .before .before .if2 .left), e) (c .before .before .begun .ensures)
+returns-3 c = let e = sym (ap firstOf (c .before .before .before .before .before .before .before .before .first-record .ensures)) ∙ sym (c .before .before .before .before .before .before .before .first .ensures) ∙ c .before .before .before .before .before .sizes .given .1 in simp (le-ltb _ _ (c .before .before .before .before .before .before .before .before .before .before .if1 .left), ne-eqb _ _ (c .before .before .before .before .before .before .before .before .before .if2 .left), e) (c .before .before .begun .ensures)
 
 -- src/play.rt:112:1
 same-length-4 : tie.Need-same-length-4
@@ -78,7 +78,7 @@ same-length-4 c = search needs
 -- src/play.rt:112:1
 returns-4 : tie.Need-returns-4
 unfolding sessionOf
-returns-4 c = let e = sym (ap firstOf (c .before .before .before .before .before .before .before .before .record-at .ensures)) ∙ sym (c .before .before .before .before .before .before .before .first .ensures) ∙ c .before .before .before .before .before .why .given .1 in simp (le-ltb _ _ (c .before .before .before .before .before .before .before .before .before .before .if1 .left), ne-eqb _ _ (c .before .before .before .before .before .before .before .before .before .if2 .left), e) (c .before .before .bad3 .ensures)
+returns-4 c = let e = sym (ap firstOf (c .before .before .before .before .before .before .before .before .first-record .ensures)) ∙ sym (c .before .before .before .before .before .before .before .first .ensures) ∙ c .before .before .before .before .before .why .given .1 in simp (le-ltb _ _ (c .before .before .before .before .before .before .before .before .before .before .if1 .left), ne-eqb _ _ (c .before .before .before .before .before .before .before .before .before .if2 .left), e) (c .before .before .bad3 .ensures)
 
 pub session-spec : {M : Type 1} → statement M
 session-spec =
@@ -90,7 +90,7 @@ session-spec =
     bad-requires-2
     same-length-2
     returns-2
-    record-at-requires
+    first-record-requires
     first-requires
     enum-known-sizes
     begun-requires
