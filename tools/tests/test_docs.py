@@ -1,13 +1,12 @@
 """Every command in the docs is run: each ```sh block of README.md and docs/, as one script at the root.
 
-A ```text block right after it is what it must print. /tmp is a fresh folder for each page. Those that run elsewhere are listed here with the reason, and
+A ```text block right after it is what it must print. Those that run elsewhere are listed here with the reason, and
 each is named in the output; so nothing is passed over in silence.
 """
 import glob
 import os
 import re
 import subprocess
-import tempfile
 
 # Commands that are not run here, and why.
 ELSEWHERE = {
@@ -66,18 +65,17 @@ def tree():
 def run_page(page, faults):
     """Runs the blocks of a page, in their order; gives how many there were."""
     ran = 0
-    with tempfile.TemporaryDirectory() as folder:
-        for line, script, wanted in blocks_of(page):
-            where = f"{page}:{line}"
-            script = script_of(where, script).replace("/tmp/", f"{folder}/")
-            if not script:
-                continue
-            done = subprocess.run(["bash", "-euo", "pipefail", "-c", script], stdin=subprocess.DEVNULL, capture_output=True, text=True, timeout=LONGEST, check=False)
-            ran += 1
-            if done.returncode:
-                faults.append(f"{where}: exit status {done.returncode}: {(done.stderr or done.stdout).strip()[-400:]}")
-            elif wanted is not None and done.stdout != wanted:
-                faults.append(f"{where}: it printed\n{done.stdout[-2000:]}")
+    for line, script, wanted in blocks_of(page):
+        where = f"{page}:{line}"
+        script = script_of(where, script)
+        if not script:
+            continue
+        done = subprocess.run(["bash", "-euo", "pipefail", "-c", script], stdin=subprocess.DEVNULL, capture_output=True, text=True, timeout=LONGEST, check=False)
+        ran += 1
+        if done.returncode:
+            faults.append(f"{where}: exit status {done.returncode}: {(done.stderr or done.stdout).strip()[-400:]}")
+        elif wanted is not None and done.stdout != wanted:
+            faults.append(f"{where}: it printed\n{done.stdout[-2000:]}")
     return ran
 
 
