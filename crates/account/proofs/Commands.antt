@@ -23,8 +23,6 @@ use Rattle.registers.specs.declared.State.{State}
 use Rattle.registers.specs.declared.Core.{Core}
 use Rattle.registers.specs.State.{Machine, machine, core, withCore}
 use Rattle.registers.specs.WellMade.{locatedIn, totalIn}
-use Rattle.commands.specs.declared.Command.{Command}
-use Rattle.commands.specs.declared.Command.the-variants.{Read, Write, Verify, Erase, Identify, ReadBuffer, WriteBuffer, SetGeometry, Diagnose, Recalibrate, Seek, Sense, Other}
 use Rattle.commands.specs.declared.Way.{Way}
 use Rattle.commands.specs.declared.Way.the-variants.{In, Out}
 use Rattle.commands.specs.Ends.{ended}
@@ -36,7 +34,7 @@ use Rattle.account.specs.Course.{courseOf}
 use Rattle.account.specs.Runs.{readSectors, writeSectors, verifySectors, eraseSectors}
 use Rattle.account.specs.Words.{identifyData}
 use Rattle.account.specs.Table.{asked, total, first, fromFirst, reads, writes, verifies, erases, shaped, setsGeometry, seeks, account}
-use Rattle.account.specs.Host.{plainOf, plainIn, Notes, None, blank, wayOf}
+use Rattle.account.specs.Host.{plainOf, plainIn, Notes, None, blank}
 use Rattle.account.proofs.Seats.{Shaped}
 use Rattle.account.proofs.Tried.{endingOf, ended-ends}
 use Rattle.account.proofs.Stored.{Lent}

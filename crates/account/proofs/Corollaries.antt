@@ -18,11 +18,13 @@ use Rattle.card.specs.declared.Meaning.the-variants.{WriteRegister}
 use Rattle.card.specs.Access.{Access, meaning}
 use Rattle.card.specs.Step.{Stepped, step}
 use Rattle.account.specs.Plain.{Plain, Ending, Well, NotFound, Unreadable, WriteFault, Aborted, ends, starts, Account, silent}
+use Rattle.account.specs.Rows.{Row, Reads, Writes, Verifies, Erases, Identifies, ReadsBuffer, WritesBuffer, SetsGeometry, Diagnoses, Recalibrates, Seeks, Senses, Others, rowOf}
 use Rattle.account.specs.Course.{Course, courseOf}
 use Rattle.account.specs.Runs.{Run, readRun, runEnds, readSectors}
 use Rattle.account.specs.Table.{asked, first, fromFirst, reads, account}
 use Rattle.account.specs.Host.{plainOf, blank, wayOf, asks, Moves, Hosted, hosted}
 use Rattle.account.specs.Claim.{Typed, Agrees}
+use Rattle.account.proofs.SameRow.{rowFor, same-row}
 use Rattle.account.proofs.Settled.{verify-settled, erase-idle}
 use Rattle.account.proofs.Commands.{set-idle}
 use Rattle.account.proofs.Accepted.{given, neither}
@@ -36,7 +38,7 @@ pub record Command-write (m : Machine) (a : Access) (v : ℕ) : Type 0 where
 
 -- the host after it
 abbrev pub after : Machine → Access → ℕ → List Access → Hosted
-after m a v l = hosted (wayOf (commandOf v)) (step m a .next) blank l
+after m a v l = hosted (wayOf (rowOf v)) (step m a .next) blank l
 
 -- Two hosts that move the same data end the same, whatever the order and the map.
 pub same-data-same-end : (m : Machine) (a : Access) (v : ℕ) (l k : List Access) → Command-write m a v → Moves (step m a .next) l → Moves (step m a .next) k →
@@ -44,25 +46,25 @@ pub same-data-same-end : (m : Machine) (a : Access) (v : ℕ) (l k : List Access
 same-data-same-end m a v l k w x y e =
     let p = as-the-account m a v l (w .accepted) (w .free) (w .typed) x in
     let q = as-the-account m a v k (w .accepted) (w .free) (w .typed) y in
-    ap (λ (z : Account). z .left) (sym (p .account) ∙ ap (account (commandOf v) (plainOf m)) e ∙ q .account)
+    ap (λ (z : Account). z .left) (sym (p .account) ∙ ap (account (rowOf v) (plainOf m)) e ∙ q .account)
 
--- A command without data needs no host.
-abbrev pub dataless : Command → Bool
-dataless Read = false
-dataless Write = false
-dataless Verify = true
-dataless Erase = true
-dataless Identify = false
-dataless ReadBuffer = false
-dataless WriteBuffer = false
-dataless SetGeometry = true
-dataless Diagnose = true
-dataless Recalibrate = true
-dataless Seek = true
-dataless Sense = true
-dataless Other = true
+-- A row without data needs no host.
+abbrev pub dataless : Row → Bool
+dataless Reads = false
+dataless Writes = false
+dataless Verifies = true
+dataless Erases = true
+dataless Identifies = false
+dataless ReadsBuffer = false
+dataless WritesBuffer = false
+dataless SetsGeometry = true
+dataless Diagnoses = true
+dataless Recalibrates = true
+dataless Seeks = true
+dataless Senses = true
+dataless Others = true
 
-over-at-once : (k : Command) (s : State) (m : Machine) → dataless k ≡ true → obeyed k s m .phase ≡ Idle
+over-at-once : (k : Command) (s : State) (m : Machine) → dataless (rowFor k) ≡ true → obeyed k s m .phase ≡ Idle
 over-at-once Read s m e = absurd (false≢true e)
 over-at-once Write s m e = absurd (false≢true e)
 over-at-once Verify s m e = verify-settled (countOf s) s (m .marks) .0
@@ -77,11 +79,11 @@ over-at-once Seek s m e = refl
 over-at-once Sense s m e = refl
 over-at-once Other s m e = refl
 
-asks-not : (v : ℕ) (m : Machine) → dataless (commandOf v) ≡ true → asks (commandGiven v m) ≡ false
+asks-not : (v : ℕ) (m : Machine) → dataless (rowOf v) ≡ true → asks (commandGiven v m) ≡ false
 unfolding commandGiven
-asks-not v m e = rw (over-at-once (commandOf v) (started (quiet m .state)) (quiet m) e)
+asks-not v m e = rw (over-at-once (commandOf v) (started (quiet m .state)) (quiet m) (ap dataless (sym (same-row v)) ∙ e))
 
-pub no-host-needed : (m : Machine) (a : Access) (v : ℕ) → Command-write m a v → dataless (commandOf v) ≡ true → Moves (step m a .next) []
+pub no-host-needed : (m : Machine) (a : Access) (v : ℕ) → Command-write m a v → dataless (rowOf v) ≡ true → Moves (step m a .next) []
 no-host-needed m a v w e =
     let f : m .state .control .held ≡ false = unfold heldIn in neither (sresetIn (m .state .option)) (m .state .control .held) (w .free) .1 in
     subst (λ (x : Machine). asks x ≡ false) (sym (command-given m a v (w .accepted) f)) (asks-not v (withState (m .state) m) e)
@@ -104,14 +106,14 @@ read-untouched Located.BadHeadOrSector n p = (refl, refl)
 read-untouched Located.BadCylinder n p = (refl, refl)
 read-untouched Located.BadLba n p = (refl, refl)
 
-reads-untouched : (p : Plain) (d : List ℕ) → Untouched p (account Read p d .left)
+reads-untouched : (p : Plain) (d : List ℕ) → Untouched p (account Reads p d .left)
 unfolding account
 reads-untouched p d = read-untouched (first (starts p)) (asked (p .registers .count)) (starts p)
 
-pub read-changes-no-sector : (m : Machine) (a : Access) (v : ℕ) (l : List Access) → Command-write m a v → commandOf v ≡ Read → Moves (step m a .next) l →
+pub read-changes-no-sector : (m : Machine) (a : Access) (v : ℕ) (l : List Access) → Command-write m a v → rowOf v ≡ Reads → Moves (step m a .next) l →
     (after m a v l .machine .store ≡ m .store) × (after m a v l .machine .marks ≡ m .marks)
 read-changes-no-sector m a v l w e x =
     let p = as-the-account m a v l (w .accepted) (w .free) (w .typed) x in
-    let u = ap (λ (k : Command). account k (plainOf m) (after m a v l .notes .done)) e in
+    let u = ap (λ (r : Row). account r (plainOf m) (after m a v l .notes .done)) e in
     let z = reads-untouched (plainOf m) (after m a v l .notes .done) in
     (ap (λ (y : Account). y .left .store) (sym (p .account) ∙ u) ∙ z .0, ap (λ (y : Account). y .left .marks) (sym (p .account) ∙ u) ∙ z .1)

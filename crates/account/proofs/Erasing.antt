@@ -10,7 +10,7 @@ use Rattle.sectors.specs.Sectors.{Kept, kept, stored}
 use Rattle.registers.specs.declared.State.{State}
 use Rattle.commands.specs.declared.End.{End}
 use Rattle.commands.specs.declared.Tested.{Tested}
-use Rattle.commands.specs.declared.Tested.the-variants.{Sound, Fails}
+use Rattle.commands.specs.declared.Tested.the-variants.{Passes, Fails}
 use Rattle.commands.specs.Before.{storeTest, StoreTested, storedBy, sectorStored}
 use Rattle.commands.specs.Steps.{passed}
 use Rattle.commands.specs.Runs.{goesOn, eraseFrom, Erased, erased, blank}

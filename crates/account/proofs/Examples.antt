@@ -20,7 +20,8 @@ use Rattle.maps.specs.Places.{misfits, byteAt, tupleAt, aboveThree, optionAt, a
 use Rattle.maps.specs.Maps.{standsAt}
 use Rattle.sectors.specs.Marks.{readable, writable, marksFit}
 use Rattle.sectors.specs.Sectors.{sectorOf, withSector, bufferRead, stored}
-use Rattle.registers.specs.WellMade.{indexFits, sresetFits, atRest, statusFits, heldIn, holdFits, wordsFit, found, sectorsFit, loadFits, runFits, wellMade}
+use Rattle.registers.specs.WellMade.{indexFits, sresetFits, atRest, statusFits, heldIn, holdFits, wordsFit, sectorsFit, loadFits, runFits, wellMade}
+use Rattle.geometry.specs.Codes.{found}
 use Rattle.registers.specs.Resets.{turnOf, optionTurned, bufferTurned, controlTurned}
 use Rattle.registers.specs.Values.{valueRead, afterRead, registerSet}
 use Rattle.commands.specs.Before.{addressTest, readTest, storeTest, sectorStored}
@@ -31,7 +32,8 @@ use Rattle.commands.specs.Table.{commandOf, countOf, commandGiven}
 use Rattle.card.specs.Access.{Access, heldAway, decided, meaning}
 use Rattle.card.specs.Perform.{optionWritten, plainCore, registerWritten, perform}
 use Rattle.card.specs.Step.{Stepped, step}
-use Rattle.card.specs.Opening.{zeros, opened}
+use Rattle.card.specs.Opening.{opened}
+use Rattle.registers.specs.PowerOn.{zeros}
 use Rattle.commands.specs.declared.Way.the-variants.{Out}
 use Rattle.account.specs.Host.{calm, asks, Moves, blank, note, Notes, Hosted, hosted}
 
@@ -82,7 +84,7 @@ two-maps = times 128 (writes 2 1 0x009 0x22 ∷ writes 2 1 0x008 0x11 ∷ []) ++
 
 computed : (moves ready two-maps ≡ true) × (getD (hosted Out ready blank two-maps .machine .buffer) 1 0 ≡ 0x22)
     × (getD (hosted Out ready blank two-maps .machine .buffer) 0 0 ≡ 0x11) × (getD (hosted Out ready blank two-maps .machine .buffer) 511 0 ≡ 0x44)
-unfolding moves two card writes after times ready two-maps hosted note step meaning decided heldAway answersAt cardAnswers standsAt attributeAt optionAt aboveThree tupleAt byteAt misfits registerAt placeAt portAt namedAt evenData offsetAt memoryAt ioAt windowAt within wellMade runFits loadFits sectorsFit found wordsFit holdFits heldIn statusFits atRest sresetFits indexFits every fits totalOf currentFor locate locateChs locateLba byLba nextOf nextChs perform optionWritten registerWritten plainCore valueRead afterRead registerSet turnOf optionTurned bufferTurned controlTurned dataRead dataWritten wordRead wordWritten takeOf readSector nextRead askSector nextAsked passed readTest storeTest addressTest sectorStored stored withSector sectorOf bufferRead readable writable marksFit countOf commandOf commandGiven opened zeros
+unfolding moves two card writes after times ready two-maps hosted note step meaning decided heldAway answersAt cardAnswers standsAt attributeAt optionAt aboveThree tupleAt byteAt misfits registerAt placeAt portAt namedAt evenData offsetAt memoryAt ioAt windowAt within wellMade runFits loadFits sectorsFit wordsFit holdFits heldIn statusFits atRest sresetFits indexFits every fits totalOf currentFor locate locateChs locateLba byLba nextOf nextChs perform optionWritten registerWritten plainCore valueRead afterRead registerSet turnOf optionTurned bufferTurned controlTurned dataRead dataWritten wordRead wordWritten takeOf readSector nextRead askSector nextAsked passed readTest storeTest addressTest sectorStored stored withSector sectorOf bufferRead readable writable marksFit countOf commandOf commandGiven opened zeros
 computed = (refl, refl, refl, refl)
 
 pub two-maps-moves : Moves ready two-maps
@@ -97,7 +99,7 @@ words = times 512 (writes 1 2 0x000 0x4433 ∷ [])
 
 faulted : (moves asked words ≡ true) × (hosted Out asked blank words .machine .state .registers .status ≡ 0x71) × (hosted Out asked blank words .machine .state .registers .count ≡ 1)
     × (getD (hosted Out asked blank words .machine .store) 511 0 ≡ 0x44) × (getD (hosted Out asked blank words .machine .store) 512 0 ≡ 0)
-unfolding moves two card writes after times asked words hosted note step meaning decided heldAway answersAt cardAnswers standsAt attributeAt optionAt aboveThree tupleAt byteAt misfits registerAt placeAt portAt namedAt evenData offsetAt memoryAt ioAt windowAt within wellMade runFits loadFits sectorsFit found wordsFit holdFits heldIn statusFits atRest sresetFits indexFits every fits totalOf currentFor locate locateChs locateLba byLba nextOf nextChs perform optionWritten registerWritten plainCore valueRead afterRead registerSet turnOf optionTurned bufferTurned controlTurned dataRead dataWritten wordRead wordWritten takeOf readSector nextRead askSector nextAsked passed readTest storeTest addressTest sectorStored stored withSector sectorOf bufferRead readable writable marksFit countOf commandOf commandGiven opened zeros
+unfolding moves two card writes after times asked words hosted note step meaning decided heldAway answersAt cardAnswers standsAt attributeAt optionAt aboveThree tupleAt byteAt misfits registerAt placeAt portAt namedAt evenData offsetAt memoryAt ioAt windowAt within wellMade runFits loadFits sectorsFit wordsFit holdFits heldIn statusFits atRest sresetFits indexFits every fits totalOf currentFor locate locateChs locateLba byLba nextOf nextChs perform optionWritten registerWritten plainCore valueRead afterRead registerSet turnOf optionTurned bufferTurned controlTurned dataRead dataWritten wordRead wordWritten takeOf readSector nextRead askSector nextAsked passed readTest storeTest addressTest sectorStored stored withSector sectorOf bufferRead readable writable marksFit countOf commandOf commandGiven opened zeros
 faulted = (refl, refl, refl, refl, refl)
 
 pub fault-moves : Moves asked words

@@ -1,39 +1,37 @@
 -- Every command, once given, stands in the relation that accesses keep.
-use Prim.Native.Nat.{ℕ, _*_, _+_, _%_, _≤_, _<_}
-use mathlib.Core.Bool.{true}
-use mathlib.Core.Path.{_≡_, refl, sym, ap, _∙_}
-use mathlib.Core.List.{List, []}
+use Prim.Native.Nat.{ℕ}
+use mathlib.Core.Path.{_≡_, refl, sym, ap, _∙_, subst}
+use mathlib.Core.List.{List}
 use native.Mathlib.Omega.{arith}
-use lib.ListN.{length}
 use Rattle.geometry.specs.Limits.{totalOf}
 use Rattle.geometry.specs.Address.{seek}
 use Rattle.geometry.specs.Shape.{reshaped}
 use Rattle.geometry.proofs.Shapes.{after-current}
 use Rattle.identify.specs.Words.{identifyBytes}
 use Rattle.identify.proofs.Made.{identify-length}
-use Rattle.registers.specs.declared.State.{State}
 use Rattle.registers.specs.State.{Machine, core}
 use Rattle.registers.specs.WellMade.{totalIn}
 use Rattle.commands.specs.declared.Command.{Command}
 use Rattle.commands.specs.declared.Command.the-variants.{Read, Write, Verify, Erase, Identify, ReadBuffer, WriteBuffer, SetGeometry, Diagnose, Recalibrate, Seek, Sense, Other}
 use Rattle.commands.specs.declared.End.{End}
 use Rattle.commands.specs.declared.Way.the-variants.{In, Out}
-use Rattle.commands.specs.Ends.{ended}
 use Rattle.commands.specs.Steps.{withState}
 use Rattle.commands.specs.Runs.{verifyFrom, eraseFrom}
-use Rattle.commands.specs.Table.{started, countOf, factsOf, diagnosed, geometrySet, soughtEnd, obeyed}
-use Rattle.account.specs.Plain.{Plain, starts, ends, Ending, Account, silent}
+use Rattle.commands.specs.Table.{commandOf, started, countOf, factsOf, geometrySet, soughtEnd, obeyed}
+use Rattle.account.specs.Plain.{withBuffer, starts, ends, Ending, Well, silent, moving}
+use Rattle.account.specs.Rows.{Row, rowOf}
 use Rattle.account.specs.Words.{identifyData}
-use Rattle.account.specs.Table.{account}
-use Rattle.account.specs.Host.{plainOf, plainIn, blank, wayOf}
-use Rattle.account.proofs.Tried.{ended-ends}
+use Rattle.account.specs.Table.{diagnoses, account}
+use Rattle.account.specs.Host.{plainOf, blank, wayOf}
+use Rattle.account.proofs.SameRow.{rowFor, same-row}
 use Rattle.account.proofs.Settled.{verify-settled, erase-settled}
 use Rattle.account.proofs.Identifying.{identify-is, identify-bytes}
-use Rattle.account.proofs.Rest.{Bytes, restAt, doneIn, doneOut, Ground, Rel}
+use Rattle.account.proofs.Rest.{restAt, Rel}
 use Rattle.account.proofs.Commands.{Given, outward, over, settled-ground, read-all, read-all-held, write-all, write-all-held, verify-all, erase-all, set-is, set-idle, set-ground, seek-is}
+use Rattle.account.proofs.StartsEnds.{started-starts, starts-ends, diagnosed-is, sensed-is, buffer-read, buffer-written}
 
-pub begins : (k : Command) (m : Machine) → Given m → Rel (wayOf k) (account k (plainOf m)) (obeyed k (started (m .state)) m) blank
-unfolding account restAt doneIn doneOut
+pub begins : (k : Command) (m : Machine) → Given m → Rel (wayOf (rowFor k)) (account (rowFor k) (plainOf m)) (obeyed k (started (m .state)) m) blank
+unfolding account restAt
 begins Read m h =
     let x = withState (started (m .state)) m in
     let z = read-all-held x (h .0) (h .1) in
@@ -58,26 +56,40 @@ begins Erase m h =
 begins Identify m h =
     let e : identifyBytes (factsOf (started (m .state))) ≡ identifyData (plainOf m) = identify-is (m .state) (m .buffer) (m .store) (m .marks) (h .0 .0 .1) in
     record {
-      account = λ d. rw e;
+      account = λ d.
+          ap (λ (l : List ℕ). moving l (silent (ends Well (withBuffer l (starts (plainOf m)))))) (sym e)
+          ∙ buffer-read (m .state) (identifyBytes (factsOf (started (m .state)))) (m .store) (m .marks) d;
       ground = h .0;
       held = (omega arith, identify-length (factsOf (started (m .state))), rw e (identify-bytes (plainOf m) (h .4) (h .5) (h .6) (h .7) (h .8) (h .9)), tt, tt);
     }
-begins ReadBuffer m h = record { account = λ d. refl; ground = h .0; held = (omega arith, h .2, h .3, tt, tt) }
-begins WriteBuffer m h = record { account = λ d. refl; ground = outward m (h .0); held = (omega arith, h .2, tt, tt, tt) }
+begins ReadBuffer m h = record { account = buffer-read (m .state) (m .buffer) (m .store) (m .marks); ground = h .0; held = (omega arith, h .2, h .3, tt, tt) }
+begins WriteBuffer m h = record { account = buffer-written (m .state) (m .buffer) (m .store) (m .marks); ground = outward m (h .0); held = (omega arith, h .2, tt, tt, tt) }
 begins SetGeometry m h =
     let s = started (m .state) in
     let r = reshaped (s .registers .count) (s .registers .address .head) (totalIn s) in
     over _ In (geometrySet r s) (m .buffer) (m .store) (m .marks) (set-idle r s)
     (set-ground r s (m .buffer) (m .store) (m .marks) (after-current (s .registers .count) (s .registers .address .head) (totalIn s) r (s .current) (h .1 .0) refl (h .0 .0 .0)) (h .0))
     (λ d. ap silent (set-is s (m .buffer) (m .store) (m .marks) (h .0 .0)))
-begins Diagnose m h = record { account = λ d. refl; ground = h .0; held = tt }
-begins Recalibrate m h = record { account = λ d. refl; ground = h .0; held = tt }
-begins Seek m h =
-    let s = started (m .state) in
+begins Diagnose m h =
     record {
-      account = λ d. ap silent (ap (λ (e : Ending). ends e (starts (plainOf m))) (seek-is (m .state) (m .buffer) (m .store) (m .marks) (h .0 .0)) ∙ sym (ended-ends (soughtEnd (seek (s .registers .address) (s .current) (totalIn s))) true s (m .buffer) (m .store) (m .marks)));
+      account = λ d. ap silent (ap diagnoses (sym (started-starts (m .state) (m .buffer) (m .store) (m .marks))) ∙ sym (diagnosed-is (started (m .state)) (m .buffer) (m .store) (m .marks)));
       ground = h .0;
       held = tt;
     }
-begins Sense m h = record { account = λ d. refl; ground = h .0; held = tt }
-begins Other m h = record { account = λ d. refl; ground = h .0; held = tt }
+begins Recalibrate m h = record { account = λ d. ap silent (sym (starts-ends End.Good (m .state) (m .buffer) (m .store) (m .marks))); ground = h .0; held = tt }
+begins Seek m h =
+    let s = started (m .state) in
+    record {
+      account = λ d.
+          ap silent
+          (ap (λ (e : Ending). ends e (starts (plainOf m))) (seek-is (m .state) (m .buffer) (m .store) (m .marks) (h .0 .0))
+          ∙ sym (starts-ends (soughtEnd (seek (s .registers .address) (s .current) (totalIn s))) (m .state) (m .buffer) (m .store) (m .marks)));
+      ground = h .0;
+      held = tt;
+    }
+begins Sense m h = record { account = λ d. ap silent (sym (sensed-is (m .state) (m .buffer) (m .store) (m .marks))); ground = h .0; held = tt }
+begins Other m h = record { account = λ d. ap silent (sym (starts-ends End.NoSuchCommand (m .state) (m .buffer) (m .store) (m .marks))); ground = h .0; held = tt }
+
+-- by the account's own row of the code
+pub begins-row : (v : ℕ) (m : Machine) → Given m → Rel (wayOf (rowOf v)) (account (rowOf v) (plainOf m)) (obeyed (commandOf v) (started (m .state)) m) blank
+begins-row v m h = subst (λ (r : Row). Rel (wayOf r) (account r (plainOf m)) (obeyed (commandOf v) (started (m .state)) m) blank) (sym (same-row v)) (begins (commandOf v) m h)

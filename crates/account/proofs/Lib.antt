@@ -1,3 +1,4 @@
+pub mod SameRow
 pub mod Names
 pub mod Seats
 pub mod Tried
@@ -17,6 +18,7 @@ pub mod Settled
 pub mod Identifying
 pub mod Begins
 pub mod Commands
+pub mod StartsEnds
 pub mod Given
 pub mod Accepted
 pub mod Theorem

@@ -22,7 +22,7 @@ use Rattle.commands.specs.declared.Way.the-variants.{In, Out}
 use Rattle.port.specs.Halves.{takeOf, partWritten}
 use Rattle.port.specs.Data.{Effect, accepted, phaseRead, phaseWritten, takenRead, takenWritten, wordRead, wordWritten}
 use Rattle.commands.specs.Steps.{withState}
-use Rattle.commands.specs.Table.{commandOf, commandGiven, quiet}
+use Rattle.commands.specs.Table.{commandGiven, quiet}
 use Rattle.card.specs.declared.Meaning.{Meaning}
 use Rattle.card.specs.declared.Meaning.the-variants.{ReadData, WriteData, WriteRegister}
 use Rattle.card.specs.Access.{Access, meaning}
@@ -31,13 +31,14 @@ use Rattle.card.specs.Step.{Stepped, step}
 use Rattle.kept.specs.Sound.{Sound}
 use Rattle.kept.proofs.Step.{sound-stepped}
 use Rattle.account.specs.Plain.{Plain, Account}
+use Rattle.account.specs.Rows.{rowOf}
 use Rattle.account.specs.Table.{account}
 use Rattle.account.specs.Host.{plainOf, Waiting, None, LowByte, HighByte, Notes, blank, note, noteRead, noteWritten, wayOf, calm, asks, Moves}
 use Rattle.account.specs.Claim.{Typed}
 use Rattle.account.specs.Live.{wordOf, WordsOnly}
 use Rattle.account.proofs.Rest.{Rel, Running, Held, Pending, bare}
 use Rattle.account.proofs.Keeps.{keeps, free-read, free-written}
-use Rattle.account.proofs.Given.{begins}
+use Rattle.account.proofs.Given.{begins-row}
 use Rattle.account.proofs.Accepted.{given, neither, lent-facts}
 use Rattle.account.proofs.Theorem.{command-given}
 use Rattle.account.proofs.WordMeans.{moving, word-means, width-two}
@@ -67,11 +68,11 @@ more m write s h k c f =
     (a ∷ z .0, (width-two (m .state .made .mode) (indexIn (m .state .option)) write, z .1), (k, rw e c, subst (λ (y : Meaning). Moves (perform y m .next) (z .0)) (sym e) (z .2)))
 
 -- a word read, a word written
-read-is : (t : Transfer) (m : Machine) → m .state .control .held ≡ false → m .phase ≡ DataIn t → t .half ≡ Half.Nothing → perform (ReadData Port.Word) m ≡ takenRead (Take.Last Part.Both) t m
+read-is : (t : Transfer) (m : Machine) → m .state .control .held ≡ false → m .phase ≡ DataIn t → t .half ≡ Half.Nothing → perform (ReadData Port.Word) m ≡ takenRead (Take.Moves Part.Both true) t m
 unfolding perform takeOf
 read-is t m h e f = free-read (λ d. record { moved = d; left = plainOf m }) Port.Word m h ∙ (rw (e, f))
 
-written-is : (t : Transfer) (m : Machine) → m .state .control .held ≡ false → m .phase ≡ DataOut t → t .half ≡ Half.Nothing → perform (WriteData Port.Word 0) m ≡ takenWritten (Take.Last Part.Both) 0 t m
+written-is : (t : Transfer) (m : Machine) → m .state .control .held ≡ false → m .phase ≡ DataOut t → t .half ≡ Half.Nothing → perform (WriteData Port.Word 0) m ≡ takenWritten (Take.Moves Part.Both true) 0 t m
 unfolding perform takeOf
 written-is t m h e f = free-written (λ d. record { moved = d; left = plainOf m }) Port.Word 0 m h ∙ (rw (e, f))
 
@@ -138,8 +139,8 @@ given-ends : (m : Machine) (a : Access) (v : ℕ) → meaning m a ≡ WriteRegis
     Ends (commandGiven v (withState (m .state) m))
 unfolding commandGiven
 given-ends m a v e h t s =
-    ends (size (commandGiven v (withState (m .state) m) .phase)) (account (commandOf v) (plainOf m)) (wayOf (commandOf v)) (commandGiven v (withState (m .state) m)) blank s
-    (begins (commandOf v) (quiet (withState (m .state) m)) (given m a StatusCommand v e h t)) refl (le-refl _)
+    ends (size (commandGiven v (withState (m .state) m) .phase)) (account (rowOf v) (plainOf m)) (wayOf (rowOf v)) (commandGiven v (withState (m .state) m)) blank s
+    (begins-row v (quiet (withState (m .state) m)) (given m a StatusCommand v e h t)) refl (le-refl _)
 
 -- For every Command write that a card in neither reset accepts there is a list of words that meets the theorem's hypotheses.
 pub not-empty : (m : Machine) (a : Access) (v : ℕ) → meaning m a ≡ WriteRegister StatusCommand v → heldIn (m .state) ≡ false → Typed m → Ends (step m a .next)

@@ -10,13 +10,11 @@ use Rattle.geometry.specs.Limits.{totalOf}
 use Rattle.maps.specs.declared.Register.the-variants.{StatusCommand}
 use Rattle.registers.specs.State.{Machine}
 use Rattle.registers.specs.WellMade.{locatedIn}
-use Rattle.commands.specs.declared.Command.{Command}
-use Rattle.commands.specs.declared.Command.the-variants.{Write, Erase}
 use Rattle.commands.specs.declared.Way.the-variants.{In}
-use Rattle.commands.specs.Table.{commandOf}
 use Rattle.card.specs.Access.{Access}
 use Rattle.card.specs.Step.{Stepped, step}
 use Rattle.account.specs.Plain.{Plain, sectorsOf, starts, Ending, WriteFault, ends, Account, silent}
+use Rattle.account.specs.Rows.{Row, Writes, Erases, rowOf}
 use Rattle.account.specs.Course.{Course, courseOf}
 use Rattle.account.specs.Runs.{Run, tests, unwritable, writeRun, writeSectors, eraseSectors}
 use Rattle.account.specs.Table.{asked, first, fromFirst, account}
@@ -88,7 +86,7 @@ first-inside m i g e = seat-room (m .state) i (g .0) (first-is m (g .0) ∙ e)
 
 writes-named : (m : Machine) (done : List ℕ) → Ground In m →
     let n = asked (m .state .registers .count) in
-    Kept (first (plainOf m)) n (plainOf m) (account Write (plainOf m) (done ++ replicate (512 * n) 0) .left)
+    Kept (first (plainOf m)) n (plainOf m) (account Writes (plainOf m) (done ++ replicate (512 * n) 0) .left)
 unfolding account
 writes-named m done g =
     let n = asked (m .state .registers .count) in
@@ -100,27 +98,27 @@ writes-named m done g =
     let z = first-inside m i g e in
     (omega arith, omega arith))
 
-erases-named : (m : Machine) (d : List ℕ) → Ground In m → Kept (first (plainOf m)) (asked (m .state .registers .count)) (plainOf m) (account Erase (plainOf m) d .left)
+erases-named : (m : Machine) (d : List ℕ) → Ground In m → Kept (first (plainOf m)) (asked (m .state .registers .count)) (plainOf m) (account Erases (plainOf m) d .left)
 unfolding account
 erases-named m d g =
     erase-named (asked (m .state .registers .count)) (totalOf (m .state .made .default)) (starts (plainOf m)) (g .1 .0) (room-total (courseIn (m .state)) (m .state) (g .0) refl) (first (plainOf m))
     (λ i e. let z = first-inside m i g e in omega arith)
 
-pub write-changes-only-named : (m : Machine) (a : Access) (v : ℕ) (l : List Access) → Command-write m a v → commandOf v ≡ Write → Moves (step m a .next) l →
+pub write-changes-only-named : (m : Machine) (a : Access) (v : ℕ) (l : List Access) → Command-write m a v → rowOf v ≡ Writes → Moves (step m a .next) l →
     Kept (first (plainOf m)) (asked (m .state .registers .count)) (plainOf m) (plainOf (after m a v l .machine))
 write-changes-only-named m a v l w e x =
     let g = given m a StatusCommand v (w .accepted) (w .free) (w .typed) .0 in
     let n = asked (m .state .registers .count) in
     let done = after m a v l .notes .done in
     let p = as-the-account m a v l (w .accepted) (w .free) (w .typed) x .enough (replicate (512 * n) 0) in
-    let u = ap (λ (k : Command). account k (plainOf m) (done ++ replicate (512 * n) 0)) e in
+    let u = ap (λ (r : Row). account r (plainOf m) (done ++ replicate (512 * n) 0)) e in
     subst (λ (q : Account). Kept (first (plainOf m)) n (plainOf m) (q .left)) (sym u ∙ p) (writes-named m done g)
 
-pub erase-changes-only-named : (m : Machine) (a : Access) (v : ℕ) (l : List Access) → Command-write m a v → commandOf v ≡ Erase → Moves (step m a .next) l →
+pub erase-changes-only-named : (m : Machine) (a : Access) (v : ℕ) (l : List Access) → Command-write m a v → rowOf v ≡ Erases → Moves (step m a .next) l →
     Kept (first (plainOf m)) (asked (m .state .registers .count)) (plainOf m) (plainOf (after m a v l .machine))
 erase-changes-only-named m a v l w e x =
     let g = given m a StatusCommand v (w .accepted) (w .free) (w .typed) .0 in
     let done = after m a v l .notes .done in
     let p = as-the-account m a v l (w .accepted) (w .free) (w .typed) x .account in
-    let u = ap (λ (k : Command). account k (plainOf m) done) e in
+    let u = ap (λ (r : Row). account r (plainOf m) done) e in
     subst (λ (q : Account). Kept (first (plainOf m)) (asked (m .state .registers .count)) (plainOf m) (q .left)) (sym u ∙ p) (erases-named m done g)

@@ -123,7 +123,7 @@ pub record Rel (way : Way) (plain : List ℕ → Account) (m : Machine) (q : Not
   pub held : Held way (m .phase) (plainOf m) (q .waiting)
 
 -- Status in a transfer is 58H, which no end keeps
-ends-status : (e : Ending) (v : ℕ) (p : Plain) → ends e (withStatus v p) ≡ ends e p
+pub ends-status : (e : Ending) (v : ℕ) (p : Plain) → ends e (withStatus v p) ≡ ends e p
 ends-status Well v p = refl
 ends-status (NotFound code) v p = refl
 ends-status Unreadable v p = refl

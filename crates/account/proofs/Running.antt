@@ -7,13 +7,13 @@ use Rattle.maps.specs.declared.Register.the-variants.{StatusCommand}
 use Rattle.registers.specs.State.{Machine}
 use Rattle.registers.specs.WellMade.{heldIn}
 use Rattle.commands.specs.declared.Way.{Way}
-use Rattle.commands.specs.Table.{commandOf}
 use Rattle.card.specs.declared.Card.{Card}
 use Rattle.card.specs.declared.Answer.{Answer}
 use Rattle.card.specs.declared.Meaning.the-variants.{WriteRegister}
 use Rattle.card.specs.Access.{Access, meaning}
 use Rattle.card.specs.Step.{Stepped, step}
 use Rattle.card.specs.Doors.{machineOf, answered}
+use Rattle.account.specs.Rows.{rowOf}
 use Rattle.account.specs.Table.{account}
 use Rattle.account.specs.Host.{plainOf, Notes, blank, note, wayOf, Moves, Hosted, hosted}
 use Rattle.account.specs.Claim.{Typed, Agrees}
@@ -43,11 +43,11 @@ pub code-as-the-account : (c : Card) (store marks : List ℕ) (a : Access) (v : 
     Typed (machineOf c store marks) →
     Moves (step (machineOf c store marks) a .next) l →
     Called c store marks (a ∷ l) k →
-    let done = hosted (wayOf (commandOf v)) (step (machineOf c store marks) a .next) blank l .notes .done in
-    account (commandOf v) (plainOf (machineOf c store marks)) done ≡ record { moved = done; left = plainOf k }
+    let done = hosted (wayOf (rowOf v)) (step (machineOf c store marks) a .next) blank l .notes .done in
+    account (rowOf v) (plainOf (machineOf c store marks)) done ≡ record { moved = done; left = plainOf k }
 code-as-the-account c store marks a v l k e h t x z =
     let m = machineOf c store marks in
-    let way = wayOf (commandOf v) in
+    let way = wayOf (rowOf v) in
     let w : hosted way (step m a .next) blank l .machine ≡ k =
     ap (λ (s : Stepped). hosted way (s .next) blank l .machine) (sym (z .3)) ∙ called-is l (z .0 .card) (z .1) (z .2) k way blank (z .4) in
     as-the-account m a v l e h t x .account ∙ ap (λ (y : Machine). record { moved = hosted way (step m a .next) blank l .notes .done; left = plainOf y }) w

@@ -16,7 +16,7 @@ use Rattle.registers.specs.declared.Core.{Core}
 use Rattle.registers.specs.State.{withCount, withAddress}
 use Rattle.geometry.specs.Next.{nextOf}
 use Rattle.commands.specs.declared.Tested.{Tested}
-use Rattle.commands.specs.declared.Tested.the-variants.{Sound, Fails}
+use Rattle.commands.specs.declared.Tested.the-variants.{Passes, Fails}
 use Rattle.commands.specs.Before.{readTest, storeTest, StoreTested, storedBy, sectorStored}
 use Rattle.commands.specs.Steps.{passed}
 use Rattle.commands.specs.Runs.{goesOn, verifyFrom, eraseFrom, Erased, erased, blank}
@@ -41,7 +41,7 @@ settled-on : (n : ℕ) (s : State) (k : Core) → Settled (passed n s) k → Set
 settled-on n s k h = let p = passed-same n s in (h .0, h .1 ∙ p .0, h .2 ∙ p .1, h .3 ∙ p .2, h .4 ∙ p .3)
 
 verify-by : (x : Tested) (s : State) (k : Core) → Settled s k → Settled s (goesOn x (λ y. y) s k)
-verify-by (Sound spot) s k h = h
+verify-by (Passes spot) s k h = h
 verify-by (Fails e) s k h = (refl, refl, refl, refl, refl)
 
 pub verify-settled : (n : ℕ) (s : State) (marks : List ℕ) → Settled s (verifyFrom n s marks)
@@ -65,12 +65,12 @@ stored-by false n i store marks bytes e f l = rw (outside n i store marks bytes 
 
 tested-lent : (x : Tested) (n : ℕ) (store marks : List ℕ) → Lent n store marks → Lent n (storedBy x blank store marks .store) (storedBy x blank store marks .marks)
 unfolding blank
-tested-lent (Sound spot) n store marks l = stored-by (ltb (spot .index) n) n (spot .index) store marks (replicate 512 0xFF) refl refl l
+tested-lent (Passes spot) n store marks l = stored-by (ltb (spot .index) n) n (spot .index) store marks (replicate 512 0xFF) refl refl l
 tested-lent (Fails e) n store marks l = l
 
 erase-by : (x : Tested) (n : ℕ) (s : State) (store marks : List ℕ) (k : Erased) → Lent n store marks → Settled s (k .core) × Lent n (k .store) (k .marks) →
     Settled s (goesOn x (λ c. erased c store marks) s k .core) × Lent n (goesOn x (λ c. erased c store marks) s k .store) (goesOn x (λ c. erased c store marks) s k .marks)
-erase-by (Sound spot) n s store marks k l h = h
+erase-by (Passes spot) n s store marks k l h = h
 erase-by (Fails e) n s store marks k l h = ((refl, refl, refl, refl, refl), l)
 
 pub erase-settled : (r n : ℕ) (s : State) (store marks : List ℕ) → Lent n store marks →
@@ -88,7 +88,7 @@ erase-settled (suc r) n s store marks l =
 
 -- no transfer runs after Erase, whatever the lengths
 idle-by : (x : Tested) (s : State) (store marks : List ℕ) (k : Erased) → k .core .phase ≡ Idle → goesOn x (λ c. erased c store marks) s k .core .phase ≡ Idle
-idle-by (Sound spot) s store marks k h = h
+idle-by (Passes spot) s store marks k h = h
 idle-by (Fails e) s store marks k h = refl
 
 pub erase-idle : (r : ℕ) (s : State) (store marks : List ℕ) → eraseFrom r s store marks .core .phase ≡ Idle

@@ -15,7 +15,7 @@ use Rattle.registers.specs.declared.Phase.the-variants.{Idle, DataIn, DataOut}
 use Rattle.registers.specs.declared.State.{State}
 use Rattle.registers.specs.State.{Machine, withBuffer}
 use Rattle.commands.specs.declared.Tested.{Tested}
-use Rattle.commands.specs.declared.Tested.the-variants.{Sound, Fails}
+use Rattle.commands.specs.declared.Tested.the-variants.{Passes, Fails}
 use Rattle.commands.specs.Before.{addressTest, readTest, sectorStored}
 use Rattle.commands.specs.Steps.{withState, passed, readTested, readSector, nextRead, loadRead, askTested, askSector, nextAsked, coreWritten, loadWritten}
 use Rattle.registers.specs.declared.Core.{Core}
@@ -44,7 +44,7 @@ left-some (Sectors left) p h = h .1
 -- ---- reading
 
 read-by : (x : Tested) (n : ℕ) (m : Machine) → size (readTested x n m .phase) ≤ 256 * n
-read-by (Sound spot) n m = omega arith
+read-by (Passes spot) n m = omega arith
 read-by (Fails e) n m = omega arith
 
 next-by : (b : Bool) (n : ℕ) (m : Machine) (s : State) (k : Machine) → size (k .phase) ≡ 0 → size (pick b k (readSector n (withState s m)) .phase) ≤ 256 * n
@@ -69,7 +69,7 @@ read-less t m w l = read-word (ltb (t .words) 255) t m refl w l
 -- ---- writing
 
 ask-by : (x : Tested) (n : ℕ) (first : Bool) (s : State) → size (askTested x n first s .phase) ≤ 256 * n
-ask-by (Sound spot) n first s = omega arith
+ask-by (Passes spot) n first s = omega arith
 ask-by (Fails e) n first s = omega arith
 
 asked-by : (b : Bool) (n : ℕ) (s : State) (p : Phase) → size p ≡ 0 → size (pick b p (askSector n false s .phase)) ≤ 256 * n
@@ -83,7 +83,7 @@ pick-phase false x y = refl
 
 written-by : (x : Tested) (n : ℕ) (s : State) → size (coreWritten x n s .phase) ≤ 256 * n
 unfolding nextAsked
-written-by (Sound spot) n s = rw (pick-phase (eqb n 0) _ (askSector n false (passed n s))) (asked-by (eqb n 0) n (passed n s) Idle refl)
+written-by (Passes spot) n s = rw (pick-phase (eqb n 0) _ (askSector n false (passed n s))) (asked-by (eqb n 0) n (passed n s) Idle refl)
 written-by (Fails e) n s = omega arith
 
 written-size : (l : Load) (m : Machine) → size (loadWritten l m .phase) ≤ 256 * (leftIn l - 1)

@@ -9,19 +9,20 @@ use Rattle.registers.specs.State.{Machine, sresetIn}
 use Rattle.registers.specs.WellMade.{heldIn}
 use Rattle.commands.specs.declared.Way.{Way}
 use Rattle.commands.specs.Steps.{withState}
-use Rattle.commands.specs.Table.{commandOf, obeyed, started, quiet, commandGiven}
+use Rattle.commands.specs.Table.{quiet, commandGiven}
 use Rattle.card.specs.declared.Meaning.{Meaning}
 use Rattle.card.specs.declared.Meaning.the-variants.{WriteRegister}
 use Rattle.card.specs.Access.{Access, meaning}
 use Rattle.card.specs.Perform.{registerWritten, perform}
 use Rattle.card.specs.Step.{Stepped, step}
 use Rattle.account.specs.Plain.{Account}
+use Rattle.account.specs.Rows.{rowOf}
 use Rattle.account.specs.Table.{account}
 use Rattle.account.specs.Host.{plainOf, Notes, blank, note, wayOf, calm, asks, Moves, Hosted, hosted}
 use Rattle.account.specs.Claim.{Typed, Agrees}
 use Rattle.account.proofs.Rest.{Rel}
 use Rattle.account.proofs.Keeps.{keeps, closes}
-use Rattle.account.proofs.Given.{begins}
+use Rattle.account.proofs.Given.{begins-row}
 use Rattle.account.proofs.Accepted.{given, neither}
 
 free-of : (o h : Bool) → o ≡ false → h ≡ false → pick o true h ≡ false
@@ -52,10 +53,10 @@ pub as-the-account : (m : Machine) (a : Access) (v : ℕ) (l : List Access) →
     heldIn (m .state) ≡ false →
     Typed m →
     Moves (step m a .next) l →
-    Agrees (account (commandOf v) (plainOf m)) (hosted (wayOf (commandOf v)) (step m a .next) blank l)
+    Agrees (account (rowOf v) (plainOf m)) (hosted (wayOf (rowOf v)) (step m a .next) blank l)
 as-the-account m a v l e h t =
-    subst (λ (x : Machine). Moves x l → Agrees (account (commandOf v) (plainOf m)) (hosted (wayOf (commandOf v)) x blank l))
+    subst (λ (x : Machine). Moves x l → Agrees (account (rowOf v) (plainOf m)) (hosted (wayOf (rowOf v)) x blank l))
     (sym (command-given m a v e (unfold heldIn in neither (sresetIn (m .state .option)) (m .state .control .held) h .1)))
     (unfold commandGiven in
-    hosted-agrees (account (commandOf v) (plainOf m)) (wayOf (commandOf v)) l (commandGiven v (withState (m .state) m)) blank
-    (begins (commandOf v) (quiet (withState (m .state) m)) (given m a StatusCommand v e h t)))
+    hosted-agrees (account (rowOf v) (plainOf m)) (wayOf (rowOf v)) l (commandGiven v (withState (m .state) m)) blank
+    (begins-row v (quiet (withState (m .state) m)) (given m a StatusCommand v e h t)))

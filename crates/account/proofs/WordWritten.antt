@@ -20,7 +20,7 @@ use Rattle.registers.specs.declared.State.{State}
 use Rattle.registers.specs.State.{Machine, withBuffer}
 use Rattle.registers.specs.WellMade.{locatedIn}
 use Rattle.commands.specs.declared.End.{End}
-use Rattle.commands.specs.declared.Tested.the-variants.{Sound, Fails}
+use Rattle.commands.specs.declared.Tested.the-variants.{Passes, Fails}
 use Rattle.commands.specs.Before.{addressTest, storeTest, sectorStored}
 use Rattle.commands.specs.Steps.{withState, loadWritten}
 use Rattle.port.specs.Halves.{nextWord}
@@ -37,7 +37,7 @@ use Rattle.account.proofs.Writing.{done-over, marked-rest}
 
 -- the tests at the last byte, of a valid address
 pub store-test : (i : ℕ) (s : State) (marks : List ℕ) → locatedIn s ≡ Located.Good (record { index = i }) →
-    storeTest s marks ≡ pick (writable (getD marks i 0)) (Sound (record { index = i })) (Fails End.WriteFault)
+    storeTest s marks ≡ pick (writable (getD marks i 0)) (Passes (record { index = i })) (Fails End.WriteFault)
 unfolding storeTest addressTest
 store-test i s marks e = rw e
 

@@ -19,7 +19,7 @@ use Rattle.registers.specs.declared.State.{State}
 use Rattle.registers.specs.State.{Machine, machine, withBuffer}
 use Rattle.registers.specs.WellMade.{locatedIn}
 use Rattle.commands.specs.declared.End.{End}
-use Rattle.commands.specs.declared.Tested.the-variants.{Sound, Fails}
+use Rattle.commands.specs.declared.Tested.the-variants.{Passes, Fails}
 use Rattle.commands.specs.Before.{addressTest, testedOf, storedBy, sectorStored}
 use Rattle.commands.specs.Steps.{idle, withState, passed, askTested, askSector, nextAsked, writtenBy, loadWritten}
 use Rattle.port.specs.Halves.{nextWord}
@@ -61,7 +61,7 @@ asked-held (suc n) c i s b t k f g q e =
 
 marked-held : (u : Bool) (n : ℕ) (c : Course) (i : ℕ) (m : Machine) → i < totalOf (m .state .made .default) → length (m .buffer) ≡ 512 → Ground Out m → Seated c i (suc n) (m .state) →
     locatedIn (m .state) ≡ Located.Good (record { index = i }) →
-    Between Out (writtenBy (storedBy (pick u (Sound (record { index = i })) (Fails End.WriteFault)) (m .buffer) (m .store) (m .marks)) n m) None
+    Between Out (writtenBy (storedBy (pick u (Passes (record { index = i })) (Fails End.WriteFault)) (m .buffer) (m .store) (m .marks)) n m) None
 marked-held true n c i m h f g q e =
     rw (stored-is (totalOf (m .state .made .default)) i (m .store) (m .marks) (m .buffer) h (g .1))
     (asked-held n c i (m .state) (m .buffer) (putSector i (m .buffer) (m .store)) (set (m .marks) i 0) f

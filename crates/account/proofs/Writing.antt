@@ -22,7 +22,7 @@ use Rattle.registers.specs.State.{Machine, machine, withBuffer}
 use Rattle.registers.specs.WellMade.{locatedIn}
 use Rattle.commands.specs.declared.End.{End}
 use Rattle.commands.specs.declared.Tested.{Tested}
-use Rattle.commands.specs.declared.Tested.the-variants.{Sound, Fails}
+use Rattle.commands.specs.declared.Tested.the-variants.{Passes, Fails}
 use Rattle.commands.specs.Before.{addressTest, testedOf, storeTest, StoreTested, storedBy, sectorStored}
 use Rattle.commands.specs.Steps.{withState, passed, askTested, askSector, nextAsked, coreWritten, writtenBy, loadWritten}
 use Rattle.port.specs.Halves.{nextWord}
@@ -119,7 +119,7 @@ asked-rest (suc n) c i s b t k d h q e =
 -- its mark first
 pub marked-rest : (u v : Bool) (n : ℕ) (c : Course) (i : ℕ) (m : Machine) (d : List ℕ) → v ≡ not u → i < totalOf (m .state .made .default) → Shaped (m .state .made) (m .state .current) →
     Lent (totalOf (m .state .made .default)) (m .store) (m .marks) → Seated c i (suc n) (m .state) → locatedIn (m .state) ≡ Located.Good (record { index = i }) →
-    rest (writtenBy (storedBy (pick u (Sound (record { index = i })) (Fails End.WriteFault)) (m .buffer) (m .store) (m .marks)) n m) d
+    rest (writtenBy (storedBy (pick u (Passes (record { index = i })) (Fails End.WriteFault)) (m .buffer) (m .store) (m .marks)) n m) d
     ≡ storedThen v (suc n) i c (plainOf m) (m .buffer) d
 unfolding storedThen
 marked-rest true true n c i m d e h g l q w = absurd (true≢false e)

@@ -10,8 +10,6 @@ use Rattle.maps.specs.declared.Register.the-variants.{ErrorFeature, SectorCount
 use Rattle.registers.specs.declared.State.{State}
 use Rattle.registers.specs.State.{Machine, runs, sresetIn}
 use Rattle.registers.specs.Resets.{bitTwo}
-use Rattle.commands.specs.declared.Command.{Command}
-use Rattle.commands.specs.declared.Command.the-variants.{Read, Write, Verify, Erase, Identify, ReadBuffer, WriteBuffer, SetGeometry, Diagnose, Recalibrate, Seek, Sense, Other}
 use Rattle.commands.specs.declared.Way.{Way}
 use Rattle.commands.specs.declared.Way.the-variants.{In, Out}
 use Rattle.card.specs.declared.Meaning.{Meaning}
@@ -19,6 +17,7 @@ use Rattle.card.specs.declared.Meaning.the-variants.{TupleByte, ReadOption, Wri
 use Rattle.card.specs.Access.{Access, meaning}
 use Rattle.card.specs.Step.{Stepped, step}
 use Rattle.account.specs.Plain.{Plain}
+use Rattle.account.specs.Rows.{Row, Reads, Writes, Verifies, Erases, Identifies, ReadsBuffer, WritesBuffer, SetsGeometry, Diagnoses, Recalibrates, Seeks, Senses, Others}
 
 -- the card and what is lent to it, but for the phase, the two resets, the mask, the map setting and the interrupt mark
 abbrev pub plainIn : State → List ℕ → List ℕ → List ℕ → Plain
@@ -99,20 +98,20 @@ note Out (ReadData port) o q = q
 note Out (WriteData port v) o q = noteWritten o port v q
 
 -- the way of a command's data; for a command without data either will do
-abbrev pub wayOf : Command → Way
-wayOf Read = In
-wayOf Write = Out
-wayOf Verify = In
-wayOf Erase = Out
-wayOf Identify = In
-wayOf ReadBuffer = In
-wayOf WriteBuffer = Out
-wayOf SetGeometry = In
-wayOf Diagnose = In
-wayOf Recalibrate = In
-wayOf Seek = In
-wayOf Sense = In
-wayOf Other = In
+abbrev pub wayOf : Row → Way
+wayOf Reads = In
+wayOf Writes = Out
+wayOf Verifies = In
+wayOf Erases = Out
+wayOf Identifies = In
+wayOf ReadsBuffer = In
+wayOf WritesBuffer = Out
+wayOf SetsGeometry = In
+wayOf Diagnoses = In
+wayOf Recalibrates = In
+wayOf Seeks = In
+wayOf Senses = In
+wayOf Others = In
 
 -- ---- what the host may do
 

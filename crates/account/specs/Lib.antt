@@ -1,3 +1,4 @@
+pub mod Rows
 pub mod Plain
 pub mod Course
 pub mod Runs

@@ -8,9 +8,8 @@ use Rattle.ground.specs.Choice.{pick}
 use Rattle.geometry.specs.declared.Geometry.{Geometry}
 use Rattle.geometry.specs.declared.Located.{Located}
 use Rattle.geometry.specs.Address.{byLba, lbaOf, headOf, cylinderOf, locate}
-use Rattle.commands.specs.declared.Command.{Command}
-use Rattle.commands.specs.declared.Command.the-variants.{Read, Write, Verify, Erase, Identify, ReadBuffer, WriteBuffer, SetGeometry, Diagnose, Recalibrate, Seek, Sense, Other}
 use Rattle.account.specs.Plain.{Plain, sectorsOf, withRegisters, withCurrent, withBuffer, withError, starts, Ending, Well, NotFound, Unreadable, WriteFault, Aborted, ends, Account, silent, moving}
+use Rattle.account.specs.Rows.{Row, Reads, Writes, Verifies, Erases, Identifies, ReadsBuffer, WritesBuffer, SetsGeometry, Diagnoses, Recalibrates, Seeks, Senses, Others}
 use Rattle.account.specs.Course.{Course, courseOf}
 use Rattle.account.specs.Runs.{readSectors, writeSectors, verifySectors, eraseSectors}
 use Rattle.account.specs.Words.{identifyData}
@@ -66,23 +65,26 @@ seeks p =
     (pick (ltb (cylinderOf (p .registers .address)) (p .current .cylinders)) Well (NotFound 0x2F))
     (NotFound 0x21))
 
--- the account of a command: p as the card stands, and the host's data
-unfoldable pub account : Command → Plain → List ℕ → Account
-account Read p bytes = reads (starts p)
-account Write p bytes = writes (starts p) bytes
-account Verify p bytes = silent (verifies (starts p))
-account Erase p bytes = silent (erases (starts p))
+-- 03H: "Error := last code, which stays"
+abbrev pub senses : Plain → Plain
+senses p = ends Well (withError (p .code) p)
+
+-- the account of a row: p as the card stands, and the host's data
+unfoldable pub account : Row → Plain → List ℕ → Account
+account Reads p bytes = reads (starts p)
+account Writes p bytes = writes (starts p) bytes
+account Verifies p bytes = silent (verifies (starts p))
+account Erases p bytes = silent (erases (starts p))
 -- "Identify, 512 bytes through the buffer"
-account Identify p bytes = moving (identifyData p) (silent (ends Well (withBuffer (identifyData p) (starts p))))
+account Identifies p bytes = moving (identifyData p) (silent (ends Well (withBuffer (identifyData p) (starts p))))
 -- "read, write the 512-byte buffer"
-account ReadBuffer p bytes = moving (p .buffer) (silent (ends Well (starts p)))
-account WriteBuffer p bytes = moving (take 512 bytes) (silent (ends Well (withBuffer (take 512 bytes) (starts p))))
-account SetGeometry p bytes = silent (setsGeometry (p .registers .count) (p .registers .address .head % 16 + 1) (starts p))
-account Diagnose p bytes = silent (diagnoses (starts p))
+account ReadsBuffer p bytes = moving (p .buffer) (silent (ends Well (starts p)))
+account WritesBuffer p bytes = moving (take 512 bytes) (silent (ends Well (withBuffer (take 512 bytes) (starts p))))
+account SetsGeometry p bytes = silent (setsGeometry (p .registers .count) (p .registers .address .head % 16 + 1) (starts p))
+account Diagnoses p bytes = silent (diagnoses (starts p))
 -- "nothing"
-account Recalibrate p bytes = silent (ends Well (starts p))
-account Seek p bytes = silent (ends (seeks p) (starts p))
--- "Error := last code, which stays"
-account Sense p bytes = silent (ends Well (withError (p .code) p))
+account Recalibrates p bytes = silent (ends Well (starts p))
+account Seeks p bytes = silent (ends (seeks p) (starts p))
+account Senses p bytes = silent (senses p)
 -- "others: ABRT, 20H"
-account Other p bytes = silent (ends (Aborted 0x20) (starts p))
+account Others p bytes = silent (ends (Aborted 0x20) (starts p))

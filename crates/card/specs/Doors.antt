@@ -14,6 +14,7 @@ use Rattle.registers.specs.State.{Machine, lineOf, sresetIn, indexIn}
 use Rattle.registers.specs.WellMade.{wellMade}
 use Rattle.registers.specs.Resets.{optionTurn, optionTurned, bufferTurned, controlWritten}
 use Rattle.card.specs.declared.Card.{Card}
+use Rattle.card.specs.declared.Reply.{Reply}
 use Rattle.card.specs.declared.Answer.{Answer}
 use Rattle.card.specs.Step.{Stepped}
 
@@ -28,6 +29,10 @@ answered a store marks = record { outcome = a .outcome; line = a .line; next = m
 -- a card of its core and its buffer
 abbrev pub cardOf : Core → List ℕ → Card
 cardOf k buffer = record { phase = k .phase; state = k .state; buffer = buffer }
+
+-- the answer, of a reply and the buffer
+abbrev pub answerOf : Reply → List ℕ → Answer
+answerOf r buffer = record { outcome = r .outcome; line = r .line; card = cardOf (r .core) buffer }
 
 abbrev pub refusedBy : Refusal → Card → Answer
 refusedBy r c = record { outcome = Outcome.Refused r; line = lineOf (c .state); card = c }

@@ -3,7 +3,7 @@ use Prim.Native.Nat.{ℕ, _*_}
 use mathlib.Core.Bool.{Bool, true, false}
 use mathlib.Core.List.{List}
 use lib.Dec.{eqb, leb}
-use lib.ListN.{length, replicate}
+use lib.ListN.{length}
 use Rattle.ground.specs.Choice.{pick}
 use Rattle.answers.specs.declared.Outcome.{Outcome}
 use Rattle.answers.specs.declared.Refusal.{Refusal}
@@ -15,7 +15,7 @@ use Rattle.maps.specs.declared.Mode.the-variants.{PcCard, TrueIde}
 use Rattle.sectors.specs.Marks.{marksFit}
 use Rattle.registers.specs.declared.Phase.the-variants.{Idle}
 use Rattle.registers.specs.declared.State.{State}
-use Rattle.registers.specs.PowerOn.{powerOn}
+use Rattle.registers.specs.PowerOn.{powerOn, zeros}
 use Rattle.card.specs.declared.Card.{Card}
 use Rattle.card.specs.declared.Answer.{Answer}
 
@@ -37,9 +37,6 @@ zeroState = record {
   mark = false;
   code = 0;
 }
-
-unfoldable pub zeros : List ℕ
-zeros = replicate 512 0
 
 abbrev pub zeroCard : Card
 zeroCard = record { phase = Idle; state = zeroState; buffer = zeros }

@@ -1,13 +1,56 @@
-// The doors by value: an access, and the two resets' registers.
+// The doors by value: an access, and the two resets' registers. Each takes the buffer out of the card, lends it on, and puts it back.
 use super::Answer;
 use super::Card;
+use super::Reply;
 use answers::Outcome;
 use answers::Refusal;
 use maps::Mode;
 use registers::Core;
 ghost use mathlib.Core.Path.{_≡_};
-ghost use Rattle.card.specs.Step.{step};
-ghost use Rattle.card.specs.Doors.{machineOf, answered, refusedBy, acceptedAs, optionAt, optionAnswered, controlAnswered};
+ghost use Rattle.card.specs.Step.{replyOf, step};
+ghost use Rattle.card.specs.Doors.{machineOf, answered, cardOf, answerOf, optionAnswered, controlAnswered};
+
+fn accept(core: Core) -> Reply
+    ensures { λ r. ⌜ r ≡ replyOf (record { outcome = Outcome.Accepted 0; core = core }) ⌝ }
+{
+    super::replied_as(super::accepted(core, 0))
+}
+
+// The option's rows 12, 7, 10, and the write.
+fn option_reply(core: Core, value: u8, buffer: &mut [u8; 512]) -> Reply
+    ensures { λ r. ⌜ answerOf r (now (buffer .exit)) ≡ optionAnswered value (cardOf core (now (buffer .entry))) ⌝ }
+{
+    let state = core.state;
+    let made = state.made;
+    let mode = made.mode;
+    if !core.well_made() {
+        return super::refuse(core, Refusal::NotWellMade);
+    }
+    match mode {
+        Mode::TrueIde => super::refuse(core, Refusal::SpaceSilent),
+        Mode::PcCard => {
+            let index = value % 64;
+            if 3 < index {
+                return super::refuse(core, Refusal::IndexAboveThree);
+            }
+            accept(core.write_option(value, buffer))
+        }
+    }
+}
+
+// Device Control's rows 12, 8, and the write; the buffer is kept.
+fn control_reply(core: Core, value: u8, buffer: &[u8; 512]) -> Reply
+    ensures { λ r. ⌜ answerOf r (now (buffer .entry)) ≡ controlAnswered value (cardOf core (now (buffer .entry))) ⌝ }
+{
+    let state = core.state;
+    if !core.well_made() {
+        return super::refuse(core, Refusal::NotWellMade);
+    }
+    if state.option >= 128 {
+        return super::refuse(core, Refusal::HeldBySreset);
+    }
+    accept(core.write_control(value))
+}
 
 impl Card {
     // Any access to any card value, with any store, marks and tuple buffer.
@@ -58,75 +101,31 @@ impl Card {
         }
     }
 
-    fn refused_by(self, refusal: Refusal) -> Answer
-        ensures { λ r. ⌜ r ≡ refusedBy refusal self ⌝ }
-    {
-        let state = self.state;
-        let line = state.line();
-        Answer {
-            outcome: Outcome::Refused(refusal),
-            line: line,
-            card: self,
-        }
-    }
-
-    fn accepted_as(self) -> Answer
-        ensures { λ r. ⌜ r ≡ acceptedAs self ⌝ }
-    {
-        let state = self.state;
-        let line = state.line();
-        Answer {
-            outcome: Outcome::Accepted(0),
-            line: line,
-            card: self,
-        }
-    }
-
-    fn option_at(self, mode: Mode, value: u8) -> Answer
-        ensures { λ r. ⌜ r ≡ optionAt mode value self ⌝ }
-    {
-        match mode {
-            Mode::TrueIde => self.refused_by(Refusal::SpaceSilent),
-            Mode::PcCard => {
-                let index = value % 64;
-                if 3 < index {
-                    return self.refused_by(Refusal::IndexAboveThree);
-                }
-                let mut buffer = self.buffer;
-                let phase = self.phase;
-                let state = self.state;
-                let core = Core {
-                    phase: phase,
-                    state: state,
-                };
-                let next = core.write_option(value, &mut buffer);
-                let after = next.state;
-                let then = next.phase;
-                Card {
-                    phase: then,
-                    state: after,
-                    buffer: buffer,
-                }.accepted_as()
-            }
-        }
-    }
-
     // The write of the Configuration Option Register, with SRESET in it.
     pub fn write_option(self, value: u8) -> Answer
         ensures { λ r. ⌜ r ≡ optionAnswered value self ⌝ }
     {
+        let mut buffer = self.buffer;
         let phase = self.phase;
         let state = self.state;
-        let made = state.made;
-        let mode = made.mode;
         let core = Core {
             phase: phase,
             state: state,
         };
-        if !core.well_made() {
-            return self.refused_by(Refusal::NotWellMade);
+        let r = option_reply(core, value, &mut buffer);
+        let outcome = r.outcome;
+        let next = r.core;
+        let after = next.state;
+        let then = next.phase;
+        Answer {
+            outcome: outcome,
+            line: r.line,
+            card: Card {
+                phase: then,
+                state: after,
+                buffer: buffer,
+            },
         }
-        self.option_at(mode, value)
     }
 
     // The write of Device Control, with its reset bit.
@@ -140,19 +139,19 @@ impl Card {
             phase: phase,
             state: state,
         };
-        if !core.well_made() {
-            return self.refused_by(Refusal::NotWellMade);
-        }
-        if state.option >= 128 {
-            return self.refused_by(Refusal::HeldBySreset);
-        }
-        let next = core.write_control(value);
+        let r = control_reply(core, value, &buffer);
+        let outcome = r.outcome;
+        let next = r.core;
         let after = next.state;
         let then = next.phase;
-        Card {
-            phase: then,
-            state: after,
-            buffer: buffer,
-        }.accepted_as()
+        Answer {
+            outcome: outcome,
+            line: r.line,
+            card: Card {
+                phase: then,
+                state: after,
+                buffer: buffer,
+            },
+        }
     }
 }

@@ -1,18 +1,22 @@
 // The opening.
 use super::Answer;
 use super::Card;
+use super::Reply;
 use answers::Outcome;
 use answers::Refusal;
 use geometry::Address;
 use geometry::Geometry;
 use maps::Mode;
 use registers::Control;
+use registers::Core;
 use registers::Made;
 use registers::Phase;
 use registers::Registers;
 use registers::State;
 ghost use mathlib.Core.Path.{_≡_};
-ghost use Rattle.card.specs.Opening.{modeOf, zeroState, zeros, openRefused, powered, opened};
+ghost use Rattle.card.specs.Doors.{cardOf, answerOf};
+ghost use Rattle.card.specs.Opening.{modeOf, zeroState, openRefused, powered, opened};
+ghost use Rattle.registers.specs.PowerOn.{zeros};
 
 fn mode_of(mode: u16) -> Mode
     ensures { λ r. ⌜ r ≡ modeOf mode ⌝ }
@@ -58,42 +62,63 @@ fn zero_state() -> State
     }
 }
 
-fn zero_bytes() -> [u8; 512]
-    ensures { λ r. ⌜ r ≡ zeros ⌝ }
-{
-    [0u8; 512]
-}
-
 // 01: a refused opening gives the all-zero card.
-fn open_refused(refusal: Refusal) -> Answer
-    ensures { λ r. ⌜ r ≡ openRefused refusal ⌝ }
+fn open_refused(refusal: Refusal) -> Reply
+    ensures { λ r. ⌜ answerOf r zeros ≡ openRefused refusal ⌝ }
 {
     let state = zero_state();
-    let buffer = zero_bytes();
-    Answer {
+    Reply {
         outcome: Outcome::Refused(refusal),
         line: false,
-        card: Card {
+        core: Core {
             phase: Phase::Idle,
             state: state,
-            buffer: buffer,
         },
     }
 }
 
-fn powered(geometry: Geometry, mode: Mode) -> Card
-    ensures { λ r. ⌜ r ≡ powered geometry mode ⌝ }
+fn powered(geometry: Geometry, mode: Mode) -> Core
+    ensures { λ r. ⌜ cardOf r zeros ≡ powered geometry mode ⌝ }
 {
     let made = Made {
         mode: mode,
         default: geometry,
     };
     let state = made.power_on(0);
-    let buffer = zero_bytes();
-    Card {
+    Core {
         phase: Phase::Idle,
         state: state,
-        buffer: buffer,
+    }
+}
+
+// Rows 1, 2, 3, 5, 4, and power-on.
+fn open_reply(geometry: Geometry, mode: u16, store: &[u8], marks: &[u8], tuples: &[u8]) -> Reply
+    ensures { λ r. ⌜ answerOf r zeros ≡ opened geometry mode (now (store .entry)) (now (marks .entry)) (now (tuples .entry)) ⌝ }
+{
+    if !geometry.fits() {
+        return open_refused(Refusal::GeometryOrMode);
+    }
+    if 1 < mode {
+        return open_refused(Refusal::GeometryOrMode);
+    }
+    let total = geometry.total() as usize;
+    if store.len() != 512 * total {
+        return open_refused(Refusal::StoreLength);
+    }
+    if marks.len() != total {
+        return open_refused(Refusal::MarksLength);
+    }
+    if tuples.len() != 256 {
+        return open_refused(Refusal::TupleBufferLength);
+    }
+    if !sectors::marks_fit(marks) {
+        return open_refused(Refusal::MarkAboveTwo);
+    }
+    let core = powered(geometry, mode_of(mode));
+    Reply {
+        outcome: Outcome::Accepted(0),
+        line: false,
+        core: core,
     }
 }
 
@@ -115,30 +140,20 @@ impl Card {
             heads: heads,
             sectors: sectors,
         };
-        if !geometry.fits() {
-            return open_refused(Refusal::GeometryOrMode);
-        }
-        if 1 < mode {
-            return open_refused(Refusal::GeometryOrMode);
-        }
-        let total = geometry.total() as usize;
-        if store.len() != 512 * total {
-            return open_refused(Refusal::StoreLength);
-        }
-        if marks.len() != total {
-            return open_refused(Refusal::MarksLength);
-        }
-        if tuples.len() != 256 {
-            return open_refused(Refusal::TupleBufferLength);
-        }
-        if !sectors::marks_fit(marks) {
-            return open_refused(Refusal::MarkAboveTwo);
-        }
-        let card = powered(geometry, mode_of(mode));
+        let r = open_reply(geometry, mode, store, marks, tuples);
+        let outcome = r.outcome;
+        let core = r.core;
+        let state = core.state;
+        let phase = core.phase;
+        let buffer = [0u8; 512];
         Answer {
-            outcome: Outcome::Accepted(0),
-            line: false,
-            card: card,
+            outcome: outcome,
+            line: r.line,
+            card: Card {
+                phase: phase,
+                state: state,
+                buffer: buffer,
+            },
         }
     }
 }

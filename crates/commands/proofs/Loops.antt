@@ -8,7 +8,7 @@ use mathlib.Core.List.{List}
 use Rattle.geometry.specs.declared.Spot.{Spot}
 use Rattle.registers.specs.declared.State.{State}
 use Rattle.commands.specs.declared.End.{End}
-use Rattle.commands.specs.declared.Tested.the-variants.{Sound, Fails}
+use Rattle.commands.specs.declared.Tested.the-variants.{Passes, Fails}
 use Rattle.commands.specs.Ends.{ended}
 use Rattle.commands.specs.Before.{readTest, storeTested, sectorStored}
 use Rattle.commands.specs.Steps.{passed}
@@ -24,7 +24,7 @@ unfolding verifyFrom
 verify-fails zero s marks e h t = absurd (not-suc-le-zero h)
 verify-fails (suc n) s marks e h t = simp t
 
-pub verify-step : (n : ℕ) (s : State) (marks : List ℕ) (spot : Spot) → 0 < n → readTest s marks ≡ Sound spot → verifyFrom n s marks ≡ verifyFrom (n - 1) (passed (n - 1) s) marks
+pub verify-step : (n : ℕ) (s : State) (marks : List ℕ) (spot : Spot) → 0 < n → readTest s marks ≡ Passes spot → verifyFrom n s marks ≡ verifyFrom (n - 1) (passed (n - 1) s) marks
 unfolding verifyFrom
 verify-step zero s marks spot h t = absurd (not-suc-le-zero h)
 verify-step (suc n) s marks spot h t = simp (t, sub-one)
@@ -41,7 +41,7 @@ unfolding eraseFrom
 erase-fails zero s store marks store′ marks′ e h k = absurd (not-suc-le-zero h)
 erase-fails (suc n) s store marks store′ marks′ e h k = simp (sym k)
 
-pub erase-step : (n : ℕ) (s : State) (store marks store′ marks′ : List ℕ) (spot : Spot) → 0 < n → storeTested (Sound spot) store′ marks′ ≡ sectorStored s blank store marks
+pub erase-step : (n : ℕ) (s : State) (store marks store′ marks′ : List ℕ) (spot : Spot) → 0 < n → storeTested (Passes spot) store′ marks′ ≡ sectorStored s blank store marks
     → eraseFrom n s store marks ≡ eraseFrom (n - 1) (passed (n - 1) s) store′ marks′
 unfolding eraseFrom
 erase-step zero s store marks store′ marks′ spot h k = absurd (not-suc-le-zero h)

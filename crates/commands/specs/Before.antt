@@ -11,10 +11,10 @@ use Rattle.registers.specs.declared.State.{State}
 use Rattle.registers.specs.WellMade.{locatedIn}
 use Rattle.commands.specs.declared.End.{End}
 use Rattle.commands.specs.declared.Tested.{Tested}
-use Rattle.commands.specs.declared.Tested.the-variants.{Sound, Fails}
+use Rattle.commands.specs.declared.Tested.the-variants.{Passes, Fails}
 
 abbrev pub testedOf : Located → Tested
-testedOf (Located.Good spot) = Sound spot
+testedOf (Located.Good spot) = Passes spot
 testedOf Located.BadHeadOrSector = Fails End.BadHeadOrSector
 testedOf Located.BadCylinder = Fails End.BadCylinder
 testedOf Located.BadLba = Fails End.BadLba
@@ -25,7 +25,7 @@ addressTest s = testedOf (locatedIn s)
 
 -- then the mark
 abbrev pub markTested : (ℕ → Bool) → End → Tested → List ℕ → Tested
-markTested allows e (Sound spot) marks = pick (allows (getD marks (spot .index) 0)) (Sound spot) (Fails e)
+markTested allows e (Passes spot) marks = pick (allows (getD marks (spot .index) 0)) (Passes spot) (Fails e)
 markTested allows e (Fails f) marks = Fails f
 
 -- of a sector to be read or verified: "mark 1: UNC, 11H"
@@ -46,7 +46,7 @@ abbrev pub storeTested : Tested → List ℕ → List ℕ → StoreTested
 storeTested t store marks = record { tested = t; store = store; marks = marks }
 
 abbrev pub storedBy : Tested → List ℕ → List ℕ → List ℕ → StoreTested
-storedBy (Sound spot) bytes store marks = storeTested (Sound spot) (stored store marks (spot .index) bytes .store) (stored store marks (spot .index) bytes .marks)
+storedBy (Passes spot) bytes store marks = storeTested (Passes spot) (stored store marks (spot .index) bytes .store) (stored store marks (spot .index) bytes .marks)
 storedBy (Fails e) bytes store marks = storeTested (Fails e) store marks
 
 unfoldable pub sectorStored : State → List ℕ → List ℕ → List ℕ → StoreTested

@@ -7,14 +7,14 @@ use Rattle.registers.specs.declared.State.{State}
 use Rattle.registers.specs.declared.Core.{Core}
 use Rattle.commands.specs.declared.End.the-variants.{Good}
 use Rattle.commands.specs.declared.Tested.{Tested}
-use Rattle.commands.specs.declared.Tested.the-variants.{Sound, Fails}
+use Rattle.commands.specs.declared.Tested.the-variants.{Passes, Fails}
 use Rattle.commands.specs.Ends.{ended}
 use Rattle.commands.specs.Before.{readTest, sectorStored, StoreTested}
 use Rattle.commands.specs.Steps.{passed}
 
 -- the rest where the sector's tests hold, else the end
 abbrev pub goesOn {ℓ} : {A : Type ℓ} → Tested → (Core → A) → State → A → A
-goesOn (Sound spot) end s rest = rest
+goesOn (Passes spot) end s rest = rest
 goesOn (Fails e) end s rest = end (ended e true s)
 
 unfoldable pub verifyFrom : ℕ → State → List ℕ → Core

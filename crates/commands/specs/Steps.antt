@@ -17,7 +17,7 @@ use Rattle.registers.specs.declared.Core.{Core}
 use Rattle.registers.specs.State.{Machine, machine, core, withCore, withStatus, withMark, withCount, withAddress}
 use Rattle.commands.specs.declared.End.the-variants.{Good}
 use Rattle.commands.specs.declared.Tested.{Tested}
-use Rattle.commands.specs.declared.Tested.the-variants.{Sound, Fails}
+use Rattle.commands.specs.declared.Tested.the-variants.{Passes, Fails}
 use Rattle.commands.specs.declared.Way.{Way}
 use Rattle.commands.specs.declared.Way.the-variants.{In, Out}
 use Rattle.commands.specs.Ends.{ended}
@@ -56,7 +56,7 @@ passed left s = pick (eqb left 0) (withCount 0 s) (withCount (left % 256) (withA
 
 -- a sector is to be read: it comes into the buffer, or a test fails ("a failed read, Verify and Erase leave it")
 abbrev pub readTested : Tested → ℕ → Machine → Machine
-readTested (Sound spot) left m = machine (begun In (Sectors left) true (m .state)) (bufferRead (m .store) (spot .index) (m .buffer)) (m .store) (m .marks)
+readTested (Passes spot) left m = machine (begun In (Sectors left) true (m .state)) (bufferRead (m .store) (spot .index) (m .buffer)) (m .store) (m .marks)
 readTested (Fails e) left m = withCore (ended e true (m .state)) m
 
 unfoldable pub readSector : ℕ → Machine → Machine
@@ -77,7 +77,7 @@ loadRead (Sectors left) m = nextRead (left - 1) m
 
 -- a sector is asked for, or its address fails
 abbrev pub askTested : Tested → ℕ → Bool → State → Core
-askTested (Sound spot) left first s = begun Out (Sectors left) first s
+askTested (Passes spot) left first s = begun Out (Sectors left) first s
 askTested (Fails e) left first s = ended e true s
 
 unfoldable pub askSector : ℕ → Bool → State → Core
@@ -88,7 +88,7 @@ unfoldable pub nextAsked : ℕ → State → Core
 nextAsked left s = pick (eqb left 0) (ended Good true (passed left s)) (askSector left false (passed left s))
 
 abbrev pub coreWritten : Tested → ℕ → State → Core
-coreWritten (Sound spot) left s = nextAsked left s
+coreWritten (Passes spot) left s = nextAsked left s
 coreWritten (Fails e) left s = ended e true s
 
 abbrev pub writtenBy : StoreTested → ℕ → Machine → Machine

@@ -31,7 +31,7 @@ pub enum End {
 
 // What the tests before a sector say.
 pub enum Tested {
-    Sound(Spot),
+    Passes(Spot),
     Fails(End),
 }
 
@@ -148,7 +148,7 @@ fn address_test(state: State) -> Tested
     let default = made.default;
     let current = state.current;
     match address.locate(current, default.total()) {
-        Located::Good(spot) => Tested::Sound(spot),
+        Located::Good(spot) => Tested::Passes(spot),
         Located::BadHeadOrSector => Tested::Fails(End::BadHeadOrSector),
         Located::BadCylinder => Tested::Fails(End::BadCylinder),
         Located::BadLba => Tested::Fails(End::BadLba),
@@ -160,10 +160,10 @@ pub fn read_test(state: State, marks: &[u8]) -> Tested
     ensures { λ r. ⌜ r ≡ readTest state (now (marks .entry)) ⌝ }
 {
     match address_test(state) {
-        Tested::Sound(spot) => {
+        Tested::Passes(spot) => {
             let i = spot.index;
             if sectors::readable(sectors::mark_at(marks, i)) {
-                return Tested::Sound(spot);
+                return Tested::Passes(spot);
             }
             Tested::Fails(End::Unreadable)
         }
@@ -176,10 +176,10 @@ fn store_test(state: State, marks: &[u8]) -> Tested
     ensures { λ r. ⌜ r ≡ storeTest state (now (marks .entry)) ⌝ }
 {
     match address_test(state) {
-        Tested::Sound(spot) => {
+        Tested::Passes(spot) => {
             let i = spot.index;
             if sectors::writable(sectors::mark_at(marks, i)) {
-                return Tested::Sound(spot);
+                return Tested::Passes(spot);
             }
             Tested::Fails(End::WriteFault)
         }
@@ -192,10 +192,10 @@ pub fn store_tested(state: State, bytes: &[u8; 512], store: &mut [u8], marks: &m
     ensures { λ r. ⌜ storeTested r (now (store .exit)) (now (marks .exit)) ≡ sectorStored state (now (bytes .entry)) (now (store .entry)) (now (marks .entry)) ⌝ }
 {
     match store_test(state, marks) {
-        Tested::Sound(spot) => {
+        Tested::Passes(spot) => {
             let i = spot.index;
             sectors::store_sector(store, marks, i, bytes);
-            Tested::Sound(spot)
+            Tested::Passes(spot)
         }
         Tested::Fails(end) => Tested::Fails(end),
     }
@@ -289,7 +289,7 @@ pub fn read_sector(
     ensures { λ r. ⌜ machine r (now (buffer .exit)) (now (store .entry)) (now (marks .entry)) ≡ readSector left (idle state (now (buffer .entry)) (now (store .entry)) (now (marks .entry))) ⌝ }
 {
     match read_test(state, marks) {
-        Tested::Sound(spot) => {
+        Tested::Passes(spot) => {
             let i = spot.index;
             sectors::read_sector(buffer, store, i);
             begun(state, Way::In, Load::Sectors(left), true)
@@ -331,7 +331,7 @@ pub fn ask_sector(state: State, left: u16, first: bool) -> Core
     ensures { λ r. ⌜ r ≡ askSector left first state ⌝ }
 {
     match address_test(state) {
-        Tested::Sound(_) => begun(state, Way::Out, Load::Sectors(left), first),
+        Tested::Passes(_) => begun(state, Way::Out, Load::Sectors(left), first),
         Tested::Fails(end) => ended(state, end, true),
     }
 }
@@ -359,7 +359,7 @@ pub fn load_written(
     match load {
         Load::Buffer => ended(state, End::Good, true),
         Load::Sectors(left) => match store_tested(state, buffer, store, marks) {
-            Tested::Sound(_) => next_asked(state, less_one(left)),
+            Tested::Passes(_) => next_asked(state, less_one(left)),
             Tested::Fails(end) => ended(state, end, true),
         },
     }

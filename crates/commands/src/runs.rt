@@ -4,7 +4,7 @@ use super::Tested;
 use registers::Core;
 use registers::State;
 ghost use mathlib.Core.Path.{_≡_};
-ghost use Rattle.commands.specs.Runs.{verifyFrom, erased, eraseFrom, blank};
+ghost use Rattle.commands.specs.Runs.{verifyFrom, erased, eraseFrom};
 
 // 40H 41H.
 pub fn verify(state: State, left: u16, marks: &[u8]) -> Core
@@ -14,7 +14,7 @@ pub fn verify(state: State, left: u16, marks: &[u8]) -> Core
     let mut n = left;
     while 0 < n {
         match super::read_test(s, marks) {
-            Tested::Sound(_) => {
+            Tested::Passes(_) => {
                 n -= 1;
                 s = super::passed(s, n);
             }
@@ -26,22 +26,16 @@ pub fn verify(state: State, left: u16, marks: &[u8]) -> Core
     super::ended(s, End::Good, true)
 }
 
-fn blank_sector() -> [u8; 512]
-    ensures { λ r. ⌜ r ≡ blank ⌝ }
-{
-    [0xFFu8; 512]
-}
-
 // C0H.
 pub fn erase(state: State, left: u16, store: &mut [u8], marks: &mut [u8]) -> Core
     ensures { λ r. ⌜ erased r (now (store .exit)) (now (marks .exit)) ≡ eraseFrom left state (now (store .entry)) (now (marks .entry)) ⌝ }
 {
-    let bytes = blank_sector();
+    let bytes = [0xFFu8; 512];
     let mut s = state;
     let mut n = left;
     while 0 < n {
         match super::store_tested(s, &bytes, store, marks) {
-            Tested::Sound(_) => {
+            Tested::Passes(_) => {
                 n -= 1;
                 s = super::passed(s, n);
             }

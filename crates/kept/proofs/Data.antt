@@ -62,8 +62,8 @@ word-next way t d m n f r g =
 taken-read : (k : Take) (t : Transfer) (d : Made) (m : Machine) → Fine d (m .state) → Runs (DataIn t) (m .state) → Next d m m → Next d m (takenRead k t m .next)
 unfolding wordRead
 taken-read Take.Refused t d m f r z = z
-taken-read (Take.First part) t d m f r z = ((f .0, halved-runs In part t (m .state) r, f .1), λ b. (refl, refl, b))
-taken-read (Take.Last part) t d m f r z =
+taken-read (Take.Moves part false) t d m f r z = ((f .0, halved-runs In part t (m .state) r, f .1), λ b. (refl, refl, b))
+taken-read (Take.Moves part true) t d m f r z =
     word-next In t d m (loadRead (t .load) (withState (m .state) m)) f r (λ q e. load-read (t .load) d (withState (m .state) m) q e)
 
 phase-read : (p : Phase) (port : Port) (d : Made) (m : Machine) → Fine d (m .state) → Runs p (m .state) → Next d m m → Next d m (phaseRead p port m .next)
@@ -84,9 +84,9 @@ data-read port d m f =
 taken-written : (k : Take) (value : ℕ) (t : Transfer) (d : Made) (m : Machine) → Fine d (m .state) → Runs (DataOut t) (m .state) → Next d m m → Next d m (takenWritten k value t m .next)
 unfolding wordWritten
 taken-written Take.Refused value t d m f r z = z
-taken-written (Take.First part) value t d m f r z =
+taken-written (Take.Moves part false) value t d m f r z =
     ((f .0, halved-runs Out part t (m .state) r, f .1), λ b. (refl, refl, part-length part (t .words) value (m .buffer) ∙ b))
-taken-written (Take.Last part) value t d m f r z =
+taken-written (Take.Moves part true) value t d m f r z =
     let n = withBuffer (partWritten part (t .words) value (m .buffer)) m in
     let w = word-next Out t d n (loadWritten (t .load) (withState (n .state) n)) f r (λ q e. load-written (t .load) d (withState (n .state) n) q e) in
     (w .0, λ b. w .1 (part-length part (t .words) value (m .buffer) ∙ b))

@@ -16,10 +16,11 @@ use Rattle.registers.specs.declared.Load.the-variants.{Sectors}
 use Rattle.registers.specs.declared.Made.{Made}
 use Rattle.registers.specs.declared.State.{State}
 use Rattle.registers.specs.State.{Machine, coreOf}
-use Rattle.registers.specs.WellMade.{found, locatedIn, atRest, statusFits, heldIn, holdFits, wordsFit, sectorsFit, loadFits, runFits}
+use Rattle.registers.specs.WellMade.{locatedIn, atRest, statusFits, heldIn, holdFits, wordsFit, sectorsFit, loadFits, runFits}
+use Rattle.geometry.specs.Codes.{found}
 use Rattle.commands.specs.declared.End.{End}
 use Rattle.commands.specs.declared.Tested.{Tested}
-use Rattle.commands.specs.declared.Tested.the-variants.{Sound, Fails}
+use Rattle.commands.specs.declared.Tested.the-variants.{Passes, Fails}
 use Rattle.commands.specs.declared.Way.{Way}
 use Rattle.commands.specs.declared.Way.the-variants.{In, Out}
 use Rattle.commands.specs.Ends.{endStatus, ended}
@@ -72,15 +73,14 @@ unfolding loadFits sectorsFit every
 sectors-fit left s g a = rw (g, le-leb _ _ (a .0), le-leb _ _ (a .1), eq-eqb _ _ (a .2))
 
 -- what a sector's tests can say
-pub address-elim : (P : Tested → Type 0) (l : Located) → ((spot : Spot) → found l ≡ true → P (Sound spot)) → ((e : End) → P (Fails e)) → P (testedOf l)
-unfolding found
+pub address-elim : (P : Tested → Type 0) (l : Located) → ((spot : Spot) → found l ≡ true → P (Passes spot)) → ((e : End) → P (Fails e)) → P (testedOf l)
 address-elim P (Located.Good spot) f g = f spot refl
 address-elim P Located.BadHeadOrSector f g = g _
 address-elim P Located.BadCylinder f g = g _
 address-elim P Located.BadLba f g = g _
 
 pub mark-elim : (P : Tested → Type 0) (allows : ℕ → Bool) (e : End) (marks : List ℕ) (l : Located) →
-    ((spot : Spot) → found l ≡ true → P (Sound spot)) → ((e : End) → P (Fails e)) → P (markTested allows e (testedOf l) marks)
+    ((spot : Spot) → found l ≡ true → P (Passes spot)) → ((e : End) → P (Fails e)) → P (markTested allows e (testedOf l) marks)
 mark-elim P allows e marks l f g =
     address-elim (λ (t : Tested). P (markTested allows e t marks)) l
     (λ spot h. pick-elim P (allows (getD marks (spot .index) 0)) _ _ (λ x. f spot h) (λ x. g e))

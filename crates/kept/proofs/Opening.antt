@@ -5,7 +5,7 @@ use mathlib.Core.Path.{_≡_, refl, sym, ap}
 use mathlib.Core.List.{List}
 use native.Mathlib.Omega.{arith}
 use lib.Dec.{eqb, leb}
-use lib.ListN.{length, length-replicate}
+use lib.ListN.{length}
 use borrow.Author.Tests.{eqb-true}
 use Rattle.ground.proofs.Picks.{pick-elim}
 use Rattle.answers.specs.declared.Outcome.{Outcome}
@@ -25,11 +25,12 @@ use Rattle.registers.specs.PowerOn.{powerOn}
 use Rattle.card.specs.declared.Answer.{Answer}
 use Rattle.card.specs.Access.{Access}
 use Rattle.card.specs.Step.{step, Stepped}
-use Rattle.card.specs.Opening.{modeOf, zeros, zeroCard, openRefused, powered, opened}
+use Rattle.card.specs.Opening.{modeOf, zeroCard, openRefused, powered, opened}
+use Rattle.registers.specs.PowerOn.{zeros}
 use Rattle.card.specs.Doors.{machineOf, refusedBy, optionAnswered, controlAnswered}
 use Rattle.kept.specs.Sound.{Sound}
 use Rattle.kept.proofs.Registers.{together}
-use Rattle.kept.proofs.Resets.{power-stands, power-status, at-rest}
+use Rattle.kept.proofs.Resets.{power-stands, power-status, at-rest, zeros-length}
 use Rattle.kept.proofs.Step.{not-well-refused}
 
 mode-fits : (mode : Mode) → sresetFits mode 0 ≡ true
@@ -40,10 +41,6 @@ mode-fits TrueIde = refl
 index-0 : indexFits 0 ≡ true
 unfolding indexFits
 index-0 = refl
-
-zeros-length : length zeros ≡ 512
-unfolding zeros
-zeros-length = length-replicate {A = ℕ} 512 0
 
 powered-sound : (g : Geometry) (mode : Mode) (store marks : List ℕ) → fits g ≡ true → length store ≡ 512 * totalOf g → length marks ≡ totalOf g → Sound (machineOf (powered g mode) store marks)
 powered-sound g mode store marks f s k =

@@ -17,7 +17,7 @@ use Rattle.registers.specs.declared.resets.Turn.{Turn}
 use Rattle.registers.specs.declared.resets.Turn.the-variants.{Enter, Leave, Stay}
 use Rattle.registers.specs.State.{core, withOption, withControl, sresetIn}
 use Rattle.registers.specs.WellMade.{indexFits, sresetFits, atRest, statusFits, heldIn, holdFits, wordsFit, runFits}
-use Rattle.registers.specs.PowerOn.{powerOn}
+use Rattle.registers.specs.PowerOn.{powerOn, zeros}
 use Rattle.registers.specs.Resets.{turnOf, restStatus, entered, optionTurned, bufferTurned, optionTurn, controlTurned, controlWritten, bitTwo, bitOne}
 use Rattle.kept.specs.Sound.{Small}
 use Rattle.kept.proofs.Registers.{Stands, Runs, run-same}
@@ -85,8 +85,12 @@ control-by Stay masked d p s f r =
 pub control-turned : (v : ℕ) (d : Made) (p : Phase) (s : State) → Stands d s → Runs p s → Turned d s (controlWritten v p s)
 control-turned v d p s f r = control-by (turnOf (s .control .held) (bitTwo v)) (bitOne v) d p s f r
 
+pub zeros-length : length zeros ≡ 512
+unfolding zeros
+zeros-length = length-replicate {A = ℕ} 512 0
+
 pub buffer-turned : (t : Turn) (b : List ℕ) → length b ≡ 512 → length (bufferTurned t b) ≡ 512
 unfolding bufferTurned
 buffer-turned Enter b e = e
-buffer-turned Leave b e = length-replicate {A = ℕ} 512 0
+buffer-turned Leave b e = zeros-length
 buffer-turned Stay b e = e

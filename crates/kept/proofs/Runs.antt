@@ -9,7 +9,7 @@ use Rattle.registers.specs.declared.State.{State}
 use Rattle.registers.specs.declared.Core.{Core}
 use Rattle.commands.specs.declared.End.{End}
 use Rattle.commands.specs.declared.Tested.{Tested}
-use Rattle.commands.specs.declared.Tested.the-variants.{Sound, Fails}
+use Rattle.commands.specs.declared.Tested.the-variants.{Passes, Fails}
 use Rattle.commands.specs.Ends.{ended}
 use Rattle.commands.specs.Before.{readTest, sectorStored}
 use Rattle.commands.specs.Steps.{passed}
@@ -19,7 +19,7 @@ use Rattle.kept.proofs.Ends.{Fine, ended-left, passed-fine}
 use Rattle.kept.proofs.Steps.{sector-stored}
 
 goes-elim : {A : Type 0} (P : A → Type 0) (t : Tested) (end : Core → A) (s : State) (rest : A) → ((e : End) → P (end (ended e true s))) → P rest → P (goesOn t end s rest)
-goes-elim P (Sound spot) end s rest f g = g
+goes-elim P (Passes spot) end s rest f g = g
 goes-elim P (Fails e) end s rest f g = f e
 
 pub verify-left : (n : ℕ) (d : Made) (s : State) (marks : List ℕ) → Fine d s → Left d (verifyFrom n s marks)

@@ -18,7 +18,7 @@ use Rattle.registers.specs.State.{Machine}
 use Rattle.registers.specs.WellMade.{locatedIn, sectorsFit, loadFits}
 use Rattle.commands.specs.declared.End.{End}
 use Rattle.commands.specs.declared.Tested.{Tested}
-use Rattle.commands.specs.declared.Tested.the-variants.{Sound, Fails}
+use Rattle.commands.specs.declared.Tested.the-variants.{Passes, Fails}
 use Rattle.commands.specs.declared.Way.the-variants.{In, Out}
 use Rattle.commands.specs.Before.{addressTest, readTest, storeTest, storedBy, sectorStored}
 use Rattle.commands.specs.Steps.{withState, passed, readTested, readSector, nextRead, loadRead, askTested, askSector, nextAsked, coreWritten, loadWritten}
@@ -70,12 +70,12 @@ on-asked left d s l r =
     (λ e. ask-left left false d (passed left s) q (passed-agrees left s e l))
 
 written-left : (t : Tested) (left : ℕ) (d : Made) (s : State) → left ≤ 255 → Ready d s → Left d (coreWritten t left s)
-written-left (Sound spot) left d s l r = on-asked left d s l r
+written-left (Passes spot) left d s l r = on-asked left d s l r
 written-left (Fails e) left d s l r = ended-left e true d s (r .0)
 
 stored-by : (t : Tested) (bytes store marks : List ℕ) → length bytes ≡ 512 →
     (length (storedBy t bytes store marks .store) ≡ length store) × (length (storedBy t bytes store marks .marks) ≡ length marks)
-stored-by (Sound spot) bytes store marks b = stored-lengths store marks (spot .index) bytes b
+stored-by (Passes spot) bytes store marks b = stored-lengths store marks (spot .index) bytes b
 stored-by (Fails e) bytes store marks b = (refl, refl)
 
 pub sector-stored : (s : State) (bytes store marks : List ℕ) → length bytes ≡ 512 →

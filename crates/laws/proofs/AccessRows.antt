@@ -95,8 +95,8 @@ of-meaning m a =
 
 taken-read : (k : Take) (t : Transfer) (m : Machine) → rowIn accessRows (takenRead k t m .outcome) ≡ true
 taken-read Take.Refused t m = refl
-taken-read (Take.First part) t m = refl
-taken-read (Take.Last part) t m = refl
+taken-read (Take.Moves part false) t m = refl
+taken-read (Take.Moves part true) t m = refl
 
 phase-read : (p : Phase) (port : Port) (m : Machine) → rowIn accessRows (phaseRead p port m .outcome) ≡ true
 phase-read Idle port m = refl
@@ -105,8 +105,8 @@ phase-read (DataOut t) port m = refl
 
 taken-written : (k : Take) (v : ℕ) (t : Transfer) (m : Machine) → rowIn accessRows (takenWritten k v t m .outcome) ≡ true
 taken-written Take.Refused v t m = refl
-taken-written (Take.First part) v t m = refl
-taken-written (Take.Last part) v t m = refl
+taken-written (Take.Moves part false) v t m = refl
+taken-written (Take.Moves part true) v t m = refl
 
 phase-written : (p : Phase) (port : Port) (v : ℕ) (m : Machine) → rowIn accessRows (phaseWritten p port v m .outcome) ≡ true
 phase-written Idle port v m = refl

@@ -17,7 +17,7 @@ use Rattle.registers.specs.declared.Phase.{Phase}
 use Rattle.registers.specs.declared.Phase.the-variants.{Idle, DataIn, DataOut}
 use Rattle.registers.specs.State.{Machine}
 use Rattle.commands.specs.declared.Tested.{Tested}
-use Rattle.commands.specs.declared.Tested.the-variants.{Sound, Fails}
+use Rattle.commands.specs.declared.Tested.the-variants.{Passes, Fails}
 use Rattle.port.specs.declared.Take.{Take}
 use Rattle.commands.specs.declared.Command.{Command}
 use Rattle.commands.specs.declared.Command.the-variants.{Read, Write, Verify, Erase, Identify, ReadBuffer, WriteBuffer, SetGeometry, Diagnose, Recalibrate, Seek, Sense, Other}
@@ -41,7 +41,7 @@ abbrev Left : Kept → Machine → Type 0
 Left k n = keptIn n ≡ k
 
 read-tested : (t : Tested) (left : ℕ) (m : Machine) → Left (keptIn m) (readTested t left m)
-read-tested (Sound spot) left m = refl
+read-tested (Passes spot) left m = refl
 read-tested (Fails e) left m = refl
 
 load-read : (l : Load) (m : Machine) → Left (keptIn m) (loadRead l m)
@@ -54,8 +54,8 @@ load-read (Sectors left) m =
 taken-read : (k : Take) (t : Transfer) (m : Machine) → Left (keptIn m) (takenRead k t m .next)
 unfolding wordRead
 taken-read Take.Refused t m = refl
-taken-read (Take.First part) t m = refl
-taken-read (Take.Last part) t m = pick-elim (Left (keptIn m)) (ltb (t .words) 255) _ _ (λ e. refl) (λ e. load-read (t .load) (withState (m .state) m))
+taken-read (Take.Moves part false) t m = refl
+taken-read (Take.Moves part true) t m = pick-elim (Left (keptIn m)) (ltb (t .words) 255) _ _ (λ e. refl) (λ e. load-read (t .load) (withState (m .state) m))
 
 phase-read : (p : Phase) (port : Port) (m : Machine) → Left (keptIn m) (phaseRead p port m .next)
 phase-read Idle port m = refl

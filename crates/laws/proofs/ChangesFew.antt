@@ -100,8 +100,8 @@ load-one (Sectors left) bytes m = writes-one (locatedIn (m .state)) (m .marks) b
 
 taken-one : (k : Take) (v : ℕ) (t : Transfer) (m : Machine) → AtMost 1 (takenChanges k v t m)
 taken-one Take.Refused v t m = omega arith
-taken-one (Take.First part) v t m = omega arith
-taken-one (Take.Last part) v t m = pick-elim (AtMost 1) (ltb (t .words) 255) _ _ (λ e. omega arith) (λ e. load-one (t .load) (partWritten part (t .words) v (m .buffer)) m)
+taken-one (Take.Moves part false) v t m = omega arith
+taken-one (Take.Moves part true) v t m = pick-elim (AtMost 1) (ltb (t .words) 255) _ _ (λ e. omega arith) (λ e. load-one (t .load) (partWritten part (t .words) v (m .buffer)) m)
 
 phase-one : (p : Phase) (port : Port) (v : ℕ) (m : Machine) → AtMost 1 (phaseChanges p port v m)
 phase-one Idle port v m = omega arith

@@ -39,6 +39,7 @@ use Rattle.commands.specs.Table.{commandOf}
 use Rattle.card.specs.declared.Meaning.{Meaning}
 use Rattle.card.specs.declared.Meaning.the-variants.{TupleByte, ReadOption, WriteOption, ReadRegister, WriteRegister, ReadData, WriteData}
 use Rattle.card.specs.Access.{Access, meaning}
+use Rattle.kept.proofs.Lent.{part-length}
 use Rattle.laws.specs.Changes.{Change, Whole, writes, erasures, sectorsAsked, commandChanges, registerChanges, loadChanges, takenChanges, phaseChanges, changes}
 use Rattle.laws.proofs.Made.{made-facts, not-made}
 
@@ -85,11 +86,6 @@ of-register StatusCommand v m c = pick-elim (Whole (totalIn (m .state))) (m .sta
 of-register AlternateControl v m c = tt
 of-register DriveAddress v m c = tt
 
-part-length : (part : Part) (words v : ℕ) (buffer : List ℕ) → length (partWritten part words v buffer) ≡ length buffer
-part-length Low words v buffer = length-set buffer _ _
-part-length High words v buffer = length-set buffer _ _
-part-length Both words v buffer = length-set (set buffer _ _) _ _ ∙ length-set buffer _ _
-
 of-load : (l : Load) (bytes : List ℕ) (m : Machine) → currentFor (m .state .current) (totalIn (m .state)) ≡ true → length bytes ≡ 512 → Whole (totalIn (m .state)) (loadChanges l bytes m)
 of-load Buffer bytes m c b = tt
 of-load (Sectors left) bytes m c b =
@@ -97,8 +93,8 @@ of-load (Sectors left) bytes m c b =
 
 of-taken : (k : Take) (v : ℕ) (t : Transfer) (m : Machine) → currentFor (m .state .current) (totalIn (m .state)) ≡ true → length (m .buffer) ≡ 512 → Whole (totalIn (m .state)) (takenChanges k v t m)
 of-taken Take.Refused v t m c b = tt
-of-taken (Take.First part) v t m c b = tt
-of-taken (Take.Last part) v t m c b =
+of-taken (Take.Moves part false) v t m c b = tt
+of-taken (Take.Moves part true) v t m c b =
     pick-elim (Whole (totalIn (m .state))) (ltb (t .words) 255) _ _ (λ e. tt)
     (λ e. of-load (t .load) (partWritten part (t .words) v (m .buffer)) m c (part-length part (t .words) v (m .buffer) ∙ b))
 

@@ -18,7 +18,7 @@ use Rattle.registers.specs.WellMade.{totalIn}
 use Rattle.commands.specs.declared.End.{End}
 use Rattle.commands.specs.declared.End.the-variants.{Good, BadHeadOrSector, BadCylinder, BadLba, Unreadable, WriteFault, BadGeometry, NoSuchCommand}
 use Rattle.commands.specs.declared.Tested.{Tested}
-use Rattle.commands.specs.declared.Tested.the-variants.{Sound, Fails}
+use Rattle.commands.specs.declared.Tested.the-variants.{Passes, Fails}
 use Rattle.commands.specs.declared.Way.{Way}
 use Rattle.commands.specs.declared.Command.{Command}
 use Rattle.commands.specs.declared.Command.the-variants.{Read, Write, Verify, Erase, Identify, ReadBuffer, WriteBuffer, SetGeometry, Diagnose, Recalibrate, Seek, Sense, Other}
@@ -55,7 +55,7 @@ picked-machine false x y f g = g
 -- ---- reading
 
 read-tested : (t : Tested) (left : ℕ) (m : Machine) → Coded (readTested t left m .state)
-read-tested (Sound spot) left m = begun-coded _
+read-tested (Passes spot) left m = begun-coded _
 read-tested (Fails e) left m = end-coded e _
 
 read-sector : (left : ℕ) (m : Machine) → Coded (readSector left m .state)
@@ -73,7 +73,7 @@ load-read (Sectors left) m = next-read (left - 1) m
 -- ---- writing
 
 ask-tested : (t : Tested) (left : ℕ) (first : Bool) (s : State) → Coded (askTested t left first s .state)
-ask-tested (Sound spot) left first s = begun-coded _
+ask-tested (Passes spot) left first s = begun-coded _
 ask-tested (Fails e) left first s = end-coded e _
 
 ask-sector : (left : ℕ) (first : Bool) (s : State) → Coded (askSector left first s .state)
@@ -85,7 +85,7 @@ unfolding nextAsked
 next-asked left s = picked (eqb left 0) _ _ (end-coded Good _) (ask-sector left false _)
 
 core-written : (t : Tested) (left : ℕ) (s : State) → Coded (coreWritten t left s .state)
-core-written (Sound spot) left s = next-asked left s
+core-written (Passes spot) left s = next-asked left s
 core-written (Fails e) left s = end-coded e _
 
 pub load-written : (l : Load) (m : Machine) → Coded (loadWritten l m .state)
@@ -95,7 +95,7 @@ load-written (Sectors left) m = core-written (sectorStored (m .state) (m .buffer
 -- ---- Verify and Erase
 
 verified-on : (t : Tested) (s : State) (rest : Core) → Coded (rest .state) → Coded (goesOn t (λ k. k) s rest .state)
-verified-on (Sound spot) s rest h = h
+verified-on (Passes spot) s rest h = h
 verified-on (Fails e) s rest h = end-coded e _
 
 verified : (n : ℕ) (s : State) (marks : List ℕ) → Coded (verifyFrom n s marks .state)
@@ -104,7 +104,7 @@ verified zero s marks = end-coded Good _
 verified (suc n) s marks = verified-on (readTest s marks) s (verifyFrom n (passed n s) marks) (verified n (passed n s) marks)
 
 erased-on : (t : Tested) (s : State) (store marks : List ℕ) (rest : Erased) → Coded (rest .core .state) → Coded (goesOn t (λ c. erased c store marks) s rest .core .state)
-erased-on (Sound spot) s store marks rest h = h
+erased-on (Passes spot) s store marks rest h = h
 erased-on (Fails e) s store marks rest h = end-coded e _
 
 erases : (n : ℕ) (s : State) (store marks : List ℕ) → Coded (eraseFrom n s store marks .core .state)

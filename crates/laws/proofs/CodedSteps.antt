@@ -37,8 +37,8 @@ word-read t m h = pick-elim (λ (n : Machine). Coded (n .state)) (ltb (t .words)
 
 taken-read : (k : Take) (t : Transfer) (m : Machine) → Coded (m .state) → Coded (takenRead k t m .next .state)
 taken-read Take.Refused t m h = h
-taken-read (Take.First part) t m h = h
-taken-read (Take.Last part) t m h = word-read t m h
+taken-read (Take.Moves part false) t m h = h
+taken-read (Take.Moves part true) t m h = word-read t m h
 
 phase-read : (p : Phase) (port : Port) (m : Machine) → Coded (m .state) → Coded (phaseRead p port m .next .state)
 phase-read Idle port m h = h
@@ -51,8 +51,8 @@ word-written t m h = pick-elim (λ (n : Machine). Coded (n .state)) (ltb (t .wor
 
 taken-written : (k : Take) (v : ℕ) (t : Transfer) (m : Machine) → Coded (m .state) → Coded (takenWritten k v t m .next .state)
 taken-written Take.Refused v t m h = h
-taken-written (Take.First part) v t m h = h
-taken-written (Take.Last part) v t m h = word-written t _ h
+taken-written (Take.Moves part false) v t m h = h
+taken-written (Take.Moves part true) v t m h = word-written t _ h
 
 phase-written : (p : Phase) (port : Port) (v : ℕ) (m : Machine) → Coded (m .state) → Coded (phaseWritten p port v m .next .state)
 phase-written Idle port v m h = h

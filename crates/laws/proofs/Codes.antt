@@ -1,21 +1,14 @@
 -- The codes of the address decision, of 7XH and of 91H, as geometry says them, are those with which the card's commands end.
-use Prim.Native.Nat.{ℕ}
 use mathlib.Core.Path.{_≡_, refl}
 use Rattle.geometry.specs.declared.Located.{Located}
 use Rattle.geometry.specs.declared.Sought.{Sought}
 use Rattle.geometry.specs.declared.Reshaped.{Reshaped}
 use Rattle.geometry.specs.Codes.{locatedCode, soughtCode, reshapedCode, currentAfter}
 use Rattle.registers.specs.declared.State.{State}
-use Rattle.commands.specs.declared.Tested.{Tested}
-use Rattle.commands.specs.declared.Tested.the-variants.{Sound, Fails}
 use Rattle.commands.specs.Ends.{endCode}
 use Rattle.commands.specs.Before.{testedOf}
 use Rattle.commands.specs.Table.{soughtEnd, geometrySet}
-
--- the code of an end by a test, 0 where none failed
-abbrev pub testedCode : Tested → ℕ
-testedCode (Sound spot) = 0
-testedCode (Fails e) = endCode e 0
+use Rattle.laws.specs.Coded.{testedCode}
 
 pub located-code : (l : Located) → testedCode (testedOf l) ≡ locatedCode l
 located-code (Located.Good spot) = refl

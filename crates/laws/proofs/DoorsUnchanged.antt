@@ -1,6 +1,6 @@
 -- 01, "Answers", of the doors by value: the two resets' methods give back the card that came, a refused opening the all-zero card; and the rows of an opening.
 use Prim.Native.Nat.{ℕ}
-use mathlib.Core.Path.{_≡_, refl}
+use mathlib.Core.Path.{_≡_, refl, sym, subst}
 use mathlib.Core.Bool.{true}
 use mathlib.Core.List.{List}
 use Rattle.answers.specs.declared.Outcome.the-variants.{Refused}
@@ -10,6 +10,7 @@ use Rattle.card.specs.declared.Card.{Card}
 use Rattle.card.specs.declared.Answer.{Answer}
 use Rattle.card.specs.Opening.{opened}
 use Rattle.card.specs.Doors.{optionAnswered, controlAnswered}
+use Rattle.kept.proofs.Opening.{opening-refused}
 use Rattle.laws.specs.Unchanged.{SameCard, NoCard}
 use Rattle.laws.specs.Rows.{openingRows, rowIn}
 use Rattle.laws.proofs.RefusedUnchanged.{accepts-not}
@@ -25,8 +26,8 @@ option-unchanged v c = option-elim (Where (SameCard c)) v c (λ r e. accepts-not
 pub control-unchanged : (v : ℕ) (c : Card) (r : Refusal) → controlAnswered v c .outcome ≡ Refused r → SameCard c (controlAnswered v c)
 control-unchanged v c = control-elim (Where (SameCard c)) v c (λ r e. accepts-not 0 r e) (λ s r e. (refl, refl, refl))
 
-pub opening-refused : (g : Geometry) (mode : ℕ) (store marks tuples : List ℕ) (r : Refusal) → opened g mode store marks tuples .outcome ≡ Refused r → NoCard (opened g mode store marks tuples)
-opening-refused g mode store marks tuples = opened-elim (Where NoCard) g mode store marks tuples (λ r e. accepts-not 0 r e) (λ s i r e. (refl, refl, refl))
+pub opening-unchanged : (g : Geometry) (mode : ℕ) (store marks tuples : List ℕ) (r : Refusal) → opened g mode store marks tuples .outcome ≡ Refused r → NoCard (opened g mode store marks tuples)
+opening-unchanged g mode store marks tuples r e = subst NoCard (sym (opening-refused g mode store marks tuples r e)) (refl, refl, refl)
 
 pub opening-rows : (g : Geometry) (mode : ℕ) (store marks tuples : List ℕ) → rowIn openingRows (opened g mode store marks tuples .outcome) ≡ true
 opening-rows g mode store marks tuples = opened-elim (λ (a : Answer). rowIn openingRows (a .outcome) ≡ true) g mode store marks tuples refl (λ r i. i)

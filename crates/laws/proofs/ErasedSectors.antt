@@ -21,7 +21,7 @@ use Rattle.registers.specs.declared.Core.{Core}
 use Rattle.registers.specs.WellMade.{totalIn, locatedIn}
 use Rattle.commands.specs.declared.End.the-variants.{WriteFault}
 use Rattle.commands.specs.declared.Tested.{Tested}
-use Rattle.commands.specs.declared.Tested.the-variants.{Sound, Fails}
+use Rattle.commands.specs.declared.Tested.the-variants.{Passes, Fails}
 use Rattle.commands.specs.Before.{testedOf, addressTest, markTested, storeTest, storedBy, sectorStored}
 use Rattle.commands.specs.Steps.{passed}
 use Rattle.commands.specs.Runs.{goesOn, blank, Erased, erased, eraseFrom}
@@ -63,7 +63,7 @@ onward t n s store marks =
 
 by-mark : (b : Bool) (spot : Spot) (n : ℕ) (s : State) (store marks marks0 : List ℕ) (rest : List Change) →
     Same marks marks0 → writable (getD marks (spot .index) 0) ≡ b → ((st mk : List ℕ) → Same mk marks0 → Rest n (passed n s) rest st mk) →
-    keptOf (onward (pick b (Sound spot) (Fails WriteFault)) n s store marks) ≡ changed (pick b (record { index = spot .index; bytes = replicate 512 0xFF } ∷ rest) []) (kept store marks)
+    keptOf (onward (pick b (Passes spot) (Fails WriteFault)) n s store marks) ≡ changed (pick b (record { index = spot .index; bytes = replicate 512 0xFF } ∷ rest) []) (kept store marks)
 unfolding changed blank
 by-mark true spot n s store marks marks0 rest h w f = f _ _ (same-stored store marks marks0 (replicate 512 0xFF) (spot .index) h w)
 by-mark false spot n s store marks marks0 rest h w f = refl

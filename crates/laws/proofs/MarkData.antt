@@ -20,11 +20,12 @@ use Rattle.registers.specs.declared.Phase.the-variants.{Idle, DataIn, DataOut}
 use Rattle.registers.specs.declared.State.{State}
 use Rattle.registers.specs.declared.Core.{Core}
 use Rattle.registers.specs.State.{Machine, withBuffer}
-use Rattle.registers.specs.WellMade.{locatedIn, found, statusFits, sectorsFit, loadFits, runFits}
+use Rattle.registers.specs.WellMade.{locatedIn, statusFits, sectorsFit, loadFits, runFits}
+use Rattle.geometry.specs.Codes.{found}
 use Rattle.commands.specs.declared.End.{End}
 use Rattle.commands.specs.declared.End.the-variants.{Good, BadHeadOrSector, BadCylinder, BadLba, Unreadable, WriteFault, BadGeometry, NoSuchCommand}
 use Rattle.commands.specs.declared.Tested.{Tested}
-use Rattle.commands.specs.declared.Tested.the-variants.{Sound, Fails}
+use Rattle.commands.specs.declared.Tested.the-variants.{Passes, Fails}
 use Rattle.port.specs.declared.Take.{Take}
 use Rattle.commands.specs.declared.Way.the-variants.{In, Out}
 use Rattle.commands.specs.Ends.{endStatus}
@@ -32,6 +33,7 @@ use Rattle.commands.specs.Before.{testedOf, addressTest, markTested, readTest, 
 use Rattle.commands.specs.Steps.{withState, passed, readTested, readSector, nextRead, loadRead, askTested, askSector, nextAsked, coreWritten, loadWritten}
 use Rattle.port.specs.Halves.{takeOf, partWritten}
 use Rattle.port.specs.Data.{wordRead, takenRead, phaseRead, wordWritten, takenWritten, phaseWritten}
+use Rattle.kept.proofs.Ends.{passed-count}
 use Rattle.laws.specs.Mark.{DataRead, DataWrite, asks, another, MarkRule}
 use Rattle.laws.proofs.MarkLaws.{still, turned, written-end, read-failed, read-well}
 use Rattle.laws.proofs.MarkEnds.{end-asks}
@@ -42,7 +44,7 @@ abbrev bad : End → Bool
 bad e = not (eqb (endStatus e) 0x50)
 
 abbrev proper : Tested → Bool
-proper (Sound spot) = true
+proper (Passes spot) = true
 proper (Fails e) = bad e
 
 address-proper : (l : Located) → proper (testedOf l) ≡ true
@@ -52,7 +54,7 @@ address-proper Located.BadCylinder = refl
 address-proper Located.BadLba = refl
 
 mark-proper : (allows : ℕ → Bool) (e : End) (t : Tested) (marks : List ℕ) → bad e ≡ true → proper t ≡ true → proper (markTested allows e t marks) ≡ true
-mark-proper allows e (Sound spot) marks b p = pick-elim (λ (t : Tested). proper t ≡ true) (allows _) _ _ (λ x. refl) (λ x. b)
+mark-proper allows e (Passes spot) marks b p = pick-elim (λ (t : Tested). proper t ≡ true) (allows _) _ _ (λ x. refl) (λ x. b)
 mark-proper allows e (Fails f) marks b p = p
 
 read-proper : (s : State) (marks : List ℕ) → proper (readTest s marks) ≡ true
@@ -64,21 +66,17 @@ read-proper s marks = mark-proper readable Unreadable (testedOf (locatedIn s)) m
 counts-down : (left count : ℕ) → 1 ≤ left → left % 256 ≡ count → not (eqb count ((left - 1) % 256)) ≡ true
 counts-down left count h e = ap not (ne-eqb count ((left - 1) % 256) (λ x. omega arith))
 
-passed-count : (left : ℕ) (s : State) → eqb left 0 ≡ false → passed left s .registers .count ≡ left % 256
-unfolding passed
-passed-count left s e = rw e
-
 -- what a running sector transfer has in its registers
 left-facts : (left : ℕ) (s : State) → loadFits (Sectors left) s ≡ true → eqb (left - 1) 0 ≡ false → another s (passed (left - 1) s) ≡ true
 unfolding loadFits sectorsFit
 left-facts left s f e =
     let t = each (found (locatedIn s) ∷ leb 1 left ∷ leb left 256 ∷ eqb (left % 256) (s .registers .count) ∷ []) f in
-    rw (passed-count (left - 1) s e) (counts-down left (s .registers .count) (leb-true _ _ (t 1)) (eqb-true _ _ (t 3)))
+    rw (← passed-count (left - 1) s) (counts-down left (s .registers .count) (leb-true _ _ (t 1)) (eqb-true _ _ (t 3)))
 
 -- ---- reading
 
 read-tested : (t : Tested) (left : ℕ) (s : State) (m : Machine) → proper t ≡ true → asks s ≡ true → another s (m .state) ≡ true → MarkRule DataRead s (readTested t left m .state)
-read-tested (Sound spot) left s m p a d = turned In s (readTested (Sound spot) left m .state) a refl d refl
+read-tested (Passes spot) left s m p a d = turned In s (readTested (Passes spot) left m .state) a refl d refl
 read-tested (Fails e) left s m p a d = read-failed s (readTested (Fails e) left m .state) a (end-asks e) (no _ p) refl
 
 load-read : (l : Load) (m : Machine) → asks (m .state) ≡ true → loadFits l (m .state) ≡ true → MarkRule DataRead (m .state) (loadRead l (withState (m .state) m) .state)
@@ -98,8 +96,8 @@ word-read t m a f =
 
 taken-read : (k : Take) (t : Transfer) (m : Machine) → asks (m .state) ≡ true → loadFits (t .load) (m .state) ≡ true → MarkRule DataRead (m .state) (takenRead k t m .next .state)
 taken-read Take.Refused t m a f = still In (m .state) (m .state) refl refl refl
-taken-read (Take.First part) t m a f = still In (m .state) (m .state) refl refl refl
-taken-read (Take.Last part) t m a f = word-read t m a f
+taken-read (Take.Moves part false) t m a f = still In (m .state) (m .state) refl refl refl
+taken-read (Take.Moves part true) t m a f = word-read t m a f
 
 pub phase-read : (p : Phase) (port : Port) (m : Machine) → statusFits p (m .state .registers .status) ≡ true → runFits p (m .state) ≡ true → MarkRule DataRead (m .state) (phaseRead p port m .next .state)
 unfolding statusFits runFits
@@ -110,12 +108,12 @@ phase-read (DataOut t) port m a f = still In (m .state) (m .state) refl refl ref
 -- ---- writing
 
 ask-tested : (t : Tested) (left : ℕ) (s n : State) → asks s ≡ true → another s n ≡ true → MarkRule DataWrite s (askTested t left false n .state)
-ask-tested (Sound spot) left s n a d = turned Out s (askTested (Sound spot) left false n .state) a refl d refl
+ask-tested (Passes spot) left s n a d = turned Out s (askTested (Passes spot) left false n .state) a refl d refl
 ask-tested (Fails e) left s n a d = written-end s (askTested (Fails e) left false n .state) a (end-asks e) refl
 
 core-written : (t : Tested) (left : ℕ) (s : State) → asks s ≡ true → loadFits (Sectors left) s ≡ true → MarkRule DataWrite s (coreWritten t (left - 1) s .state)
 unfolding nextAsked askSector
-core-written (Sound spot) left s a f =
+core-written (Passes spot) left s a f =
     pick-elim (λ (k : Core). MarkRule DataWrite s (k .state)) (eqb (left - 1) 0) _ _
     (λ e. written-end s _ a refl refl)
     (λ e. ask-tested (addressTest (passed (left - 1) s)) (left - 1) s (passed (left - 1) s) a (left-facts left s f e))
@@ -134,8 +132,8 @@ word-written t m a f =
 
 taken-written : (k : Take) (v : ℕ) (t : Transfer) (m : Machine) → asks (m .state) ≡ true → loadFits (t .load) (m .state) ≡ true → MarkRule DataWrite (m .state) (takenWritten k v t m .next .state)
 taken-written Take.Refused v t m a f = still Out (m .state) (m .state) refl refl refl
-taken-written (Take.First part) v t m a f = still Out (m .state) (m .state) refl refl refl
-taken-written (Take.Last part) v t m a f = word-written t (withBuffer (partWritten part (t .words) v (m .buffer)) m) a f
+taken-written (Take.Moves part false) v t m a f = still Out (m .state) (m .state) refl refl refl
+taken-written (Take.Moves part true) v t m a f = word-written t (withBuffer (partWritten part (t .words) v (m .buffer)) m) a f
 
 pub phase-written : (p : Phase) (port : Port) (v : ℕ) (m : Machine) → statusFits p (m .state .registers .status) ≡ true → runFits p (m .state) ≡ true → MarkRule DataWrite (m .state) (phaseWritten p port v m .next .state)
 unfolding statusFits runFits

@@ -14,7 +14,7 @@ use Rattle.registers.specs.WellMade.{totalIn}
 use Rattle.commands.specs.declared.End.{End}
 use Rattle.commands.specs.declared.End.the-variants.{Good, BadHeadOrSector, BadCylinder, BadLba, Unreadable, WriteFault, BadGeometry, NoSuchCommand}
 use Rattle.commands.specs.declared.Tested.{Tested}
-use Rattle.commands.specs.declared.Tested.the-variants.{Sound, Fails}
+use Rattle.commands.specs.declared.Tested.the-variants.{Passes, Fails}
 use Rattle.commands.specs.declared.Command.{Command}
 use Rattle.commands.specs.declared.Command.the-variants.{Read, Write, Verify, Erase, Identify, ReadBuffer, WriteBuffer, SetGeometry, Diagnose, Recalibrate, Seek, Sense, Other}
 use Rattle.commands.specs.Ends.{endStatus, ended}
@@ -41,7 +41,7 @@ abbrev Over : State → Type 0
 Over n = (n .mark ≡ true) × (asks n ≡ false)
 
 verified-on : (t : Tested) (s : State) (rest : Core) → Over (rest .state) → Over (goesOn t (λ k. k) s rest .state)
-verified-on (Sound spot) s rest h = h
+verified-on (Passes spot) s rest h = h
 verified-on (Fails e) s rest h = (refl, end-asks e)
 
 verified : (n : ℕ) (s : State) (marks : List ℕ) → Over (verifyFrom n s marks .state)
@@ -50,7 +50,7 @@ verified zero s marks = (refl, refl)
 verified (suc n) s marks = verified-on (readTest s marks) s (verifyFrom n (passed n s) marks) (verified n (passed n s) marks)
 
 erased-on : (t : Tested) (s : State) (store marks : List ℕ) (rest : Erased) → Over (rest .core .state) → Over (goesOn t (λ c. erased c store marks) s rest .core .state)
-erased-on (Sound spot) s store marks rest h = h
+erased-on (Passes spot) s store marks rest h = h
 erased-on (Fails e) s store marks rest h = (refl, end-asks e)
 
 erases : (n : ℕ) (s : State) (store marks : List ℕ) → Over (eraseFrom n s store marks .core .state)
@@ -69,11 +69,11 @@ done : (c : Command) (s n : State) → Over n → MarkRule (CommandWrite c) s n
 done c s n o = over c s n (o .0) (o .1)
 
 read-first : (t : Tested) (left : ℕ) (s : State) (m : Machine) → MarkRule (CommandWrite Read) s (readTested t left m .state)
-read-first (Sound spot) left s m = ready Read s (readTested (Sound spot) left m .state) refl refl refl
+read-first (Passes spot) left s m = ready Read s (readTested (Passes spot) left m .state) refl refl refl
 read-first (Fails e) left s m = over Read s (readTested (Fails e) left m .state) refl (end-asks e)
 
 ask-first : (t : Tested) (left : ℕ) (s n : State) → n .mark ≡ false → MarkRule (CommandWrite Write) s (askTested t left true n .state)
-ask-first (Sound spot) left s n e = asked Write s (askTested (Sound spot) left true n .state) refl e refl
+ask-first (Passes spot) left s n e = asked Write s (askTested (Passes spot) left true n .state) refl e refl
 ask-first (Fails f) left s n e = over Write s (askTested (Fails f) left true n .state) refl (end-asks f)
 
 -- s is the state before the Command write, n the state that the command starts with

@@ -39,8 +39,8 @@ picked m false x y f g = g
 
 taken-read : (k : Take) (t : Transfer) (m : Machine) → Stays m (takenRead k t m)
 taken-read Take.Refused t m r e = refl
-taken-read (Take.First part) t m r e = accepts-not _ r e
-taken-read (Take.Last part) t m r e = accepts-not _ r e
+taken-read (Take.Moves part false) t m r e = accepts-not _ r e
+taken-read (Take.Moves part true) t m r e = accepts-not _ r e
 
 phase-read : (p : Phase) (port : Port) (m : Machine) → Stays m (phaseRead p port m)
 phase-read Idle port m r e = refl
@@ -49,8 +49,8 @@ phase-read (DataOut t) port m r e = refl
 
 taken-written : (k : Take) (v : ℕ) (t : Transfer) (m : Machine) → Stays m (takenWritten k v t m)
 taken-written Take.Refused v t m r e = refl
-taken-written (Take.First part) v t m r e = accepts-not _ r e
-taken-written (Take.Last part) v t m r e = accepts-not _ r e
+taken-written (Take.Moves part false) v t m r e = accepts-not _ r e
+taken-written (Take.Moves part true) v t m r e = accepts-not _ r e
 
 phase-written : (p : Phase) (port : Port) (v : ℕ) (m : Machine) → Stays m (phaseWritten p port v m)
 phase-written Idle port v m r e = refl

@@ -19,7 +19,7 @@ use Rattle.registers.specs.declared.Phase.the-variants.{Idle, DataIn, DataOut}
 use Rattle.registers.specs.State.{Machine, withBuffer}
 use Rattle.registers.specs.WellMade.{locatedIn}
 use Rattle.commands.specs.declared.End.the-variants.{WriteFault}
-use Rattle.commands.specs.declared.Tested.the-variants.{Sound, Fails}
+use Rattle.commands.specs.declared.Tested.the-variants.{Passes, Fails}
 use Rattle.port.specs.declared.Take.{Take}
 use Rattle.commands.specs.Before.{testedOf, addressTest, markTested, storeTest, storedBy, sectorStored, StoreTested}
 use Rattle.commands.specs.Steps.{withState, loadWritten}
@@ -30,7 +30,7 @@ use Rattle.laws.specs.Changes.{changed, keptIn, writes, loadChanges, tak
 abbrev keptOf : StoreTested → Kept
 keptOf k = kept (k .store) (k .marks)
 
-by-mark : (b : Bool) (spot : Spot) (bytes store marks : List ℕ) → keptOf (storedBy (pick b (Sound spot) (Fails WriteFault)) bytes store marks) ≡ changed (pick b (record { index = spot .index; bytes = bytes } ∷ []) []) (kept store marks)
+by-mark : (b : Bool) (spot : Spot) (bytes store marks : List ℕ) → keptOf (storedBy (pick b (Passes spot) (Fails WriteFault)) bytes store marks) ≡ changed (pick b (record { index = spot .index; bytes = bytes } ∷ []) []) (kept store marks)
 unfolding changed
 by-mark true spot bytes store marks = refl
 by-mark false spot bytes store marks = refl
@@ -55,8 +55,8 @@ by-word false l bytes m x e = load-written l bytes m
 taken-written : (k : Take) (v : ℕ) (t : Transfer) (m : Machine) → keptIn (takenWritten k v t m .next) ≡ changed (takenChanges k v t m) (keptIn m)
 unfolding changed wordWritten
 taken-written Take.Refused v t m = refl
-taken-written (Take.First part) v t m = refl
-taken-written (Take.Last part) v t m = by-word (ltb (t .words) 255) (t .load) (partWritten part (t .words) v (m .buffer)) m _ refl
+taken-written (Take.Moves part false) v t m = refl
+taken-written (Take.Moves part true) v t m = by-word (ltb (t .words) 255) (t .load) (partWritten part (t .words) v (m .buffer)) m _ refl
 
 pub phase-written : (p : Phase) (port : Port) (v : ℕ) (m : Machine) → keptIn (phaseWritten p port v m .next) ≡ changed (phaseChanges p port v m) (keptIn m)
 unfolding changed

@@ -2,6 +2,7 @@
 -- C0H "as write, storing FFH (H), no data".
 use Prim.Native.Nat.{ℕ, zero, suc, _<_}
 use mathlib.Core.Path.{_≡_}
+use mathlib.Core.Bool.{true, false}
 use mathlib.Core.List.{List, [], _∷_}
 use lib.Dec.{ltb, eqb}
 use lib.ListN.{length, getD, replicate}
@@ -102,8 +103,8 @@ loadChanges (Sectors left) bytes m = writes (locatedIn (m .state)) (m .marks) by
 -- a write that makes the last of the 256 words whole stores the buffer, with what it writes in it
 abbrev pub takenChanges : Take → ℕ → Transfer → Machine → List Change
 takenChanges Take.Refused v t m = []
-takenChanges (Take.First part) v t m = []
-takenChanges (Take.Last part) v t m = pick (ltb (t .words) 255) [] (loadChanges (t .load) (partWritten part (t .words) v (m .buffer)) m)
+takenChanges (Take.Moves part false) v t m = []
+takenChanges (Take.Moves part true) v t m = pick (ltb (t .words) 255) [] (loadChanges (t .load) (partWritten part (t .words) v (m .buffer)) m)
 
 abbrev pub phaseChanges : Phase → Port → ℕ → Machine → List Change
 phaseChanges Idle port v m = []

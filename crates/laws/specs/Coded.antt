@@ -6,6 +6,9 @@ use mathlib.Core.List.{List, [], _∷_}
 use lib.Dec.{eqb}
 use Rattle.ground.specs.Choice.{pick}
 use Rattle.registers.specs.declared.State.{State}
+use Rattle.commands.specs.declared.Tested.{Tested}
+use Rattle.commands.specs.declared.Tested.the-variants.{Passes, Fails}
+use Rattle.commands.specs.Ends.{endCode}
 use Rattle.card.specs.Step.{Stepped}
 
 -- "ends in error" is read off Status
@@ -14,6 +17,11 @@ inError status = pick (eqb status 0x51) true (eqb status 0x71)
 
 abbrev pub Coded : State → Type 0
 Coded s = inError (s .registers .status) ≡ true → s .code ≡ 0 → ⊥
+
+-- the code of an end by a test, 0 where none failed
+abbrev pub testedCode : Tested → ℕ
+testedCode (Passes spot) = 0
+testedCode (Fails e) = endCode e 0
 
 -- after each access of a list
 abbrev pub AllCoded : List Stepped → Type 0

@@ -11,6 +11,7 @@ use Rattle.registers.specs.declared.Transfer.{Transfer}
 use Rattle.registers.specs.declared.Phase.{Phase}
 use Rattle.registers.specs.declared.Phase.the-variants.{Idle, DataIn, DataOut}
 use Rattle.registers.specs.State.{Machine, machine, core, withCore, withBuffer}
+use Rattle.port.specs.declared.Part.{Part}
 use Rattle.port.specs.declared.Take.{Take}
 use Rattle.port.specs.declared.Done.{Done}
 use Rattle.port.specs.Halves.{takeOf, partValue, partWritten, halved, nextWord}
@@ -36,10 +37,14 @@ withPhase p m = withCore (core p (m .state)) m
 unfoldable pub wordRead : Transfer → Machine → Machine
 wordRead t m = pick (ltb (t .words) 255) (withPhase (DataIn (nextWord t)) m) (loadRead (t .load) (withState (m .state) m))
 
+-- a part has gone: the word is whole, or begun
+abbrev pub partRead : Bool → Part → Transfer → Machine → Machine
+partRead true part t m = wordRead t m
+partRead false part t m = withPhase (DataIn (halved part t)) m
+
 abbrev pub takenRead : Take → Transfer → Machine → Effect
 takenRead Take.Refused t m = record { outcome = Outcome.Refused HalfMoved; next = m }
-takenRead (Take.First part) t m = accepted (partValue part (t .words) (m .buffer)) (withPhase (DataIn (halved part t)) m)
-takenRead (Take.Last part) t m = accepted (partValue part (t .words) (m .buffer)) (wordRead t m)
+takenRead (Take.Moves part whole) t m = accepted (partValue part (t .words) (m .buffer)) (partRead whole part t m)
 
 -- "Refusal 11 is given only for an access in the running transfer's direction. With no transfer that way, a read gives FFH or FFFFH …"
 abbrev pub absent : Port → ℕ
@@ -66,11 +71,15 @@ dataRead port m = pick (m .state .control .held) (accepted (heldValue port) m) (
 unfoldable pub wordWritten : Transfer → Machine → Machine
 wordWritten t m = pick (ltb (t .words) 255) (withPhase (DataOut (nextWord t)) m) (loadWritten (t .load) (withState (m .state) m))
 
+-- a part has come: the word is whole, or begun
+abbrev pub partStored : Bool → Part → Transfer → Machine → Machine
+partStored true part t m = wordWritten t m
+partStored false part t m = withPhase (DataOut (halved part t)) m
+
 -- "Read sectors, Identify and writes pass through the same buffer, a written byte at once"
 abbrev pub takenWritten : Take → ℕ → Transfer → Machine → Effect
 takenWritten Take.Refused value t m = record { outcome = Outcome.Refused HalfMoved; next = m }
-takenWritten (Take.First part) value t m = accepted 0 (withPhase (DataOut (halved part t)) (withBuffer (partWritten part (t .words) value (m .buffer)) m))
-takenWritten (Take.Last part) value t m = accepted 0 (wordWritten t (withBuffer (partWritten part (t .words) value (m .buffer)) m))
+takenWritten (Take.Moves part whole) value t m = accepted 0 (partStored whole part t (withBuffer (partWritten part (t .words) value (m .buffer)) m))
 
 -- "… and a write has no effect (H)"
 abbrev pub phaseWritten : Phase → Port → ℕ → Machine → Effect

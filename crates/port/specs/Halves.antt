@@ -1,5 +1,6 @@
 -- 01, "Data": what of a word an access moves.
 use Prim.Native.Nat.{ℕ, _+_, _*_, _/_, _%_}
+use mathlib.Core.Bool.{true, false}
 use mathlib.Core.List.{List}
 use lib.ListN.{getD, set}
 use Rattle.maps.specs.declared.Port.{Port}
@@ -8,19 +9,19 @@ use Rattle.registers.specs.declared.Transfer.{Transfer}
 use Rattle.port.specs.declared.Part.{Part}
 use Rattle.port.specs.declared.Part.the-variants.{Low, High, Both}
 use Rattle.port.specs.declared.Take.{Take}
-use Rattle.port.specs.declared.Take.the-variants.{Refused, First, Last}
+use Rattle.port.specs.declared.Take.the-variants.{Refused, Moves}
 
 -- "Within a word nothing, the low half or the high half has moved."
 -- "A byte at 0 or 8 moves the low half if it hasn't moved, else the high. A byte at 9 moves the high half, else refusal 11";
--- a word moves both, where nothing has moved. `First` leaves the word begun, `Last` makes it whole.
+-- a word moves both, where nothing has moved. Beside the part: whether the word is whole with it.
 unfoldable pub takeOf : Half → Port → Take
-takeOf Half.Nothing Port.Low = First Low
-takeOf Half.Nothing Port.High = First High
-takeOf Half.Nothing Port.Word = Last Both
-takeOf Half.Low Port.Low = Last High
-takeOf Half.Low Port.High = Last High
+takeOf Half.Nothing Port.Low = Moves Low false
+takeOf Half.Nothing Port.High = Moves High false
+takeOf Half.Nothing Port.Word = Moves Both true
+takeOf Half.Low Port.Low = Moves High true
+takeOf Half.Low Port.High = Moves High true
 takeOf Half.Low Port.Word = Refused
-takeOf Half.High Port.Low = Last Low
+takeOf Half.High Port.Low = Moves Low true
 takeOf Half.High Port.High = Refused
 takeOf Half.High Port.Word = Refused
 

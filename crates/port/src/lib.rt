@@ -13,7 +13,7 @@ ghost use lib.ListN.{getD, set};
 ghost use Rattle.registers.specs.State.{machine, core};
 ghost use Rattle.commands.specs.Steps.{idle};
 ghost use Rattle.port.specs.Halves.{takeOf, partValue, partWritten, halfOf, halved, nextWord};
-ghost use Rattle.port.specs.Data.{effect, wordRead, takenRead, absent, heldValue, phaseRead, dataRead, wordWritten, takenWritten, phaseWritten, dataWritten};
+ghost use Rattle.port.specs.Data.{effect, wordRead, partRead, takenRead, absent, heldValue, phaseRead, dataRead, wordWritten, partStored, takenWritten, phaseWritten, dataWritten};
 
 // What of a word an access moves.
 pub enum Part {
@@ -22,11 +22,10 @@ pub enum Part {
     Both,
 }
 
-// Whether a part may move: it is refused, leaves the word begun, or makes it whole.
+// Whether a part may move: it is refused, or it moves, and the word is whole with it or only begun.
 pub enum Take {
     Refused,
-    First(Part),
-    Last(Part),
+    Moves(Part, bool),
 }
 
 // An access's outcome, and the card without its buffer after it.
@@ -41,17 +40,17 @@ fn take_of(half: Half, port: Port) -> Take
 {
     match half {
         Half::Nothing => match port {
-            Port::Low => Take::First(Part::Low),
-            Port::High => Take::First(Part::High),
-            Port::Word => Take::Last(Part::Both),
+            Port::Low => Take::Moves(Part::Low, false),
+            Port::High => Take::Moves(Part::High, false),
+            Port::Word => Take::Moves(Part::Both, true),
         },
         Half::Low => match port {
-            Port::Low => Take::Last(Part::High),
-            Port::High => Take::Last(Part::High),
+            Port::Low => Take::Moves(Part::High, true),
+            Port::High => Take::Moves(Part::High, true),
             Port::Word => Take::Refused,
         },
         Half::High => match port {
-            Port::Low => Take::Last(Part::Low),
+            Port::Low => Take::Moves(Part::Low, true),
             Port::High => Take::Refused,
             Port::Word => Take::Refused,
         },
@@ -156,6 +155,29 @@ fn word_read(state: State, t: Transfer, buffer: &mut [u8; 512], store: &[u8], ma
     commands::load_read(state, load, buffer, store, marks)
 }
 
+// A part has gone: the word is whole, or begun.
+fn part_read(
+    core: Core,
+    t: Transfer,
+    part: Part,
+    whole: bool,
+    buffer: &mut [u8; 512],
+    store: &[u8],
+    marks: &[u8],
+) -> Core
+    ensures { λ r. ⌜ machine r (now (buffer .exit)) (now (store .entry)) (now (marks .entry)) ≡ partRead whole part t (machine core (now (buffer .entry)) (now (store .entry)) (now (marks .entry))) ⌝ }
+{
+    let state = core.state;
+    if whole {
+        return word_read(state, t, buffer, store, marks);
+    }
+    let next = halved(t, part);
+    Core {
+        phase: Phase::DataIn(next),
+        state: state,
+    }
+}
+
 fn refused(core: Core) -> Done
     ensures { λ r. ⌜ r ≡ record { outcome = Outcome.Refused Refusal.HalfMoved; core = core } ⌝ }
 {
@@ -186,23 +208,11 @@ fn taken_read(
     ensures { λ r. ⌜ effect r (now (buffer .exit)) (now (store .entry)) (now (marks .entry)) ≡ takenRead (takeOf (t .half) port) t (machine core (now (buffer .entry)) (now (store .entry)) (now (marks .entry))) ⌝ }
 {
     let half = t.half;
-    let state = core.state;
     match take_of(half, port) {
         Take::Refused => refused(core),
-        Take::First(part) => {
+        Take::Moves(part, whole) => {
             let value = part_value(part, t.words, buffer);
-            let next = halved(t, part);
-            accepted(
-                Core {
-                    phase: Phase::DataIn(next),
-                    state: state,
-                },
-                value,
-            )
-        }
-        Take::Last(part) => {
-            let value = part_value(part, t.words, buffer);
-            let next = word_read(state, t, buffer, store, marks);
+            let next = part_read(core, t, part, whole, buffer, store, marks);
             accepted(next, value)
         }
     }
@@ -268,6 +278,29 @@ fn word_written(
     commands::load_written(state, load, buffer, store, marks)
 }
 
+// A part has come: the word is whole, or begun.
+fn part_written(
+    core: Core,
+    t: Transfer,
+    part: Part,
+    whole: bool,
+    buffer: &[u8; 512],
+    store: &mut [u8],
+    marks: &mut [u8],
+) -> Core
+    ensures { λ r. ⌜ machine r (now (buffer .entry)) (now (store .exit)) (now (marks .exit)) ≡ partStored whole part t (machine core (now (buffer .entry)) (now (store .entry)) (now (marks .entry))) ⌝ }
+{
+    let state = core.state;
+    if whole {
+        return word_written(state, t, buffer, store, marks);
+    }
+    let next = halved(t, part);
+    Core {
+        phase: Phase::DataOut(next),
+        state: state,
+    }
+}
+
 // A write in a transfer out: the part goes into the buffer at once.
 fn taken_written(
     core: Core,
@@ -281,23 +314,11 @@ fn taken_written(
     ensures { λ r. ⌜ effect r (now (buffer .exit)) (now (store .exit)) (now (marks .exit)) ≡ takenWritten (takeOf (t .half) port) value t (machine core (now (buffer .entry)) (now (store .entry)) (now (marks .entry))) ⌝ }
 {
     let half = t.half;
-    let state = core.state;
     match take_of(half, port) {
         Take::Refused => refused(core),
-        Take::First(part) => {
+        Take::Moves(part, whole) => {
             write_part(part, t.words, value, buffer);
-            let next = halved(t, part);
-            accepted(
-                Core {
-                    phase: Phase::DataOut(next),
-                    state: state,
-                },
-                0,
-            )
-        }
-        Take::Last(part) => {
-            write_part(part, t.words, value, buffer);
-            let next = word_written(state, t, buffer, store, marks);
+            let next = part_written(core, t, part, whole, buffer, store, marks);
             accepted(next, 0)
         }
     }

@@ -3,7 +3,6 @@ use Prim.Native.Nat.{ℕ, _/_, _%_}
 use mathlib.Core.Bool.{Bool, true, false}
 use mathlib.Core.List.{List}
 use lib.Dec.{eqb}
-use lib.ListN.{replicate}
 use Rattle.registers.specs.declared.Phase.{Phase}
 use Rattle.registers.specs.declared.Phase.the-variants.{Idle, DataIn, DataOut}
 use Rattle.registers.specs.declared.State.{State}
@@ -11,7 +10,7 @@ use Rattle.registers.specs.declared.Core.{Core}
 use Rattle.registers.specs.declared.resets.Turn.{Turn}
 use Rattle.registers.specs.declared.resets.Turn.the-variants.{Enter, Leave, Stay}
 use Rattle.registers.specs.State.{core, withStatus, withMark, withOption, withControl, sresetIn}
-use Rattle.registers.specs.PowerOn.{powerOn}
+use Rattle.registers.specs.PowerOn.{powerOn, zeros}
 
 -- what writing a reset's bit does: was the card held, is the bit set now
 unfoldable pub turnOf : Bool → Bool → Turn
@@ -39,7 +38,7 @@ optionTurned Stay v p s = core p (withOption v s)
 -- power-on: buffer zeros
 unfoldable pub bufferTurned : Turn → List ℕ → List ℕ
 bufferTurned Enter b = b
-bufferTurned Leave b = replicate 512 0
+bufferTurned Leave b = zeros
 bufferTurned Stay b = b
 
 abbrev pub optionTurn : ℕ → State → Turn

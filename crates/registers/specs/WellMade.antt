@@ -5,9 +5,9 @@ use mathlib.Core.List.{[], _∷_}
 use lib.Dec.{leb, ltb, eqb}
 use Rattle.ground.specs.Choice.{pick, every}
 use Rattle.geometry.specs.declared.Located.{Located}
-use Rattle.geometry.specs.declared.Located.the-variants.{Good, BadHeadOrSector, BadCylinder, BadLba}
 use Rattle.geometry.specs.Limits.{fits, totalOf, currentFor}
 use Rattle.geometry.specs.Address.{locate}
+use Rattle.geometry.specs.Codes.{found}
 use Rattle.maps.specs.declared.Mode.{Mode}
 use Rattle.maps.specs.declared.Mode.the-variants.{PcCard, TrueIde}
 use Rattle.registers.specs.declared.Load.{Load}
@@ -59,12 +59,6 @@ wordsFit (DataIn t) = leb (t .words) 255
 wordsFit (DataOut t) = leb (t .words) 255
 
 -- a running sector transfer has a valid address in its registers and 1..256 sectors left, agreeing with Sector Count modulo 256
-unfoldable pub found : Located → Bool
-found (Good spot) = true
-found BadHeadOrSector = false
-found BadCylinder = false
-found BadLba = false
-
 unfoldable pub sectorsFit : ℕ → State → Bool
 sectorsFit left s =
     every

@@ -15,7 +15,8 @@ use Rattle.sectors.specs.Marks.{readable, writable, marksFit}
 use Rattle.sectors.specs.Sectors.{sectorOf, withSector, bufferRead, stored}
 use Rattle.identify.specs.Words.{firstWord, laterWord, identifyWord, identifyByte, identifyBytes}
 use Rattle.identify.specs.Words
-use Rattle.registers.specs.WellMade.{indexFits, sresetFits, atRest, statusFits, heldIn, holdFits, wordsFit, found, sectorsFit, loadFits, runFits, wellMade}
+use Rattle.registers.specs.WellMade.{indexFits, sresetFits, atRest, statusFits, heldIn, holdFits, wordsFit, sectorsFit, loadFits, runFits, wellMade}
+use Rattle.geometry.specs.Codes.{found}
 use Rattle.registers.specs.Resets.{turnOf, optionTurned, bufferTurned, controlTurned}
 use Rattle.registers.specs.Values.{valueRead, afterRead, registerSet}
 use Rattle.commands.specs.Before.{addressTest, readTest, storeTest, sectorStored}
@@ -28,7 +29,8 @@ use Rattle.commands.specs.Table.{commandOf, countOf, commandGiven}
 use Rattle.card.specs.Access.{heldAway, decided, meaning}
 use Rattle.card.specs.Perform.{optionWritten, plainCore, registerWritten, perform}
 use Rattle.card.specs.Step.{step}
-use Rattle.card.specs.Opening.{zeros, opened}
+use Rattle.card.specs.Opening.{opened}
+use Rattle.registers.specs.PowerOn.{zeros}
 use Rattle.tuples.specs.Chain.{chainFrom}
 use Rattle.tuples.specs.Read.{counted, readOutcome}
 use Rattle.samples.specs.Hosts.{listed, store, marks, tuples, opening, agrees}
@@ -44,7 +46,7 @@ computed :
     × (passes ignoresWrites ≡ false)
     × (passes (makesUpCount 1) ≡ false)
     × (passes (makesUpCount 224) ≡ false)
-unfolding samples sample1 sample2 sample3 sample4 sample5 sample6 sample7 sample8 sample9 sample10 sample11 sample12 sample13 identified wordLines sameEntries readsAs readOutcome counted chainFrom holdsOf allOf passes sector listed store marks tuples opening agrees step meaning decided heldAway answersAt cardAnswers standsAt attributeAt optionAt aboveThree tupleAt byteAt misfits registerAt placeAt portAt namedAt evenData offsetAt memoryAt ioAt windowAt within wellMade runFits loadFits sectorsFit found wordsFit holdFits heldIn statusFits atRest sresetFits indexFits every fits totalOf currentFor locate locateChs locateLba byLba seek reshaped nextOf nextChs perform optionWritten registerWritten plainCore valueRead afterRead registerSet turnOf optionTurned bufferTurned controlTurned dataRead dataWritten wordRead wordWritten takeOf readSector nextRead askSector nextAsked passed readTest storeTest addressTest sectorStored stored withSector sectorOf bufferRead readable writable marksFit verifyFrom eraseFrom Rattle.commands.specs.Runs.blank identifyBytes identifyByte identifyWord firstWord laterWord Rattle.identify.specs.Words.blank countOf commandOf commandGiven opened zeros refusesAll readsFifty ignoresWrites makesUpCount countsAs
+unfolding samples sample1 sample2 sample3 sample4 sample5 sample6 sample7 sample8 sample9 sample10 sample11 sample12 sample13 identified wordLines sameEntries readsAs readOutcome counted chainFrom holdsOf allOf passes sector listed store marks tuples opening agrees step meaning decided heldAway answersAt cardAnswers standsAt attributeAt optionAt aboveThree tupleAt byteAt misfits registerAt placeAt portAt namedAt evenData offsetAt memoryAt ioAt windowAt within wellMade runFits loadFits sectorsFit wordsFit holdFits heldIn statusFits atRest sresetFits indexFits every fits totalOf currentFor locate locateChs locateLba byLba seek reshaped nextOf nextChs perform optionWritten registerWritten plainCore valueRead afterRead registerSet turnOf optionTurned bufferTurned controlTurned dataRead dataWritten wordRead wordWritten takeOf readSector nextRead askSector nextAsked passed readTest storeTest addressTest sectorStored stored withSector sectorOf bufferRead readable writable marksFit verifyFrom eraseFrom Rattle.commands.specs.Runs.blank identifyBytes identifyByte identifyWord firstWord laterWord Rattle.identify.specs.Words.blank countOf commandOf commandGiven opened zeros refusesAll readsFifty ignoresWrites makesUpCount countsAs
 computed = (refl, refl, refl, refl, refl, refl)
 
 -- The thirteen samples.

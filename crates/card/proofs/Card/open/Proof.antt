@@ -1,152 +1,20 @@
-use mathlib.Core.Path.{_≡_, sym, _∙_, ap}
-use borrow.Author.Tests.{eq-eqb, ne-eqb, lt-ltb, le-ltb, le-leb, lt-leb}
-use Rattle.ground.proofs.Picks.{no, yes}
-use Rattle.card.specs.Opening.{opened}
+use Rattle.registers.specs.PowerOn.{zeros}
 use borrow.Author.Needs.{needs}
 use Rattle.card.proofs.Card.open.Statement.{statement}
 use Rattle.card.proofs.Card.open.Tie as tie
 use Rattle.card.proofs.Card.open.Reads as reads
 use Rattle.card.proofs.Card.open.Lts as lts
-use Rattle.card.proofs.opening.mode_of.Reads as mode-of-reads
-use Rattle.card.proofs.opening.open_refused.Reads as open-refused-reads
-use Rattle.card.proofs.opening.powered.Reads as powered-reads
-use Rattle.geometry.proofs.Geometry.fits.Reads as fits-reads
-use Rattle.geometry.proofs.Geometry.total.Reads as total-reads
-use Rattle.sectors.proofs.marks_fit.Reads as marks-fit-reads
+use Rattle.card.proofs.opening.open_reply.Reads as open-reply-reads
 
--- src/opening.rt:118:13
-fits-requires : tie.Need-fits-requires
-fits-requires c κs = search needs
+-- src/opening.rt:149:13
+open-reply-requires : tie.Need-open-reply-requires
+open-reply-requires c κs = search needs
 
--- src/opening.rt:119:13
-open-refused-requires : tie.Need-open-refused-requires
-open-refused-requires c κs = search needs
-
--- src/opening.rt:119:13
+-- src/opening.rt:133:5
 returns : tie.Need-returns
-unfolding opened
+unfolding zeros
 returns c =
-    let w = sym (c .before .before .fits2 .ensures) ∙ no _ (c .before .if1 .taken) in
-    simp (w, c .open-refused .ensures)
-
--- src/opening.rt:122:13
-open-refused-requires-2 : tie.Need-open-refused-requires-2
-open-refused-requires-2 c κs = search needs
-
--- src/opening.rt:122:13
-returns-2 : tie.Need-returns-2
-unfolding opened
-returns-2 c =
-    let w = sym (c .before .before .before .fits2 .ensures) ∙ yes _ (c .before .before .if1 .left) in
-    simp (w, lt-leb _ _ (c .before .if2 .taken), c .open-refused2 .ensures)
-
--- src/opening.rt:124:21
-total-requires : tie.Need-total-requires
-total-requires c κs = search needs
-
--- src/opening.rt:124:21
-cast-total : tie.Need-cast-total
-cast-total c = search needs
-
--- src/opening.rt:125:27
-mul-if3 : tie.Need-mul-if3
-mul-if3 c = search needs
-
--- src/opening.rt:126:13
-open-refused-requires-3 : tie.Need-open-refused-requires-3
-open-refused-requires-3 c κs = search needs
-
--- src/opening.rt:126:13
-returns-3 : tie.Need-returns-3
-unfolding opened
-returns-3 c =
-    let w = sym (c .before .before .before .before .before .fits2 .ensures) ∙ yes _ (c .before .before .before .before .if1 .left) in
-    let n = simp (c .before .before .total .ensures) at (c .before .if3 .taken) in
-    simp (w, le-leb _ _ (c .before .before .before .if2 .left), ne-eqb _ _ n, c .open-refused3 .ensures)
-
--- src/opening.rt:129:13
-open-refused-requires-4 : tie.Need-open-refused-requires-4
-open-refused-requires-4 c κs = search needs
-
--- src/opening.rt:129:13
-returns-4 : tie.Need-returns-4
-unfolding opened
-returns-4 c =
-    let w = sym (c .before .before .before .before .before .before .fits2 .ensures) ∙ yes _ (c .before .before .before .before .before .if1 .left) in
-    let s = simp (c .before .before .before .total .ensures) at (c .before .before .if3 .left) in
-    let n = simp (c .before .before .before .total .ensures) at (c .before .if4 .taken) in
-    simp (w, le-leb _ _ (c .before .before .before .before .if2 .left), eq-eqb _ _ s, ne-eqb _ _ n, c .open-refused4 .ensures)
-
--- src/opening.rt:132:13
-open-refused-requires-5 : tie.Need-open-refused-requires-5
-open-refused-requires-5 c κs = search needs
-
--- src/opening.rt:132:13
-returns-5 : tie.Need-returns-5
-unfolding opened
-returns-5 c =
-    let w = sym (c .before .before .before .before .before .before .before .fits2 .ensures) ∙ yes _ (c .before .before .before .before .before .before .if1 .left) in
-    let s = simp (c .before .before .before .before .total .ensures) at (c .before .before .before .if3 .left) in
-    let n = simp (c .before .before .before .before .total .ensures) at (c .before .before .if4 .left) in
-    simp (w, le-leb _ _ (c .before .before .before .before .before .if2 .left), eq-eqb _ _ s, eq-eqb _ _ n, ne-eqb _ _ (c .before .if5 .taken), c .open-refused5 .ensures)
-
--- src/opening.rt:134:13
-marks-fit-requires : tie.Need-marks-fit-requires
-marks-fit-requires c κs = search needs
-
--- src/opening.rt:135:13
-open-refused-requires-6 : tie.Need-open-refused-requires-6
-open-refused-requires-6 c κs = search needs
-
--- src/opening.rt:135:13
-returns-6 : tie.Need-returns-6
-unfolding opened
-returns-6 c =
-    let w = sym (c .before .before .before .before .before .before .before .before .before .fits2 .ensures) ∙ yes _ (c .before .before .before .before .before .before .before .before .if1 .left) in
-    let s = simp (c .before .before .before .before .before .before .total .ensures) at (c .before .before .before .before .before .if3 .left) in
-    let n = simp (c .before .before .before .before .before .before .total .ensures) at (c .before .before .before .before .if4 .left) in
-    let m = sym (c .before .before .marks-fit .ensures) ∙ no _ (c .before .if6 .taken) in
-    simp (w, le-leb _ _ (c .before .before .before .before .before .before .before .if2 .left), eq-eqb _ _ s, eq-eqb _ _ n, eq-eqb _ _ (c .before .before .before .if5 .left), m, c .open-refused6 .ensures)
-
--- src/opening.rt:137:38
-mode-of-requires : tie.Need-mode-of-requires
-mode-of-requires c κs = search needs
-
--- src/opening.rt:137:13
-powered-requires : tie.Need-powered-requires
-powered-requires c κs = search needs
-
--- src/opening.rt:102:5
-returns-7 : tie.Need-returns-7
-unfolding opened
-returns-7 c =
-    let w = sym (c .before .before .before .before .before .before .before .before .before .before .fits2 .ensures) ∙ yes _ (c .before .before .before .before .before .before .before .before .before .if1 .left) in
-    let s = simp (c .before .before .before .before .before .before .before .total .ensures) at (c .before .before .before .before .before .before .if3 .left) in
-    let n = simp (c .before .before .before .before .before .before .before .total .ensures) at (c .before .before .before .before .before .if4 .left) in
-    let m = sym (c .before .before .before .marks-fit .ensures) ∙ yes _ (c .before .before .if6 .left) in
-    simp (w, le-leb _ _ (c .before .before .before .before .before .before .before .before .if2 .left), eq-eqb _ _ s, eq-eqb _ _ n, eq-eqb _ _ (c .before .before .before .before .if5 .left), m, c .powered .ensures, c .before .mode-of .ensures)
+    c .before .before .open-reply .ensures
 
 pub open-spec : {M : Type 1} → statement M
-open-spec =
-    tie.close
-    (tie.spec
-    fits-requires
-    open-refused-requires
-    returns
-    open-refused-requires-2
-    returns-2
-    total-requires
-    cast-total
-    mul-if3
-    open-refused-requires-3
-    returns-3
-    open-refused-requires-4
-    returns-4
-    open-refused-requires-5
-    returns-5
-    marks-fit-requires
-    open-refused-requires-6
-    returns-6
-    mode-of-requires
-    powered-requires
-    returns-7)
+open-spec = tie.close (tie.spec open-reply-requires returns)

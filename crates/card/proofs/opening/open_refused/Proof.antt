@@ -3,20 +3,16 @@ use Rattle.card.proofs.opening.open_refused.Statement.{statement}
 use Rattle.card.proofs.opening.open_refused.Tie as tie
 use Rattle.card.proofs.opening.open_refused.Reads as reads
 use Rattle.card.proofs.opening.open_refused.Lts as lts
-use Rattle.card.proofs.opening.zero_bytes.Reads as zero-bytes-reads
 use Rattle.card.proofs.opening.zero_state.Reads as zero-state-reads
 
--- src/opening.rt:71:9
+-- src/opening.rt:69:9
 zero-state-requires : tie.Need-zero-state-requires
 zero-state-requires c κs = search needs
 
--- src/opening.rt:72:9
-zero-bytes-requires : tie.Need-zero-bytes-requires
-zero-bytes-requires c κs = search needs
-
--- src/opening.rt:68:1
+-- src/opening.rt:66:1
 returns : tie.Need-returns
-returns c = simp (c .zero-bytes .ensures, c .before .zero-state .ensures)
+returns c =
+    simp (c .zero-state .ensures)
 
 pub open-refused-spec : {M : Type 1} → statement M
-open-refused-spec = tie.close (tie.spec zero-state-requires zero-bytes-requires returns)
+open-refused-spec = tie.close (tie.spec zero-state-requires returns)

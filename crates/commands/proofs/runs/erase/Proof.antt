@@ -1,7 +1,7 @@
 use borrow.Author.Needs.{needs}
 use mathlib.Core.Path.{_≡_, sym, _∙_}
 use lib.ListN.{length}
-use Rattle.commands.specs.Runs.{eraseFrom}
+use Rattle.commands.specs.Runs.{blank, eraseFrom}
 use Rattle.commands.proofs.Loops.{erase-end, erase-fails, erase-step}
 use Rattle.commands.proofs.runs.erase.Statement.{statement}
 use Rattle.commands.proofs.runs.erase.Tie as tie
@@ -9,7 +9,6 @@ use Rattle.commands.proofs.runs.erase.Reads as reads
 use Rattle.commands.proofs.runs.erase.Lts as lts
 use Rattle.commands.proofs.ended.Reads as ended-reads
 use Rattle.commands.proofs.passed.Reads as passed-reads
-use Rattle.commands.proofs.runs.blank_sector.Reads as blank-sector-reads
 use Rattle.commands.proofs.store_tested.Reads as store-tested-reads
 
 abbrev Inv-loop : tie.InvT-loop
@@ -17,10 +16,6 @@ Inv-loop left store₀ marks₀ bytes s₀ n₀ store marks s n = (length store 
 
 abbrev μ-loop : tie.MeasureT-loop
 μ-loop left store₀ marks₀ bytes s₀ n₀ store marks s n = n
-
--- src/runs.rt:39:17
-blank-sector-requires : tie.Need-blank-sector-requires Inv-loop μ-loop
-blank-sector-requires c κs = search needs
 
 -- src/runs.rt:42:5
 loop-holds : tie.Need-loop-holds Inv-loop μ-loop
@@ -48,11 +43,12 @@ loop-less c = search needs
 
 -- src/runs.rt:42:5
 loop-again : tie.Need-loop-again Inv-loop μ-loop
+unfolding blank
 loop-again c =
     let t = c .before .before .before .before .before .before .before .store-tested in
     let l = c .before .before .before .before .before .before .before .before .before .before .before .before .loop in
     let k = t .kept .1 .1 in
-    let e = simp (c .before .before .before .before .before .before .before .before .before .before .before .before .before .blank-sector .ensures, c .before .enum-told .given .1) at (t .ensures) in (
+    let e = simp (c .before .enum-told .given .1) at (t .ensures) in (
       k .0 ∙ l .inv .0,
       k .1 .0 ∙ l .inv .1,
       rw (c .passed .ensures) (sym (erase-step _ _ _ _ _ _ _ (c .before .before .before .before .before .before .before .before .before .before .before .loop-test .taken) e) ∙ l .inv .2),
@@ -76,8 +72,9 @@ same-length-2 c = search needs
 
 -- src/runs.rt:49:17
 returns : tie.Need-returns Inv-loop μ-loop
+unfolding blank
 returns c =
-    let e = simp (c .before .before .before .before .before .before .before .before .before .before .before .before .before .before .blank-sector .ensures, c .before .before .end .given .1) at (c .before .before .before .before .before .before .before .before .store-tested .ensures) in
+    let e = simp (c .before .before .end .given .1) at (c .before .before .before .before .before .before .before .before .store-tested .ensures) in
     simp (c .ended .ensures) (sym (erase-fails _ _ _ _ _ _ _ (c .before .before .before .before .before .before .before .before .before .before .before .before .loop-test .taken) e) ∙ c .before .before .before .before .before .before .before .before .before .before .before .before .before .loop .inv .2)
 
 -- src/runs.rt:53:5
@@ -104,7 +101,6 @@ erase-spec =
     (tie.spec
     Inv-loop
     μ-loop
-    blank-sector-requires
     loop-holds
     store-tested-requires
     enum-told

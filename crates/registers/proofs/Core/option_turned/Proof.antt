@@ -1,3 +1,4 @@
+use Rattle.registers.specs.PowerOn.{zeros}
 use Rattle.registers.specs.Resets.{optionTurned, bufferTurned}
 use borrow.Author.Needs.{needs}
 use Rattle.registers.proofs.Core.option_turned.Statement.{statement}
@@ -34,7 +35,7 @@ returns c = (simp (c .before .enum-told .given .1, c .entered .ensures), simp (c
 
 -- src/resets.rt:94:5
 returns-2 : tie.Need-returns-2
-unfolding optionTurned bufferTurned
+unfolding optionTurned bufferTurned zeros
 returns-2 c = (simp (c .before .before .before .enum-told2 .given .1, c .power-on .ensures), simp (c .before .before .before .enum-told2 .given .1))
 
 -- src/resets.rt:94:5

@@ -1,5 +1,5 @@
 use mathlib.Core.Path.{_≡_, sym, _∙_}
-use Rattle.registers.specs.WellMade.{found}
+use Rattle.geometry.specs.Codes.{found}
 use borrow.Author.Needs.{needs}
 use Rattle.registers.proofs.State.found.Statement.{statement}
 use Rattle.registers.proofs.State.found.Tie as tie
@@ -34,22 +34,18 @@ enum-told-4 c = search needs
 
 -- src/lib.rt:161:5
 returns : tie.Need-returns
-unfolding found
 returns c = let e = simp (c .before .before .before .total .ensures) at (sym (c .before .before .locate .ensures) ∙ c .enum-told .given .1) in simp e
 
 -- src/lib.rt:161:5
 returns-2 : tie.Need-returns-2
-unfolding found
 returns-2 c = let e = simp (c .before .before .before .total .ensures) at (sym (c .before .before .locate .ensures) ∙ c .enum-told2 .given .1) in simp e
 
 -- src/lib.rt:161:5
 returns-3 : tie.Need-returns-3
-unfolding found
 returns-3 c = let e = simp (c .before .before .before .total .ensures) at (sym (c .before .before .locate .ensures) ∙ c .enum-told3 .given .1) in simp e
 
 -- src/lib.rt:161:5
 returns-4 : tie.Need-returns-4
-unfolding found
 returns-4 c = let e = simp (c .before .before .before .total .ensures) at (sym (c .before .before .locate .ensures) ∙ c .enum-told4 .given .1) in simp e
 
 pub found-spec : {M : Type 1} → statement M

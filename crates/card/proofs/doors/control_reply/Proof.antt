@@ -1,0 +1,64 @@
+use Rattle.card.specs.Doors.{controlAnswered}
+use Rattle.ground.proofs.Picks.{no, yes}
+use borrow.Author.Tests.{le-leb, lt-leb}
+use mathlib.Core.Path.{_≡_, sym, _∙_}
+use borrow.Author.Needs.{needs}
+use Rattle.card.proofs.doors.control_reply.Statement.{statement}
+use Rattle.card.proofs.doors.control_reply.Tie as tie
+use Rattle.card.proofs.doors.control_reply.Reads as reads
+use Rattle.card.proofs.doors.control_reply.Lts as lts
+use Rattle.card.proofs.doors.accept.Reads as accept-reads
+use Rattle.card.proofs.refuse.Reads as refuse-reads
+use Rattle.registers.proofs.Core.well_made.Reads as well-made-reads
+use Rattle.registers.proofs.Core.write_control.Reads as write-control-reads
+
+-- src/doors.rt:46:9
+well-made-requires : tie.Need-well-made-requires
+well-made-requires c κs = search needs
+
+-- src/doors.rt:47:9
+refuse-requires : tie.Need-refuse-requires
+refuse-requires c κs = search needs
+
+-- src/doors.rt:47:9
+returns : tie.Need-returns
+unfolding controlAnswered
+returns c =
+    let w = sym (c .before .before .well-made .ensures) ∙ no _ (c .before .if1 .taken) in simp (w, c .refuse .ensures)
+
+-- src/doors.rt:50:9
+refuse-requires-2 : tie.Need-refuse-requires-2
+refuse-requires-2 c κs = search needs
+
+-- src/doors.rt:50:9
+returns-2 : tie.Need-returns-2
+unfolding controlAnswered
+returns-2 c =
+    let w = sym (c .before .before .before .before .well-made .ensures) ∙ yes _ (c .before .before .before .if1 .left) in simp (w, le-leb _ _ (c .before .if2 .taken), c .refuse2 .ensures)
+
+-- src/doors.rt:52:12
+write-control-requires : tie.Need-write-control-requires
+write-control-requires c κs = search needs
+
+-- src/doors.rt:52:5
+accept-requires : tie.Need-accept-requires
+accept-requires c κs = search needs
+
+-- src/doors.rt:42:1
+returns-3 : tie.Need-returns-3
+unfolding controlAnswered
+returns-3 c =
+    let w = sym (c .before .before .before .before .before .well-made .ensures) ∙ yes _ (c .before .before .before .before .if1 .left) in simp (w, lt-leb _ _ (c .before .before .if2 .left), c .accept .ensures, c .before .write-control .ensures)
+
+pub control-reply-spec : {M : Type 1} → statement M
+control-reply-spec =
+    tie.close
+    (tie.spec
+    well-made-requires
+    refuse-requires
+    returns
+    refuse-requires-2
+    returns-2
+    write-control-requires
+    accept-requires
+    returns-3)

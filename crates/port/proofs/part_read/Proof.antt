@@ -1,0 +1,30 @@
+use Rattle.port.specs.Data.{wordRead}
+use borrow.Author.Needs.{needs}
+use Rattle.port.proofs.part_read.Statement.{statement}
+use Rattle.port.proofs.part_read.Tie as tie
+use Rattle.port.proofs.part_read.Reads as reads
+use Rattle.port.proofs.part_read.Lts as lts
+use Rattle.port.proofs.halved.Reads as halved-reads
+use Rattle.port.proofs.word_read.Reads as word-read-reads
+
+-- src/lib.rt:172:9
+word-read-requires : tie.Need-word-read-requires
+word-read-requires c κs = search needs
+
+-- src/lib.rt:172:9
+returns : tie.Need-returns
+unfolding wordRead
+returns c =
+    simp (c .before .before .if1 .taken) (c .word-read .ensures)
+
+-- src/lib.rt:174:9
+halved-requires : tie.Need-halved-requires
+halved-requires c κs = search needs
+
+-- src/lib.rt:159:1
+returns-2 : tie.Need-returns-2
+returns-2 c =
+    simp (c .before .if1 .left, c .halved .ensures)
+
+pub part-read-spec : {M : Type 1} → statement M
+part-read-spec = tie.close (tie.spec word-read-requires returns halved-requires returns-2)
