@@ -10,6 +10,7 @@ use answers::Refusal;
 use card::Card;
 use card::Reply;
 use registers::Core;
+use text::Four;
 ghost use mathlib.Core.Path.{_≡_};
 ghost use Prim.Native.Nat.{_+_, _%_, _^_, _<_};
 ghost use lib.ListN.{length};
@@ -20,6 +21,7 @@ ghost use Rattle.card.specs.Step.{replied, replyOf};
 ghost use Rattle.session.specs.Record.{sizeOf};
 ghost use Rattle.answers.specs.Answers.{outcomeNumber};
 ghost use Rattle.text.specs.Text.{line, shownValue};
+ghost use Rattle.text.specs.Digits.{fourOf};
 ghost use Rattle.text.specs.Output.{output, put};
 ghost use Rattle.session.specs.Run.{accessOf, wrapped, scriptFrom, resultOf, shown, held, ranAs};
 ghost use Rattle.session.specs.Verdict.{verdictOf, byVerdict};
@@ -135,22 +137,28 @@ fn ran(
     }
 }
 
-// The line of an access.
+// The line of an access, by its number's last digits.
 fn put_answer(
     out: &mut [u8],
     at: usize,
+    four: Four,
     number: u64,
     write: bool,
     value: u16,
     outcome: Outcome,
 ) -> usize
+    requires { ⌜ four ≡ fourOf number ⌝ }
     ensures { λ r. ⌜ output (now (out .exit)) r ≡ put (output (now (out .entry)) at) (line number write (outcomeNumber outcome) (shownValue outcome write value)) ⌝ }
 {
     match outcome {
         Outcome::Accepted(read) => {
-            text::put_accepted(out, at, number, write, shown_value(write, value, read))
+            let shown = shown_value(write, value, read);
+            text::put_accepted(out, at, four, number, write, shown)
         }
-        Outcome::Refused(refusal) => text::put_line(out, at, number, write, refusal.number(), 0),
+        Outcome::Refused(refusal) => {
+            let answer = refusal.number();
+            text::put_line(out, at, four, number, write, answer, 0)
+        }
     }
 }
 
@@ -180,6 +188,7 @@ fn lines(
     };
     let mut at = from;
     let mut next = number;
+    let mut four = Four::of(number);
     let mut done = 0;
     let mut text = start;
     let mut left = part.len();
@@ -209,9 +218,10 @@ fn lines(
                 );
                 let outcome = reply.outcome;
                 let after = reply.core;
-                text = put_answer(out, text, next, write, asked.value, outcome);
+                text = put_answer(out, text, four, next, write, asked.value, outcome);
                 core = after;
                 next = std::num::wrapping_add_u64(next, 1);
+                four = four.next(next);
                 at += size_of(write);
                 done += 1;
                 left -= 1;

@@ -1,4 +1,5 @@
 pub mod Outputs
 pub mod Texts
+pub mod Digits
 pub mod OnlyOne
 pub mod Length

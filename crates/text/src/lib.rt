@@ -5,8 +5,65 @@ ghost use mathlib.Core.List.{[], _∷_, _++_};
 ghost use lib.ListN.{length};
 ghost use lib.Dec.{leb};
 ghost use Rattle.ground.specs.Choice.{pick};
-ghost use Rattle.text.specs.Text.{digitCount, lastDigits, decimal, hexDigit, hexFour, letter, newline, line, header, bad, unopened};
+ghost use Rattle.text.specs.Text.{digitCount, lastDigits, decimal, hexDigit, hexFour, letter, newline, lineBy, header, bad, unopened};
+ghost use Rattle.text.specs.Digits.{fourOf, fourAfter, fourText, numeral};
 ghost use Rattle.text.specs.Output.{output, putByte, put, written, Wrote};
+
+// The last four digits of a number, as text: counting them up takes no division.
+pub struct Four {
+    pub thousands: u8,
+    pub hundreds: u8,
+    pub tens: u8,
+    pub ones: u8,
+}
+
+impl Four {
+    pub fn of(n: u64) -> Four
+        ensures { λ r. ⌜ r ≡ fourOf n ⌝ }
+    {
+        Four {
+            thousands: 48 + (n / 1000 % 10) as u8,
+            hundreds: 48 + (n / 100 % 10) as u8,
+            tens: 48 + (n / 10 % 10) as u8,
+            ones: 48 + (n % 10) as u8,
+        }
+    }
+
+    // The digits of the number `n`, from those of the one before it: a nine becomes a zero and carries.
+    pub fn next(mut self, n: u64) -> Four
+        ensures { λ r. ⌜ r ≡ fourAfter self n ⌝ }
+    {
+        if n == 0 {
+            return Four {
+                thousands: 48,
+                hundreds: 48,
+                tens: 48,
+                ones: 48,
+            };
+        }
+        if self.ones < 57 {
+            self.ones += 1;
+            return self;
+        }
+        self.ones = 48;
+        if self.tens < 57 {
+            self.tens += 1;
+            return self;
+        }
+        self.tens = 48;
+        if self.hundreds < 57 {
+            self.hundreds += 1;
+            return self;
+        }
+        self.hundreds = 48;
+        if self.thousands < 57 {
+            self.thousands += 1;
+            return self;
+        }
+        self.thousands = 48;
+        self
+    }
+}
 
 fn digit_count(n: u64) -> usize
     ensures { λ r. ⌜ (r ≡ digitCount n) × (r ≤ 20) ⌝ }
@@ -37,7 +94,7 @@ fn last_digits(out: &mut [u8], at: usize, count: usize, n: u64)
     }
 }
 
-fn long_decimal(out: &mut [u8], at: usize, n: u64) -> usize
+fn decimal(out: &mut [u8], at: usize, n: u64) -> usize
     requires { ⌜ at + 20 ≤ length (now out) ⌝ }
     ensures { λ r. ⌜ Wrote (now (out .entry)) at (decimal n) (now (out .exit)) r × (r ≤ at + 20) ⌝ }
 {
@@ -54,50 +111,37 @@ fn byte(out: &mut [u8], at: usize, b: u8) -> usize
     at + 1
 }
 
-fn digit(out: &mut [u8], at: usize, n: u16) -> usize
-    requires { ⌜ at < length (now out) ⌝ }
-    ensures { λ r. ⌜ Wrote (now (out .entry)) at ((48 + n % 10) ∷ []) (now (out .exit)) r ⌝ }
+// No zeros in front.
+fn four_text(out: &mut [u8], at: usize, four: Four) -> usize
+    requires { ⌜ at + 4 ≤ length (now out) ⌝ }
+    ensures { λ r. ⌜ Wrote (now (out .entry)) at (fourText four) (now (out .exit)) r × (r ≤ at + 4) ⌝ }
 {
-    byte(out, at, 48 + (n % 10) as u8)
+    if four.thousands != 48 {
+        let second = byte(out, at, four.thousands);
+        let third = byte(out, second, four.hundreds);
+        let last = byte(out, third, four.tens);
+        return byte(out, last, four.ones);
+    }
+    if four.hundreds != 48 {
+        let second = byte(out, at, four.hundreds);
+        let third = byte(out, second, four.tens);
+        return byte(out, third, four.ones);
+    }
+    if four.tens != 48 {
+        let second = byte(out, at, four.tens);
+        return byte(out, second, four.ones);
+    }
+    byte(out, at, four.ones)
 }
 
-// A short number's digits go straight to their places.
-fn short_decimal(out: &mut [u8], at: usize, n: u16) -> usize
+fn numeral(out: &mut [u8], at: usize, four: Four, n: u64) -> usize
     requires { ⌜ at + 20 ≤ length (now out) ⌝ }
-    ensures { λ r. ⌜ Wrote (now (out .entry)) at (decimal n) (now (out .exit)) r × (r ≤ at + 20) ⌝ }
-{
-    if n < 10 {
-        return digit(out, at, n);
-    }
-    let tens = n / 10;
-    if tens < 10 {
-        let second = digit(out, at, tens);
-        return digit(out, second, n);
-    }
-    let hundreds = tens / 10;
-    if hundreds < 10 {
-        let second = digit(out, at, hundreds);
-        let third = digit(out, second, tens);
-        return digit(out, third, n);
-    }
-    let thousands = hundreds / 10;
-    if thousands < 10 {
-        let second = digit(out, at, thousands);
-        let third = digit(out, second, hundreds);
-        let last = digit(out, third, tens);
-        return digit(out, last, n);
-    }
-    long_decimal(out, at, n as u64)
-}
-
-fn decimal(out: &mut [u8], at: usize, n: u64) -> usize
-    requires { ⌜ at + 20 ≤ length (now out) ⌝ }
-    ensures { λ r. ⌜ Wrote (now (out .entry)) at (decimal n) (now (out .exit)) r × (r ≤ at + 20) ⌝ }
+    ensures { λ r. ⌜ Wrote (now (out .entry)) at (numeral four n) (now (out .exit)) r × (r ≤ at + 20) ⌝ }
 {
     if n < 10000 {
-        return short_decimal(out, at, n as u16);
+        return four_text(out, at, four);
     }
-    long_decimal(out, at, n)
+    decimal(out, at, n)
 }
 
 fn hex_digit(d: u16) -> u8
@@ -144,11 +188,19 @@ fn letter(out: &mut [u8], at: usize, write: bool) -> usize
 }
 
 // An access's line, where there is room for the longest.
-fn line(out: &mut [u8], at: usize, number: u64, write: bool, answer: u8, value: u16) -> usize
+fn line(
+    out: &mut [u8],
+    at: usize,
+    four: Four,
+    number: u64,
+    write: bool,
+    answer: u8,
+    value: u16,
+) -> usize
     requires { ⌜ at + 64 ≤ length (now out) ⌝ }
-    ensures { λ r. ⌜ Wrote (now (out .entry)) at (line number write answer value) (now (out .exit)) r × (r ≤ at + 64) ⌝ }
+    ensures { λ r. ⌜ Wrote (now (out .entry)) at (lineBy (numeral four number) write answer value) (now (out .exit)) r × (r ≤ at + 64) ⌝ }
 {
-    let after_number = decimal(out, at, number);
+    let after_number = numeral(out, at, four, number);
     let after_letter = letter(out, after_number, write);
     let after_answer = decimal(out, after_letter, answer as u64);
     let after_blank = byte(out, after_answer, b' ');
@@ -157,11 +209,11 @@ fn line(out: &mut [u8], at: usize, number: u64, write: bool, answer: u8, value: 
 }
 
 // The same of an accepted access, whose answer is 0.
-fn accepted_line(out: &mut [u8], at: usize, number: u64, write: bool, value: u16) -> usize
+fn accepted_line(out: &mut [u8], at: usize, four: Four, write: bool, value: u16) -> usize
     requires { ⌜ at + 64 ≤ length (now out) ⌝ }
-    ensures { λ r. ⌜ Wrote (now (out .entry)) at (line number write 0 value) (now (out .exit)) r × (r ≤ at + 64) ⌝ }
+    ensures { λ r. ⌜ Wrote (now (out .entry)) at (lineBy (fourText four) write 0 value) (now (out .exit)) r × (r ≤ at + 64) ⌝ }
 {
-    let after_number = decimal(out, at, number);
+    let after_number = four_text(out, at, four);
     let after_letter = letter(out, after_number, write);
     let after_answer = byte(out, after_letter, b'0');
     let after_blank = byte(out, after_answer, b' ');
@@ -209,29 +261,40 @@ fn roomy(size: usize, at: usize) -> bool
 pub fn put_line(
     out: &mut [u8],
     at: usize,
+    four: Four,
     number: u64,
     write: bool,
     answer: u8,
     value: u16,
 ) -> usize
-    ensures { λ r. ⌜ output (now (out .exit)) r ≡ put (output (now (out .entry)) at) (line number write answer value) ⌝ }
+    ensures { λ r. ⌜ output (now (out .exit)) r ≡ put (output (now (out .entry)) at) (lineBy (numeral four number) write answer value) ⌝ }
 {
     if roomy(out.len(), at) {
-        return line(out, at, number, write, answer, value);
+        return line(out, at, four, number, write, answer, value);
     }
     let mut text = [0u8; 64];
-    let size = line(&mut text, 0, number, write, answer, value);
+    let size = line(&mut text, 0, four, number, write, answer, value);
     put(out, at, &text[..size])
 }
 
 // The line of an accepted access, as far as the output goes.
-pub fn put_accepted(out: &mut [u8], at: usize, number: u64, write: bool, value: u16) -> usize
-    ensures { λ r. ⌜ output (now (out .exit)) r ≡ put (output (now (out .entry)) at) (line number write 0 value) ⌝ }
+pub fn put_accepted(
+    out: &mut [u8],
+    at: usize,
+    four: Four,
+    number: u64,
+    write: bool,
+    value: u16,
+) -> usize
+    ensures { λ r. ⌜ output (now (out .exit)) r ≡ put (output (now (out .entry)) at) (lineBy (numeral four number) write 0 value) ⌝ }
 {
-    if roomy(out.len(), at) {
-        return accepted_line(out, at, number, write, value);
+    if 10000 <= number {
+        return put_line(out, at, four, number, write, 0, value);
     }
-    put_line(out, at, number, write, 0, value)
+    if roomy(out.len(), at) {
+        return accepted_line(out, at, four, write, value);
+    }
+    put_line(out, at, four, number, write, 0, value)
 }
 
 // A number ends a line.

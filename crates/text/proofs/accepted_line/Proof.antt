@@ -7,13 +7,13 @@ use Rattle.text.proofs.accepted_line.Tie as tie
 use Rattle.text.proofs.accepted_line.Reads as reads
 use Rattle.text.proofs.accepted_line.Lts as lts
 use Rattle.text.proofs.byte.Reads as byte-reads
-use Rattle.text.proofs.decimal.Reads as decimal-reads
+use Rattle.text.proofs.four_text.Reads as four-text-reads
 use Rattle.text.proofs.hex_four.Reads as hex-four-reads
 use Rattle.text.proofs.letter.Reads as letter-reads
 
 -- src/lib.rt:164:9
-decimal-requires : tie.Need-decimal-requires
-decimal-requires c κs = search needs
+four-text-requires : tie.Need-four-text-requires
+four-text-requires c κs = search needs
 
 -- src/lib.rt:165:9
 letter-requires : tie.Need-letter-requires
@@ -43,8 +43,8 @@ same-length c = search needs
 returns : tie.Need-returns
 unfolding furtherDigits lastDigits
 returns c =
-    let p = wrote-then (c .before .before .before .before .before .before .before .before .before .before .before .before .before .before .before .before .before .before .before .before .before .before .decimal .ensures .0) (wrote-then (c .before .before .before .before .before .before .before .before .before .before .before .before .before .before .before .before .before .before .letter .ensures) (wrote-then (c .before .before .before .before .before .before .before .before .before .before .before .before .before .before .byte .ensures) (wrote-then (c .before .before .before .before .before .before .before .before .before .before .byte2 .ensures) (wrote-then (c .before .before .before .before .before .before .hex-four .ensures) (c .before .before .byte3 .ensures))))) in
-    let a = c .before .before .before .before .before .before .before .before .before .before .before .before .before .before .before .before .before .before .before .before .before .before .decimal .ensures .1 in
+    let p = wrote-then (c .before .before .before .before .before .before .before .before .before .before .before .before .before .before .before .before .before .before .before .before .before .before .four-text .ensures .0) (wrote-then (c .before .before .before .before .before .before .before .before .before .before .before .before .before .before .before .before .before .before .letter .ensures) (wrote-then (c .before .before .before .before .before .before .before .before .before .before .before .before .before .before .byte .ensures) (wrote-then (c .before .before .before .before .before .before .before .before .before .before .byte2 .ensures) (wrote-then (c .before .before .before .before .before .before .hex-four .ensures) (c .before .before .byte3 .ensures))))) in
+    let a = c .before .before .before .before .before .before .before .before .before .before .before .before .before .before .before .before .before .before .before .before .before .before .four-text .ensures .1 in
     let b = c .before .before .before .before .before .before .before .before .before .before .before .before .before .before .before .before .before .before .letter .ensures .place in
     let d = c .before .before .before .before .before .before .before .before .before .before .before .before .before .before .byte .ensures .place in
     let e = c .before .before .before .before .before .before .before .before .before .before .byte2 .ensures .place in
@@ -56,7 +56,7 @@ pub accepted-line-spec : {M : Type 1} → statement M
 accepted-line-spec =
     tie.close
     (tie.spec
-    decimal-requires
+    four-text-requires
     letter-requires
     byte-requires
     byte-requires-2

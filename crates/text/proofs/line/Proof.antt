@@ -9,18 +9,19 @@ use Rattle.text.proofs.byte.Reads as byte-reads
 use Rattle.text.proofs.decimal.Reads as decimal-reads
 use Rattle.text.proofs.hex_four.Reads as hex-four-reads
 use Rattle.text.proofs.letter.Reads as letter-reads
+use Rattle.text.proofs.numeral.Reads as numeral-reads
 
 -- src/text.rt:112:9
-decimal-requires : tie.Need-decimal-requires
-decimal-requires c κs = search needs
+numeral-requires : tie.Need-numeral-requires
+numeral-requires c κs = search needs
 
 -- src/text.rt:113:9
 letter-requires : tie.Need-letter-requires
 letter-requires c κs = search needs
 
 -- src/text.rt:114:9
-decimal-requires-2 : tie.Need-decimal-requires-2
-decimal-requires-2 c κs = search needs
+decimal-requires : tie.Need-decimal-requires
+decimal-requires c κs = search needs
 
 -- src/text.rt:115:9
 byte-requires : tie.Need-byte-requires
@@ -41,10 +42,10 @@ same-length c = search needs
 -- src/text.rt:101:1
 returns : tie.Need-returns
 returns c =
-    let p = wrote-then (c .before .before .before .before .before .before .before .before .before .before .before .before .before .before .before .before .before .before .before .before .before .before .decimal .ensures .0) (wrote-then (c .before .before .before .before .before .before .before .before .before .before .before .before .before .before .before .before .before .before .letter .ensures) (wrote-then (c .before .before .before .before .before .before .before .before .before .before .before .before .before .before .decimal2 .ensures .0) (wrote-then (c .before .before .before .before .before .before .before .before .before .before .byte .ensures) (wrote-then (c .before .before .before .before .before .before .hex-four .ensures) (c .before .before .byte2 .ensures))))) in
-    let a = c .before .before .before .before .before .before .before .before .before .before .before .before .before .before .before .before .before .before .before .before .before .before .decimal .ensures .1 in
+    let p = wrote-then (c .before .before .before .before .before .before .before .before .before .before .before .before .before .before .before .before .before .before .before .before .before .before .numeral .ensures .0) (wrote-then (c .before .before .before .before .before .before .before .before .before .before .before .before .before .before .before .before .before .before .letter .ensures) (wrote-then (c .before .before .before .before .before .before .before .before .before .before .before .before .before .before .decimal .ensures .0) (wrote-then (c .before .before .before .before .before .before .before .before .before .before .byte .ensures) (wrote-then (c .before .before .before .before .before .before .hex-four .ensures) (c .before .before .byte2 .ensures))))) in
+    let a = c .before .before .before .before .before .before .before .before .before .before .before .before .before .before .before .before .before .before .before .before .before .before .numeral .ensures .1 in
     let b = c .before .before .before .before .before .before .before .before .before .before .before .before .before .before .before .before .before .before .letter .ensures .place in
-    let d = c .before .before .before .before .before .before .before .before .before .before .before .before .before .before .decimal2 .ensures .1 in
+    let d = c .before .before .before .before .before .before .before .before .before .before .before .before .before .before .decimal .ensures .1 in
     let e = c .before .before .before .before .before .before .before .before .before .before .byte .ensures .place in
     let f = c .before .before .before .before .before .before .hex-four .ensures .place in
     let g = c .before .before .byte2 .ensures .place in
@@ -54,9 +55,9 @@ pub line-spec : {M : Type 1} → statement M
 line-spec =
     tie.close
     (tie.spec
-    decimal-requires
+    numeral-requires
     letter-requires
-    decimal-requires-2
+    decimal-requires
     byte-requires
     hex-four-requires
     byte-requires-2

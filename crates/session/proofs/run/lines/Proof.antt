@@ -7,9 +7,11 @@ use Rattle.registers.specs.State.{machine}
 use Rattle.session.specs.declared.Ending.the-variants.{Broken}
 use Rattle.session.specs.Record.{turnOf}
 use Rattle.text.specs.Text.{bad}
+use Rattle.text.specs.Digits.{fourOf}
 use Rattle.text.specs.Output.{Output, output, put}
 use Rattle.session.specs.Verdict.{verdictOf}
 use Rattle.session.specs.Run.{accessOf, wrapped, scriptFrom, resultOf, shown}
+use Rattle.text.proofs.Digits.{counts-round}
 use Rattle.session.proofs.Fits.{access-fits}
 use Rattle.session.proofs.Verdicts.{steady}
 use Rattle.session.proofs.Runs.{lines-end, lines-none, lines-stop, lines-turn}
@@ -25,25 +27,33 @@ use Rattle.session.proofs.run.count_known.Reads as count-known-reads
 use Rattle.session.proofs.run.put_answer.Reads as put-answer-reads
 use Rattle.session.proofs.run.ran.Reads as ran-reads
 use Rattle.session.proofs.run.size_of.Reads as size-of-reads
+use Rattle.text.proofs.Four.next.Reads as next-reads
+use Rattle.text.proofs.Four.of.Reads as of-reads
 use Rattle.text.proofs.put_bad.Reads as put-bad-reads
 use Rattle.std.proofs.num.wrapping_add_u64.Reads as wrapping-add-u64-reads
 
 abbrev Inv-loop : tie.InvT-loop
-Inv-loop verdict part from first number tuples store₀ marks₀ out₀ start buffer₀ core₀ at₀ next₀ done₀ text₀ left₀ store marks out buffer core at next done text left =
+Inv-loop verdict part from first number tuples store₀ marks₀ out₀ start buffer₀ core₀ at₀ next₀ four₀ done₀ text₀ left₀ store marks out buffer core at next four done text left =
     (done + left ≤ length part)
     × (length part < 2 ^ 64)
     × (length store ≡ length store₀)
     × (length marks ≡ length marks₀)
     × (length out ≡ length out₀)
     × (verdict ≡ verdictOf (core .phase) (core .state) store marks tuples)
+    × (next < 2 ^ 64)
+    × (four ≡ fourOf next)
     × (shown (output out text) (resultOf first next done (machine core buffer store marks) (scriptFrom left part tuples at)) ≡ shown (output out₀ text₀) (resultOf first next₀ done₀ (machine core₀ buffer₀ store₀ marks₀) (scriptFrom left₀ part tuples at₀)))
 
 abbrev μ-loop : tie.MeasureT-loop
-μ-loop verdict part from first number tuples store₀ marks₀ out₀ start buffer₀ core₀ at₀ next₀ done₀ text₀ left₀ store marks out buffer core at next done text left = left
+μ-loop verdict part from first number tuples store₀ marks₀ out₀ start buffer₀ core₀ at₀ next₀ four₀ done₀ text₀ left₀ store marks out buffer core at next four done text left = left
+
+-- src/run.rt:185:20
+of-requires : tie.Need-of-requires Inv-loop μ-loop
+of-requires c κs = search needs
 
 -- src/run.rt:188:5
 loop-holds : tie.Need-loop-holds Inv-loop μ-loop
-loop-holds c = (search needs, search needs, refl, refl, refl, c .before .before .before .before .before .before .before .pre, refl)
+loop-holds c = (search needs, search needs, refl, refl, refl, c .before .before .before .before .before .before .before .before .pre, search needs, c .of .ensures, refl)
 
 -- src/run.rt:190:13
 ran-requires : tie.Need-ran-requires Inv-loop μ-loop
@@ -65,8 +75,8 @@ same-length-3 c = search needs
 returns : tie.Need-returns Inv-loop μ-loop
 returns c =
     let l = c .before .before .before .loop in
-    let a = c .before .before .before .before .before .before .before .before .before .before .before .args in
-    rw (c .ran .ensures) (sym (lines-end (output (l .out) (l .text)) (a .first) (l .next) (l .done) (l .left) (l .at) (a .part .now) (a .tuples .now) (machine (l .core) (l .buffer) (l .store) (l .marks)) (c .before .if1 .taken)) ∙ l .inv .6)
+    let a = c .before .before .before .before .before .before .before .before .before .before .before .before .args in
+    rw (c .ran .ensures) (sym (lines-end (output (l .out) (l .text)) (a .first) (l .next) (l .done) (l .left) (l .at) (a .part .now) (a .tuples .now) (machine (l .core) (l .buffer) (l .store) (l .marks)) (c .before .if1 .taken)) ∙ l .inv .8)
 
 -- src/run.rt:192:13
 record-at-requires : tie.Need-record-at-requires Inv-loop μ-loop
@@ -108,7 +118,7 @@ same-length-6 c = c .before .before .before .put-bad .kept .0 ∙ c .before .bef
 returns-2 : tie.Need-returns-2 Inv-loop μ-loop
 returns-2 c =
     let l = c .before .before .before .before .before .before .before .before .before .before .before .before .before .loop in
-    let a = c .before .before .before .before .before .before .before .before .before .before .before .before .before .before .before .before .before .before .before .before .before .args in
+    let a = c .before .before .before .before .before .before .before .before .before .before .before .before .before .before .before .before .before .before .before .before .before .before .args in
     let o = output (l .out) (l .text) in
     let m = machine (l .core) (l .buffer) (l .store) (l .marks) in
     let p = c .before .before .before .put-bad .ensures ∙ ap (λ (n : ℕ). put o (bad n)) (c .before .before .before .before .before .wrapping-add-u64 .ensures) in
@@ -116,7 +126,7 @@ returns-2 c =
     rw (c .ran2 .ensures)
     (ap (λ (x : Output). record { machine = m; place = wrapped (a .first + l .at); done = l .done; end = Broken (c .before .before .before .before .before .before .before .why .given .0 .0); out = x }) p
     ∙ sym (lines-stop o (a .first) (l .next) (l .done) (l .left) (l .at) (a .part .now) (a .tuples .now) m (c .before .before .before .before .before .before .before .why .given .0 .0) (c .before .before .before .before .before .before .before .before .before .before .before .before .loop-test .taken) (c .before .before .before .before .before .before .before .before .before .before .before .if1 .left) e)
-    ∙ l .inv .6)
+    ∙ l .inv .8)
 
 -- src/run.rt:199:26
 enum-known-write : tie.Need-enum-known-write Inv-loop μ-loop
@@ -136,11 +146,15 @@ answer-requires c κs = search needs
 
 -- src/run.rt:205:17
 put-answer-requires : tie.Need-put-answer-requires Inv-loop μ-loop
-put-answer-requires c κs = search needs
+put-answer-requires c κs = c .before .before .before .before .before .before .before .before .before .before .before .before .before .before .before .before .before .before .before .before .loop .inv .7
 
 -- src/run.rt:207:17
 wrapping-add-u64-requires-2 : tie.Need-wrapping-add-u64-requires-2 Inv-loop μ-loop
 wrapping-add-u64-requires-2 c κs = search needs
+
+-- src/run.rt:218:24
+next-requires : tie.Need-next-requires Inv-loop μ-loop
+next-requires c κs = search needs
 
 -- src/run.rt:208:23
 size-of-requires : tie.Need-size-of-requires Inv-loop μ-loop
@@ -149,40 +163,42 @@ size-of-requires c κs = search needs
 -- src/run.rt:208:17
 add-at : tie.Need-add-at Inv-loop μ-loop
 add-at c =
-    let l = c .before .before .before .before .before .before .before .before .before .before .before .before .before .before .before .before .before .before .before .before .before .before .before .before .before .loop in
-    let f = access-fits _ _ (c .before .before .before .before .before .before .before .before .before .before .before .before .before .before .before .before .before .before .before .before .before .before .before .before .before .before .before .before .before .before .before .before .before .args .part .now) (l .at) (c .before .before .before .before .before .before .before .before .before .before .before .before .before .before .before .before .before .before .before .before .before .before .before .if1 .left) (sym (ap turnOf (c .before .before .before .before .before .before .before .before .before .before .before .before .before .before .before .before .before .before .before .before .before .before .record-at .ensures)) ∙ sym (c .before .before .before .before .before .before .before .before .before .before .before .before .before .before .before .before .before .before .before .before .before .turn .ensures) ∙ c .before .before .before .before .before .before .before .before .before .before .before .before .before .before .before .before .before .before .before .write .given .1) in
+    let l = c .before .before .before .before .before .before .before .before .before .before .before .before .before .before .before .before .before .before .before .before .before .before .before .before .before .before .loop in
+    let f = access-fits _ _ (c .before .before .before .before .before .before .before .before .before .before .before .before .before .before .before .before .before .before .before .before .before .before .before .before .before .before .before .before .before .before .before .before .before .before .before .args .part .now) (l .at) (c .before .before .before .before .before .before .before .before .before .before .before .before .before .before .before .before .before .before .before .before .before .before .before .before .if1 .left) (sym (ap turnOf (c .before .before .before .before .before .before .before .before .before .before .before .before .before .before .before .before .before .before .before .before .before .before .before .record-at .ensures)) ∙ sym (c .before .before .before .before .before .before .before .before .before .before .before .before .before .before .before .before .before .before .before .before .before .before .turn .ensures) ∙ c .before .before .before .before .before .before .before .before .before .before .before .before .before .before .before .before .before .before .before .before .write .given .1) in
     omega (arith, f, c .size-of .ensures, l .inv .1)
 
 -- src/run.rt:209:17
 add-done : tie.Need-add-done Inv-loop μ-loop
-add-done c = omega (arith, c .before .before .before .before .before .before .before .before .before .before .before .before .before .before .before .before .before .before .before .before .before .before .before .before .before .loop .inv .0, c .before .before .before .before .before .before .before .before .before .before .before .before .before .before .before .before .before .before .before .before .before .before .before .before .before .loop .inv .1, c .before .before .before .before .before .before .before .before .before .before .before .before .before .before .before .before .before .before .before .before .before .before .before .before .loop-test .taken)
+add-done c = omega (arith, c .before .before .before .before .before .before .before .before .before .before .before .before .before .before .before .before .before .before .before .before .before .before .before .before .before .before .loop .inv .0, c .before .before .before .before .before .before .before .before .before .before .before .before .before .before .before .before .before .before .before .before .before .before .before .before .before .before .loop .inv .1, c .before .before .before .before .before .before .before .before .before .before .before .before .before .before .before .before .before .before .before .before .before .before .before .before .before .loop-test .taken)
 
 -- src/run.rt:210:17
 sub-left : tie.Need-sub-left Inv-loop μ-loop
-sub-left c = omega (arith, c .before .before .before .before .before .before .before .before .before .before .before .before .before .before .before .before .before .before .before .before .before .before .before .before .before .loop .inv .0, c .before .before .before .before .before .before .before .before .before .before .before .before .before .before .before .before .before .before .before .before .before .before .before .before .before .loop .inv .1, c .before .before .before .before .before .before .before .before .before .before .before .before .before .before .before .before .before .before .before .before .before .before .before .before .loop-test .taken)
+sub-left c = omega (arith, c .before .before .before .before .before .before .before .before .before .before .before .before .before .before .before .before .before .before .before .before .before .before .before .before .before .before .loop .inv .0, c .before .before .before .before .before .before .before .before .before .before .before .before .before .before .before .before .before .before .before .before .before .before .before .before .before .before .loop .inv .1, c .before .before .before .before .before .before .before .before .before .before .before .before .before .before .before .before .before .before .before .before .before .before .before .before .before .loop-test .taken)
 
 -- src/run.rt:188:5
 loop-less : tie.Need-loop-less Inv-loop μ-loop
-loop-less c = omega (arith, c .before .before .before .before .before .before .before .before .before .before .before .before .before .before .before .before .before .before .before .before .before .before .before .before .before .loop .inv .0, c .before .before .before .before .before .before .before .before .before .before .before .before .before .before .before .before .before .before .before .before .before .before .before .before .before .loop .inv .1, c .before .before .before .before .before .before .before .before .before .before .before .before .before .before .before .before .before .before .before .before .before .before .before .before .loop-test .taken)
+loop-less c = omega (arith, c .before .before .before .before .before .before .before .before .before .before .before .before .before .before .before .before .before .before .before .before .before .before .before .before .before .before .loop .inv .0, c .before .before .before .before .before .before .before .before .before .before .before .before .before .before .before .before .before .before .before .before .before .before .before .before .before .before .loop .inv .1, c .before .before .before .before .before .before .before .before .before .before .before .before .before .before .before .before .before .before .before .before .before .before .before .before .before .loop-test .taken)
 
 -- src/run.rt:188:5
 loop-again : tie.Need-loop-again Inv-loop μ-loop
 loop-again c =
-    let l = c .before .before .before .before .before .before .before .before .before .before .before .before .before .before .before .before .before .before .before .before .before .before .before .before .before .loop in
-    let a = c .before .before .before .before .before .before .before .before .before .before .before .before .before .before .before .before .before .before .before .before .before .before .before .before .before .before .before .before .before .before .before .before .before .args in
-    let r = c .before .before .before .before .before .before .before .before .before .before .before .answer in
+    let l = c .before .before .before .before .before .before .before .before .before .before .before .before .before .before .before .before .before .before .before .before .before .before .before .before .before .before .loop in
+    let a = c .before .before .before .before .before .before .before .before .before .before .before .before .before .before .before .before .before .before .before .before .before .before .before .before .before .before .before .before .before .before .before .before .before .before .before .args in
+    let r = c .before .before .before .before .before .before .before .before .before .before .before .before .answer in
     let k = r .kept .1 .1 .1 .1 .1 .1 in
     let o = output (l .out) (l .text) in
-    let e = sym (ap turnOf (c .before .before .before .before .before .before .before .before .before .before .before .before .before .before .before .before .before .before .before .before .before .before .record-at .ensures)) ∙ sym (c .before .before .before .before .before .before .before .before .before .before .before .before .before .before .before .before .before .before .before .before .before .turn .ensures) ∙ c .before .before .before .before .before .before .before .before .before .before .before .before .before .before .before .before .before .before .before .write .given .1 in
-    let t = steady (a .verdict) (machine (l .core) (l .buffer) (l .store) (l .marks)) (accessOf _ _ (a .tuples .now)) _ (l .inv .5) (c .before .before .before .before .before .before .before .before .before .before .before .before .before .before .before .count-known .ensures) (c .before .before .before .before .before .before .before .before .before .before .before .before .before .before .before .before .told .ensures) (r .ensures) in
-    let f = lines-turn o _ (a .first) (l .next) (l .done) (l .left) (l .at) (a .part .now) (a .tuples .now) (machine (l .core) (l .buffer) (l .store) (l .marks)) _ _ _ (c .before .before .before .before .before .before .before .before .before .before .before .before .before .before .before .before .before .before .before .before .before .before .before .before .loop-test .taken) (c .before .before .before .before .before .before .before .before .before .before .before .before .before .before .before .before .before .before .before .before .before .before .before .if1 .left) e (t .0) (c .before .before .before .before .put-answer .ensures) in (
-      omega (arith, l .inv .0, c .before .before .before .before .before .before .before .before .before .before .before .before .before .before .before .before .before .before .before .before .before .before .before .before .loop-test .taken),
+    let e = sym (ap turnOf (c .before .before .before .before .before .before .before .before .before .before .before .before .before .before .before .before .before .before .before .before .before .before .before .record-at .ensures)) ∙ sym (c .before .before .before .before .before .before .before .before .before .before .before .before .before .before .before .before .before .before .before .before .before .before .turn .ensures) ∙ c .before .before .before .before .before .before .before .before .before .before .before .before .before .before .before .before .before .before .before .before .write .given .1 in
+    let t = steady (a .verdict) (machine (l .core) (l .buffer) (l .store) (l .marks)) (accessOf _ _ (a .tuples .now)) _ (l .inv .5) (c .before .before .before .before .before .before .before .before .before .before .before .before .before .before .before .before .count-known .ensures) (c .before .before .before .before .before .before .before .before .before .before .before .before .before .before .before .before .before .told .ensures) (r .ensures) in
+    let f = lines-turn o _ (a .first) (l .next) (l .done) (l .left) (l .at) (a .part .now) (a .tuples .now) (machine (l .core) (l .buffer) (l .store) (l .marks)) _ _ _ (c .before .before .before .before .before .before .before .before .before .before .before .before .before .before .before .before .before .before .before .before .before .before .before .before .before .loop-test .taken) (c .before .before .before .before .before .before .before .before .before .before .before .before .before .before .before .before .before .before .before .before .before .before .before .before .if1 .left) e (t .0) (c .before .before .before .before .before .put-answer .ensures) in (
+      omega (arith, l .inv .0, c .before .before .before .before .before .before .before .before .before .before .before .before .before .before .before .before .before .before .before .before .before .before .before .before .before .loop-test .taken),
       l .inv .1,
       k .0 ∙ l .inv .2,
       k .1 .0 ∙ l .inv .3,
-      c .before .before .before .before .put-answer .kept .0 ∙ l .inv .4,
+      c .before .before .before .before .before .put-answer .kept .0 ∙ l .inv .4,
       t .1,
-      rw (c .before .wrapping-add-u642 .ensures, c .size-of .ensures) (f ∙ l .inv .6),
+      omega (arith, c .before .before .wrapping-add-u642 .ensures),
+      rw (c .before .next .ensures, c .before .before .wrapping-add-u642 .ensures, l .inv .7) (sym (counts-round (l .next) (l .inv .6))),
+      rw (c .before .before .wrapping-add-u642 .ensures, c .size-of .ensures) (f ∙ l .inv .8),
     )
 
 -- src/run.rt:214:5
@@ -205,8 +221,8 @@ same-length-9 c = search needs
 returns-3 : tie.Need-returns-3 Inv-loop μ-loop
 returns-3 c =
     let l = c .before .before .loop in
-    let a = c .before .before .before .before .before .before .before .before .before .before .args in
-    rw (c .ran3 .ensures) (sym (lines-none (output (l .out) (l .text)) (a .first) (l .next) (l .done) (l .left) (l .at) (a .part .now) (a .tuples .now) (machine (l .core) (l .buffer) (l .store) (l .marks)) (c .before .loop-test .left)) ∙ l .inv .6)
+    let a = c .before .before .before .before .before .before .before .before .before .before .before .args in
+    rw (c .ran3 .ensures) (sym (lines-none (output (l .out) (l .text)) (a .first) (l .next) (l .done) (l .left) (l .at) (a .part .now) (a .tuples .now) (machine (l .core) (l .buffer) (l .store) (l .marks)) (c .before .loop-test .left)) ∙ l .inv .8)
 
 pub lines-spec : {M : Type 1} → statement M
 lines-spec =
@@ -214,6 +230,7 @@ lines-spec =
     (tie.spec
     Inv-loop
     μ-loop
+    of-requires
     loop-holds
     ran-requires
     same-length
@@ -236,6 +253,7 @@ lines-spec =
     answer-requires
     put-answer-requires
     wrapping-add-u64-requires-2
+    next-requires
     size-of-requires
     add-at
     add-done

@@ -1,3 +1,9 @@
+use Prim.Native.Nat.{ℕ}
+use mathlib.Core.Path.{_≡_, ap, _∙_}
+use Rattle.text.specs.declared.Four.{Four}
+use Rattle.text.specs.Text.{decimal}
+use Rattle.text.specs.Digits.{fourOf, numeral}
+use Rattle.text.proofs.Digits.{numeral-of}
 use borrow.Author.Needs.{needs}
 use Rattle.session.proofs.run.put_answer.Statement.{statement}
 use Rattle.session.proofs.run.put_answer.Tie as tie
@@ -7,6 +13,9 @@ use Rattle.answers.proofs.Refusal.number.Reads as number-reads
 use Rattle.session.proofs.run.shown_value.Reads as shown-value-reads
 use Rattle.text.proofs.put_accepted.Reads as put-accepted-reads
 use Rattle.text.proofs.put_line.Reads as put-line-reads
+
+digits-print : (f : Four) (n : ℕ) → f ≡ fourOf n → numeral f n ≡ decimal n
+digits-print f n e = ap (λ (x : Four). numeral x n) e ∙ numeral-of n
 
 -- src/run.rt:150:27
 enum-known-outcome : tie.Need-enum-known-outcome
@@ -38,7 +47,10 @@ same-length c = search needs
 
 -- src/run.rt:139:1
 returns : tie.Need-returns
-returns c = simp (c .before .before .before .before .before .before .outcome .given .1) (rw (c .before .before .before .shown-value .ensures) at (c .before .before .put-accepted .ensures))
+returns c =
+    let b = c .before .before .before .before .before .before .before .before .before in
+    let e = digits-print (b .args .four) (b .args .number) (b .pre) in
+    simp (c .before .before .before .before .before .before .outcome .given .1) (rw (c .before .before .before .before .shown-value .ensures, e) at (c .before .before .put-accepted .ensures))
 
 -- src/run.rt:139:1
 same-length-2 : tie.Need-same-length-2
@@ -46,7 +58,10 @@ same-length-2 c = search needs
 
 -- src/run.rt:139:1
 returns-2 : tie.Need-returns-2
-returns-2 c = simp (c .before .before .before .before .before .before .outcome2 .given .1) (rw (c .before .before .before .number .ensures) at (c .before .before .put-line .ensures))
+returns-2 c =
+    let b = c .before .before .before .before .before .before .before .before .before in
+    let e = digits-print (b .args .four) (b .args .number) (b .pre) in
+    simp (c .before .before .before .before .before .before .outcome2 .given .1) (rw (c .before .before .before .before .number .ensures, e) at (c .before .before .put-line .ensures))
 
 pub put-answer-spec : {M : Type 1} → statement M
 put-answer-spec =

@@ -4,10 +4,10 @@ use Rattle.text.specs.Text.{digitCount, lastDigits}
 use Rattle.text.specs.Output.{Wrote}
 use Rattle.text.proofs.Texts.{last-length}
 use borrow.Author.Needs.{needs}
-use Rattle.text.proofs.long_decimal.Statement.{statement}
-use Rattle.text.proofs.long_decimal.Tie as tie
-use Rattle.text.proofs.long_decimal.Reads as reads
-use Rattle.text.proofs.long_decimal.Lts as lts
+use Rattle.text.proofs.decimal.Statement.{statement}
+use Rattle.text.proofs.decimal.Tie as tie
+use Rattle.text.proofs.decimal.Reads as reads
+use Rattle.text.proofs.decimal.Lts as lts
 use Rattle.text.proofs.digit_count.Reads as digit-count-reads
 use Rattle.text.proofs.last_digits.Reads as last-digits-reads
 
@@ -36,6 +36,6 @@ returns c =
     let d = last-length (digitCount (a .n)) (a .n) in
     (record { bytes = rw (n .0) at e; place = omega arith }, omega arith)
 
-pub long-decimal-spec : {M : Type 1} → statement M
-long-decimal-spec =
+pub decimal-spec : {M : Type 1} → statement M
+decimal-spec =
     tie.close (tie.spec digit-count-requires last-digits-requires add-result same-length returns)

@@ -1,0 +1,45 @@
+use native.Mathlib.Omega.{arith}
+use borrow.Author.Tests.{lt-ltb, le-ltb}
+use Rattle.text.specs.Digits.{numeral}
+use borrow.Author.Needs.{needs}
+use Rattle.text.proofs.numeral.Statement.{statement}
+use Rattle.text.proofs.numeral.Tie as tie
+use Rattle.text.proofs.numeral.Reads as reads
+use Rattle.text.proofs.numeral.Lts as lts
+use Rattle.text.proofs.decimal.Reads as decimal-reads
+use Rattle.text.proofs.four_text.Reads as four-text-reads
+
+-- src/lib.rt:129:9
+four-text-requires : tie.Need-four-text-requires
+four-text-requires c κs = search needs
+
+-- src/lib.rt:129:9
+same-length : tie.Need-same-length
+same-length c = search needs
+
+-- src/lib.rt:129:9
+returns : tie.Need-returns
+unfolding numeral
+returns c =
+    let w = c .before .before .four-text .ensures in
+    (simp (lt-ltb _ _ (c .before .before .before .before .if1 .taken)) (w .0), omega (arith, w .1))
+
+-- src/lib.rt:131:5
+decimal-requires : tie.Need-decimal-requires
+decimal-requires c κs = search needs
+
+-- src/lib.rt:124:1
+same-length-2 : tie.Need-same-length-2
+same-length-2 c = search needs
+
+-- src/lib.rt:124:1
+returns-2 : tie.Need-returns-2
+unfolding numeral
+returns-2 c =
+    let w = c .before .before .decimal .ensures in
+    (simp (le-ltb _ _ (c .before .before .before .before .if1 .left)) (w .0), w .1)
+
+pub numeral-spec : {M : Type 1} → statement M
+numeral-spec =
+    tie.close
+    (tie.spec four-text-requires same-length returns decimal-requires same-length-2 returns-2)
