@@ -39,6 +39,20 @@ def test_the_line_is_straight_or_told():
             raise AssertionError("a bent line passed")
 
 
+def test_data_transfers_keep_to_their_bound():
+    class Counted:
+        counted = "instructions"
+
+    for kind, cost in (("words", 240), ("polling", 900)):
+        bench.bounded(Counted, kind, [(0, 5000), (1000, 5000 + 1000 * cost)])
+    try:
+        bench.bounded(Counted, "bytes", [(0, 5000), (1000, 5000 + 1000 * 241)])
+    except bench.Fault as fault:
+        assert "241.0" in str(fault)
+    else:
+        raise AssertionError("a transfer above the bound passed")
+
+
 def test_the_plot_is_svg():
     text = plot.svg("title", "across", "up", [("one, a", False, [(0, 0), (10, 123456)]), ("one, b", True, [(0, 5), (10, 10)])])
     assert xml.etree.ElementTree.fromstring(text).tag.endswith("svg") and text.count("<polyline") == 2

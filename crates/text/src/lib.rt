@@ -111,7 +111,7 @@ fn byte(out: &mut [u8], at: usize, b: u8) -> usize
     at + 1
 }
 
-// No zeros in front.
+// A short number's text: no zeros in front.
 fn four_text(out: &mut [u8], at: usize, four: Four) -> usize
     requires { ⌜ at + 4 ≤ length (now out) ⌝ }
     ensures { λ r. ⌜ Wrote (now (out .entry)) at (fourText four) (now (out .exit)) r × (r ≤ at + 4) ⌝ }
@@ -208,7 +208,7 @@ fn line(
     byte(out, after_value, b'\n')
 }
 
-// The same of an accepted access, whose answer is 0.
+// The same of an accepted access, whose answer is 0, with a short number.
 fn accepted_line(out: &mut [u8], at: usize, four: Four, write: bool, value: u16) -> usize
     requires { ⌜ at + 64 ≤ length (now out) ⌝ }
     ensures { λ r. ⌜ Wrote (now (out .entry)) at (lineBy (fourText four) write 0 value) (now (out .exit)) r × (r ≤ at + 64) ⌝ }
@@ -277,7 +277,7 @@ pub fn put_line(
     put(out, at, &text[..size])
 }
 
-// The line of an accepted access, as far as the output goes.
+// The line of an accepted access, as far as the output goes. A short number where there is room is the common case and goes straight to its place.
 pub fn put_accepted(
     out: &mut [u8],
     at: usize,
