@@ -66,9 +66,9 @@ module _ (n : ℕ) (m : Machine) (b : Bytes (m .state .registers .address)) (c :
   pub read-begins-held : (l : Located) → Ground In m → locatedIn (m .state) ≡ l → Between In (readSector (suc n) m) None
   unfolding readSector readTest addressTest
   read-begins-held (Located.Good spot) g e = read-held n (courseIn (m .state)) (spot .index) m g (seated n (spot .index) (m .state) b c e) (where-first (spot .index) (m .state) (g .0) e)
-  read-begins-held Located.BadHeadOrSector g e = rw e (g, tt)
-  read-begins-held Located.BadCylinder g e = rw e (g, tt)
-  read-begins-held Located.BadLba g e = rw e (g, tt)
+  read-begins-held Located.BadHeadOrSector g e = rw e (g, refl)
+  read-begins-held Located.BadCylinder g e = rw e (g, refl)
+  read-begins-held Located.BadLba g e = rw e (g, refl)
 
   pub write-begins : (l : Located) (d : List ℕ) → Ground Out m → locatedIn (m .state) ≡ l →
       rest (withCore (askSector (suc n) true (m .state)) m) d ≡ fromFirst l silent (λ i. writeSectors (courseOf (plainOf m)) i (suc n) (plainOf m) d) (plainOf m)
@@ -83,9 +83,9 @@ module _ (n : ℕ) (m : Machine) (b : Bytes (m .state .registers .address)) (c :
   unfolding askSector addressTest
   write-begins-held (Located.Good spot) f g e =
       ask-held n true (courseIn (m .state)) (spot .index) (m .state) (m .buffer) (m .store) (m .marks) f g (seated n (spot .index) (m .state) b c e) (where-first (spot .index) (m .state) (g .0) e)
-  write-begins-held Located.BadHeadOrSector f g e = rw e (g, tt)
-  write-begins-held Located.BadCylinder f g e = rw e (g, tt)
-  write-begins-held Located.BadLba f g e = rw e (g, tt)
+  write-begins-held Located.BadHeadOrSector f g e = rw e (g, refl)
+  write-begins-held Located.BadCylinder f g e = rw e (g, refl)
+  write-begins-held Located.BadLba f g e = rw e (g, refl)
 
   pub verify-begins : (l : Located) → Ground In m → locatedIn (m .state) ≡ l →
       plainIn (verifyFrom (suc n) (m .state) (m .marks) .state) (m .buffer) (m .store) (m .marks)

@@ -35,12 +35,13 @@ use Rattle.account.specs.Runs.{readSectors, writeSectors, verifySectors,
 use Rattle.account.specs.Words.{identifyData}
 use Rattle.account.specs.Table.{asked, total, first, fromFirst, reads, writes, verifies, erases, shaped, setsGeometry, seeks, account}
 use Rattle.account.specs.Host.{plainOf, plainIn, Notes, None, blank}
+use Rattle.account.specs.Claim.{Bytes}
 use Rattle.account.proofs.Seats.{Shaped}
 use Rattle.account.proofs.Tried.{endingOf, ended-ends}
 use Rattle.account.proofs.Stored.{Lent}
 use Rattle.account.proofs.Settled.{Settled, verify-settled, erase-settled}
 use Rattle.account.proofs.Identifying.{identify-is, identify-bytes}
-use Rattle.account.proofs.Rest.{Bytes, ByteWise, restAt, rest, doneIn, doneOut, Ground, Rel, Between}
+use Rattle.account.proofs.Rest.{ByteWise, restAt, rest, doneIn, doneOut, Ground, Rel, Between}
 use Rattle.account.proofs.Begins.{asked-elim, Eight, read-begins, read-begins-held, write-begins, write-begins-held, verify-begins, erase-begins}
 
 -- what a card must be to be given a command
@@ -60,8 +61,8 @@ outward m g = (g .0, g .1, tt, g .3, g .4)
 pub over : (plain : List ℕ → Account) (way : Way) (k : Core) (b t s : List ℕ) → k .phase ≡ Idle → Ground way (machine k b t s) → ((d : List ℕ) → plain d ≡ silent (plainIn (k .state) b t s)) →
     Rel way plain (machine k b t s) blank
 unfolding restAt
-over plain In k b t s e g a = record { account = λ d. rw e (a d); ground = g; held = rw e tt }
-over plain Out k b t s e g a = record { account = λ d. rw e (a d); ground = g; held = rw e tt }
+over plain In k b t s e g a = record { account = λ d. rw e (a d); ground = g; held = rw e refl }
+over plain Out k b t s e g a = record { account = λ d. rw e (a d); ground = g; held = rw e refl }
 
 pub settled-ground : (way : Way) (s : State) (k : Core) (b t x y z w : List ℕ) → Settled s k → Ground way (machine (core Idle s) b t x) → Lent (totalOf (s .made .default)) z w → ByteWise way z →
     Ground way (machine k y z w)

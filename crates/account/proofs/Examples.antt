@@ -1,11 +1,9 @@
--- Computed hosts that meet the theorem's hypotheses: bytes high half first through two maps, and a write that ends at mark 2.
-use Prim.Native.Nat.{ℕ, zero, suc, _*_}
-use mathlib.Core.Bool.{Bool, true, false, _&&_, not, false≢true}
+-- Two hosts that meet all of the theorem's hypotheses, by computing: bytes high half first through two maps, and a write that ends at mark 2.
+use Prim.Native.Nat.{ℕ, zero, suc}
+use mathlib.Core.Bool.{Bool, true, false}
 use mathlib.Core.Path.{_≡_, refl}
 use mathlib.Core.List.{List, [], _∷_, _++_}
-use lib.Dec.{eqb}
 use lib.ListN.{getD, replicate}
-use borrow.Author.Tests.{not-true}
 use Rattle.geometry.specs.declared.Geometry.{Geometry}
 use Rattle.registers.specs.State.{Machine}
 use Rattle.card.specs.declared.Answer.{Answer}
@@ -31,29 +29,18 @@ use Rattle.port.specs.Data.{wordRead, dataRead, wordWritten, dataWritten}
 use Rattle.commands.specs.Table.{commandOf, countOf, commandGiven}
 use Rattle.card.specs.Access.{Access, heldAway, decided, meaning}
 use Rattle.card.specs.Perform.{optionWritten, plainCore, registerWritten, perform}
-use Rattle.card.specs.Step.{Stepped, step}
+use Rattle.card.specs.Step.{Stepped, step, Played, play}
 use Rattle.card.specs.Opening.{opened}
 use Rattle.registers.specs.PowerOn.{zeros}
 use Rattle.commands.specs.declared.Way.the-variants.{Out}
-use Rattle.account.specs.Host.{calm, asks, Moves, blank, note, Notes, Hosted, hosted}
-
--- the host's conduct as a test
-unfoldable pub moves : Machine → List Access → Bool
-moves m [] = not (asks m)
-moves m (a ∷ l) = let rest = moves (step m a .next) l in asks m && (calm (meaning m a) && rest)
-
-both : (a b : Bool) → a && b ≡ true → (a ≡ true) × (b ≡ true)
-both true true e = (refl, refl)
-both true false e = absurd (false≢true e)
-both false b e = absurd (false≢true e)
-
-pub moves-true : (l : List Access) (m : Machine) → moves m l ≡ true → Moves m l
-unfolding moves
-moves-true [] m e = not-true _ e
-moves-true (a ∷ l) m e =
-    let p : (asks m ≡ true) × (calm (meaning m a) && moves (step m a .next) l ≡ true) = both (asks m) _ e in
-    let q : (calm (meaning m a) ≡ true) × (moves (step m a .next) l ≡ true) = both (calm (meaning m a)) _ (p .1) in
-    (p .0, q .0, moves-true l (step m a .next) (q .1))
+use Rattle.maps.specs.declared.Register.the-variants.{StatusCommand}
+use Rattle.card.specs.declared.Meaning.the-variants.{WriteRegister}
+use Rattle.account.specs.Rows.{rowOf}
+use Rattle.account.specs.Table.{account}
+use Rattle.account.specs.Host.{plainOf, wayOf, blank, note, Notes, Hosted, hosted}
+use Rattle.account.specs.Claim.{Agrees}
+use Rattle.account.proofs.Theorem.{as-the-account}
+use Rattle.account.proofs.Hypotheses.{moves, moves-true, bytes, typed, typed-true}
 
 -- ---- a card of two sectors, the second of which can't be written
 
@@ -66,41 +53,61 @@ card = machineOf (opened two 0 (replicate 1024 0) (0 ∷ 2 ∷ []) (replicate 25
 unfoldable pub writes : ℕ → ℕ → ℕ → ℕ → Access
 writes space width address value = record { space = space; width = width; write = true; address = address; value = value; tuples = replicate 256 0xFF }
 
--- the machine after a list
-unfoldable pub after : Machine → List Access → Machine
-after m [] = m
-after m (a ∷ l) = after (step m a .next) l
-
 unfoldable pub times : ℕ → List Access → List Access
 times zero l = []
 times (suc n) l = l ++ times n l
 
--- E8H at index 1; 128 words by bytes, the high one first, at 9 and 8; index 2; 128 words at 1F0H
-unfoldable pub ready : Machine
-ready = after card (writes 0 1 0x200 0x01 ∷ writes 2 1 0x007 0xE8 ∷ [])
+-- E8H by memory at index 0; 128 words by bytes, the high one first, at 401H and 400H; index 1; 128 words by bytes, the high one first, at I/O 9 and 8
+unfoldable pub given : Access
+given = writes 1 1 0x007 0xE8
 
 unfoldable pub two-maps : List Access
-two-maps = times 128 (writes 2 1 0x009 0x22 ∷ writes 2 1 0x008 0x11 ∷ []) ++ (writes 0 1 0x200 0x02 ∷ times 128 (writes 2 2 0x1F0 0x4433 ∷ []))
+two-maps =
+    times 128 (writes 1 1 0x401 0x22 ∷ writes 1 1 0x400 0x11 ∷ [])
+    ++ (writes 0 1 0x200 0x01 ∷ times 128 (writes 2 1 0x009 0x44 ∷ writes 2 1 0x008 0x33 ∷ []))
 
-computed : (moves ready two-maps ≡ true) × (getD (hosted Out ready blank two-maps .machine .buffer) 1 0 ≡ 0x22)
-    × (getD (hosted Out ready blank two-maps .machine .buffer) 0 0 ≡ 0x11) × (getD (hosted Out ready blank two-maps .machine .buffer) 511 0 ≡ 0x44)
-unfolding moves two card writes after times ready two-maps hosted note step meaning decided heldAway answersAt cardAnswers standsAt attributeAt optionAt aboveThree tupleAt byteAt misfits registerAt placeAt portAt namedAt evenData offsetAt memoryAt ioAt windowAt within wellMade runFits loadFits sectorsFit wordsFit holdFits heldIn statusFits atRest sresetFits indexFits every fits totalOf currentFor locate locateChs locateLba byLba nextOf nextChs perform optionWritten registerWritten plainCore valueRead afterRead registerSet turnOf optionTurned bufferTurned controlTurned dataRead dataWritten wordRead wordWritten takeOf readSector nextRead askSector nextAsked passed readTest storeTest addressTest sectorStored stored withSector sectorOf bufferRead readable writable marksFit countOf commandOf commandGiven opened zeros
-computed = (refl, refl, refl, refl)
+unfoldable pub written : List ℕ
+written = hosted Out (step card given .next) blank two-maps .machine .buffer
 
-pub two-maps-moves : Moves ready two-maps
-two-maps-moves = moves-true two-maps ready (computed .0)
+computed :
+    (meaning card given ≡ WriteRegister StatusCommand 0xE8)
+    × (heldIn (card .state) ≡ false)
+    × (typed card ≡ true)
+    × (moves (step card given .next) two-maps ≡ true)
+    × (getD written 0 0 ≡ 0x11)
+    × (getD written 1 0 ≡ 0x22)
+    × (getD written 510 0 ≡ 0x33)
+    × (getD written 511 0 ≡ 0x44)
+unfolding moves typed bytes two card writes times given two-maps written hosted note step meaning decided heldAway answersAt cardAnswers standsAt attributeAt optionAt aboveThree tupleAt byteAt misfits registerAt placeAt portAt namedAt evenData offsetAt memoryAt ioAt windowAt within wellMade runFits loadFits sectorsFit wordsFit holdFits heldIn statusFits atRest sresetFits indexFits every fits totalOf currentFor locate locateChs locateLba byLba nextOf nextChs perform optionWritten registerWritten plainCore valueRead afterRead registerSet turnOf optionTurned bufferTurned controlTurned dataRead dataWritten wordRead wordWritten takeOf readSector nextRead askSector nextAsked passed readTest storeTest addressTest sectorStored stored withSector sectorOf bufferRead readable writable marksFit countOf commandOf commandGiven opened zeros
+computed = (refl, refl, refl, refl, refl, refl, refl, refl)
+
+pub two-maps-agree : Agrees (account (rowOf 0xE8) (plainOf card)) (hosted (wayOf (rowOf 0xE8)) (step card given .next) blank two-maps)
+two-maps-agree = as-the-account card given 0xE8 two-maps (computed .0) (computed .1) (typed-true card (computed .2)) (moves-true two-maps (step card given .next) (computed .3))
 
 -- 30H for two sectors from LBA 0, word by word: the first is stored, the second is a write fault
 unfoldable pub asked : Machine
-asked = after card (writes 1 1 0x002 0x02 ∷ writes 1 1 0x003 0x00 ∷ writes 1 1 0x006 0x40 ∷ writes 1 1 0x007 0x30 ∷ [])
+asked = play card (writes 1 1 0x002 0x02 ∷ writes 1 1 0x003 0x00 ∷ writes 1 1 0x006 0x40 ∷ []) .last
+
+unfoldable pub told : Access
+told = writes 1 1 0x007 0x30
 
 unfoldable pub words : List Access
 words = times 512 (writes 1 2 0x000 0x4433 ∷ [])
 
-faulted : (moves asked words ≡ true) × (hosted Out asked blank words .machine .state .registers .status ≡ 0x71) × (hosted Out asked blank words .machine .state .registers .count ≡ 1)
-    × (getD (hosted Out asked blank words .machine .store) 511 0 ≡ 0x44) × (getD (hosted Out asked blank words .machine .store) 512 0 ≡ 0)
-unfolding moves two card writes after times asked words hosted note step meaning decided heldAway answersAt cardAnswers standsAt attributeAt optionAt aboveThree tupleAt byteAt misfits registerAt placeAt portAt namedAt evenData offsetAt memoryAt ioAt windowAt within wellMade runFits loadFits sectorsFit wordsFit holdFits heldIn statusFits atRest sresetFits indexFits every fits totalOf currentFor locate locateChs locateLba byLba nextOf nextChs perform optionWritten registerWritten plainCore valueRead afterRead registerSet turnOf optionTurned bufferTurned controlTurned dataRead dataWritten wordRead wordWritten takeOf readSector nextRead askSector nextAsked passed readTest storeTest addressTest sectorStored stored withSector sectorOf bufferRead readable writable marksFit countOf commandOf commandGiven opened zeros
-faulted = (refl, refl, refl, refl, refl)
+unfoldable pub ended : Machine
+ended = hosted Out (step asked told .next) blank words .machine
 
-pub fault-moves : Moves asked words
-fault-moves = moves-true words asked (faulted .0)
+faulted :
+    (meaning asked told ≡ WriteRegister StatusCommand 0x30)
+    × (heldIn (asked .state) ≡ false)
+    × (typed asked ≡ true)
+    × (moves (step asked told .next) words ≡ true)
+    × (ended .state .registers .status ≡ 0x71)
+    × (ended .state .registers .count ≡ 1)
+    × (getD (ended .store) 511 0 ≡ 0x44)
+    × (getD (ended .store) 512 0 ≡ 0)
+unfolding moves typed bytes two card writes play times asked told words ended hosted note step meaning decided heldAway answersAt cardAnswers standsAt attributeAt optionAt aboveThree tupleAt byteAt misfits registerAt placeAt portAt namedAt evenData offsetAt memoryAt ioAt windowAt within wellMade runFits loadFits sectorsFit wordsFit holdFits heldIn statusFits atRest sresetFits indexFits every fits totalOf currentFor locate locateChs locateLba byLba nextOf nextChs perform optionWritten registerWritten plainCore valueRead afterRead registerSet turnOf optionTurned bufferTurned controlTurned dataRead dataWritten wordRead wordWritten takeOf readSector nextRead askSector nextAsked passed readTest storeTest addressTest sectorStored stored withSector sectorOf bufferRead readable writable marksFit countOf commandOf commandGiven opened zeros
+faulted = (refl, refl, refl, refl, refl, refl, refl, refl)
+
+pub fault-agrees : Agrees (account (rowOf 0x30) (plainOf asked)) (hosted (wayOf (rowOf 0x30)) (step asked told .next) blank words)
+fault-agrees = as-the-account asked told 0x30 words (faulted .0) (faulted .1) (typed-true asked (faulted .2)) (moves-true words (step asked told .next) (faulted .3))

@@ -74,9 +74,9 @@ begins Diagnose m h =
     record {
       account = λ d. ap silent (ap diagnoses (sym (started-starts (m .state) (m .buffer) (m .store) (m .marks))) ∙ sym (diagnosed-is (started (m .state)) (m .buffer) (m .store) (m .marks)));
       ground = h .0;
-      held = tt;
+      held = refl;
     }
-begins Recalibrate m h = record { account = λ d. ap silent (sym (starts-ends End.Good (m .state) (m .buffer) (m .store) (m .marks))); ground = h .0; held = tt }
+begins Recalibrate m h = record { account = λ d. ap silent (sym (starts-ends End.Good (m .state) (m .buffer) (m .store) (m .marks))); ground = h .0; held = refl }
 begins Seek m h =
     let s = started (m .state) in
     record {
@@ -85,10 +85,10 @@ begins Seek m h =
           (ap (λ (e : Ending). ends e (starts (plainOf m))) (seek-is (m .state) (m .buffer) (m .store) (m .marks) (h .0 .0))
           ∙ sym (starts-ends (soughtEnd (seek (s .registers .address) (s .current) (totalIn s))) (m .state) (m .buffer) (m .store) (m .marks)));
       ground = h .0;
-      held = tt;
+      held = refl;
     }
-begins Sense m h = record { account = λ d. ap silent (sym (sensed-is (m .state) (m .buffer) (m .store) (m .marks))); ground = h .0; held = tt }
-begins Other m h = record { account = λ d. ap silent (sym (starts-ends End.NoSuchCommand (m .state) (m .buffer) (m .store) (m .marks))); ground = h .0; held = tt }
+begins Sense m h = record { account = λ d. ap silent (sym (sensed-is (m .state) (m .buffer) (m .store) (m .marks))); ground = h .0; held = refl }
+begins Other m h = record { account = λ d. ap silent (sym (starts-ends End.NoSuchCommand (m .state) (m .buffer) (m .store) (m .marks))); ground = h .0; held = refl }
 
 -- by the account's own row of the code
 pub begins-row : (v : ℕ) (m : Machine) → Given m → Rel (wayOf (rowOf v)) (account (rowOf v) (plainOf m)) (obeyed (commandOf v) (started (m .state)) m) blank

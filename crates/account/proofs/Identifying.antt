@@ -12,7 +12,7 @@ use Rattle.commands.specs.Table.{factsOf}
 use Rattle.account.specs.Plain.{Plain, sectorsOf}
 use Rattle.account.specs.Words.{bytesOf, identifyWords, identifyData}
 use Rattle.account.specs.Host.{plainIn}
-use Rattle.account.proofs.Rest.{Bytes}
+use Rattle.account.specs.Claim.{Bytes}
 
 pub identify-is : (s : State) (b t k : List ℕ) → totalOf (s .made .default) ≡ sectorsOf (s .made .default) → identifyBytes (factsOf s) ≡ identifyData (plainIn s b t k)
 unfolding firstWord laterWord identifyWord identifyByte identifyBytes Rattle.identify.specs.Words.blank bytesOf identifyWords

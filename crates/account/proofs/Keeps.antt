@@ -22,7 +22,7 @@ use Rattle.card.specs.declared.Meaning.{Meaning}
 use Rattle.card.specs.declared.Meaning.the-variants.{TupleByte, ReadOption, WriteOption, ReadRegister, WriteRegister, ReadData, WriteData}
 use Rattle.card.specs.Perform.{optionWritten, plainCore, plainWritten, registerWritten, perform}
 use Rattle.account.specs.Plain.{Account, moving}
-use Rattle.account.specs.Host.{plainOf, Notes, note, noteRead, noteWritten, calm, calmRegister, asks}
+use Rattle.account.specs.Host.{plainOf, Waiting, None, Notes, note, noteRead, noteWritten, calm, calmRegister, asks}
 use Rattle.account.proofs.Rest.{restAt, rest, outcome, Ground, Held, Rel}
 use Rattle.account.proofs.ReadKeeps.{read-keeps}
 use Rattle.account.proofs.WriteKeeps.{write-keeps}
@@ -134,3 +134,12 @@ module _ (plain : List ℕ → Account) where
   closes Idle m l e a d = simp append-nil at (a d)
   closes (DataIn t) m l e a d = absurd (true≢false e)
   closes (DataOut t) m l e a d = absurd (true≢false e)
+
+-- and nothing waits
+pub none-waits : (way : Way) (f : Phase) (m : Machine) (q : Waiting) → runs f ≡ false → Held way f (plainOf m) q → q ≡ None
+none-waits In Idle m q e h = h
+none-waits In (DataIn t) m q e h = absurd (true≢false e)
+none-waits In (DataOut t) m q e h = absurd h
+none-waits Out Idle m q e h = h
+none-waits Out (DataIn t) m q e h = absurd h
+none-waits Out (DataOut t) m q e h = absurd (true≢false e)

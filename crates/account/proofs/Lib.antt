@@ -29,4 +29,5 @@ pub mod Corollaries
 pub mod Elsewhere
 pub mod OnlyNamed
 pub mod Running
+pub mod Hypotheses
 pub mod Examples

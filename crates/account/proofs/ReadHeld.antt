@@ -26,10 +26,11 @@ use Rattle.account.specs.Plain.{Ending}
 use Rattle.account.specs.Course.{Course}
 use Rattle.account.specs.Runs.{sectorAt}
 use Rattle.account.specs.Host.{plainOf, None, Waiting}
+use Rattle.account.specs.Claim.{Bytes}
 use Rattle.account.proofs.Seats.{Seated, Where, courseIn, onward, passed-on, seat-next, room-total}
 use Rattle.account.proofs.Tried.{read-tested}
 use Rattle.account.proofs.Verifying.{where-good}
-use Rattle.account.proofs.Rest.{bare, here, Bytes, Ground, Running, Between, Loaded, loaded-of}
+use Rattle.account.proofs.Rest.{bare, here, Ground, Running, Between, Loaded, loaded-of}
 use Rattle.account.proofs.Reading.{sector-read, pred}
 
 bytes-take : (n : ℕ) (l : List ℕ) → Bytes l → Bytes (take n l)
@@ -58,17 +59,17 @@ read-held n c i m g q w =
     let z : i < totalOf (m .state .made .default) = omega arith in
     rw (sector-read (totalOf (m .state .made .default)) i (m .store) (m .buffer) z (g .1 .0))
     (g, (omega arith, sector-length i (totalOf (m .state .made .default)) (m .store) z (g .1 .0), sector-bytes i (m .store) (g .2), tt, loaded-of c i n (m .state) q (where-good c i (m .state) w r))))
-    (λ f z. (g, tt))
+    (λ f z. (g, refl))
 
 next-held : (n : ℕ) (c : Course) (i : ℕ) (m : Machine) → Ground In m → Seated c i (suc n) (m .state) → locatedIn (m .state) ≡ Located.Good (record { index = i }) → Between In (nextRead n m) None
 unfolding nextRead
-next-held zero c i m g q e = unfold passed in (g, tt)
+next-held zero c i m g q e = unfold passed in (g, refl)
 next-held (suc n) c i m g q e =
     let z = seat-next c (suc n) i (m .state) (g .0) e (q .2) in
     rw (passed-on n (m .state), ne-eqb (suc n) 0 (omega arith)) (read-held n c (i + 1) (withState (onward (suc n) (m .state)) m) g (z .0) (z .1))
 
 load-held : (l : Load) (m : Machine) → Ground In m → Loaded l (bare (plainOf m)) → Between In (loadRead l m) None
-load-held Buffer m g k = (g, tt)
+load-held Buffer m g k = (g, refl)
 load-held (Sectors zero) m g k = absurd (omega (arith, k .1))
 load-held (Sectors (suc n)) m g k = rw (pred n) (next-held n (courseIn (m .state)) (here (m .state)) m g (k .2, k .3, refl) (k .0))
 

@@ -24,6 +24,7 @@ use Rattle.account.specs.Plain.{Plain, withBuffer, withStore, withStatus
 use Rattle.account.specs.Course.{Course, courseOf, named}
 use Rattle.account.specs.Runs.{Run, stopped, runEnds, unwritable, putSector, readSectors, writeSectors}
 use Rattle.account.specs.Host.{plainOf, plainIn, Waiting, None, LowByte, HighByte, Notes}
+use Rattle.account.specs.Claim.{Bytes}
 use Rattle.account.proofs.Seats.{courseIn, Shaped, Seated}
 use Rattle.account.proofs.Stored.{Lent}
 
@@ -69,9 +70,6 @@ rest m d = restAt (m .phase) (plainOf m) d
 
 -- ---- what holds while a transfer runs
 
-abbrev pub Bytes : List ℕ → Type 0
-Bytes l = (i : ℕ) → getD l i 0 < 256
-
 abbrev pub ByteWise : Way → List ℕ → Type 0
 ByteWise In l = Bytes l
 ByteWise Out l = Unit {0}
@@ -110,10 +108,10 @@ abbrev pub Running : Way → Transfer → Plain → Waiting → Type 0
 Running way t p q = (t .words < 256) × (length (p .buffer) ≡ 512) × ByteWise way (p .buffer) × Pending (t .half) q (t .words) (p .buffer) × Loaded (t .load) (bare p)
 
 abbrev pub Held : Way → Phase → Plain → Waiting → Type 0
-Held In Idle p q = Unit {0}
+Held In Idle p q = q ≡ None
 Held In (DataIn t) p q = Running In t p q
 Held In (DataOut t) p q = ⊥
-Held Out Idle p q = Unit {0}
+Held Out Idle p q = q ≡ None
 Held Out (DataIn t) p q = ⊥
 Held Out (DataOut t) p q = Running Out t p q
 

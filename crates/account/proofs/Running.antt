@@ -1,4 +1,4 @@
--- The theorem is about what runs: the access method promises the step of the machine that the theorem speaks of.
+-- The theorem is about what runs: a list of calls of `Card::access`, each as the code promises, ends as the account says.
 use Prim.Native.Nat.{ℕ}
 use mathlib.Core.Bool.{false}
 use mathlib.Core.Path.{_≡_, refl, sym, ap, _∙_, subst}
@@ -12,21 +12,13 @@ use Rattle.card.specs.declared.Answer.{Answer}
 use Rattle.card.specs.declared.Meaning.the-variants.{WriteRegister}
 use Rattle.card.specs.Access.{Access, meaning}
 use Rattle.card.specs.Step.{Stepped, step}
-use Rattle.card.specs.Doors.{machineOf, answered}
+use Rattle.card.specs.Doors.{machineOf}
 use Rattle.account.specs.Rows.{rowOf}
 use Rattle.account.specs.Table.{account}
 use Rattle.account.specs.Host.{plainOf, Notes, blank, note, wayOf, Moves, Hosted, hosted}
 use Rattle.account.specs.Claim.{Typed, Agrees}
+use Rattle.account.specs.Running.{Promised, Called}
 use Rattle.account.proofs.Theorem.{as-the-account}
-
--- the promise of `Card::access`: its answer, with the store and the marks that it leaves, is the step
-abbrev pub Promised : Card → List ℕ → List ℕ → Access → Answer → List ℕ → List ℕ → Type 0
-Promised c store marks a r store′ marks′ = answered r store′ marks′ ≡ step (machineOf c store marks) a
-
--- a list of calls, each as promised, each with the card and the lent store and marks that the one before it left
-abbrev pub Called : Card → List ℕ → List ℕ → List Access → Machine → Type 0
-Called c store marks [] k = machineOf c store marks ≡ k
-Called c store marks (a ∷ l) k = (r : Answer) × (store′ : List ℕ) × (marks′ : List ℕ) × Promised c store marks a r store′ marks′ × Called (r .card) store′ marks′ l k
 
 called-is : (l : List Access) (c : Card) (store marks : List ℕ) (k : Machine) (way : Way) (q : Notes) → Called c store marks l k → hosted way (machineOf c store marks) q l .machine ≡ k
 unfolding hosted

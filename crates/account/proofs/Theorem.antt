@@ -14,14 +14,14 @@ use Rattle.card.specs.declared.Meaning.{Meaning}
 use Rattle.card.specs.declared.Meaning.the-variants.{WriteRegister}
 use Rattle.card.specs.Access.{Access, meaning}
 use Rattle.card.specs.Perform.{registerWritten, perform}
-use Rattle.card.specs.Step.{Stepped, step}
+use Rattle.card.specs.Step.{Stepped, step, Played, play}
 use Rattle.account.specs.Plain.{Account}
 use Rattle.account.specs.Rows.{rowOf}
 use Rattle.account.specs.Table.{account}
 use Rattle.account.specs.Host.{plainOf, Notes, blank, note, wayOf, calm, asks, Moves, Hosted, hosted}
 use Rattle.account.specs.Claim.{Typed, Agrees}
 use Rattle.account.proofs.Rest.{Rel}
-use Rattle.account.proofs.Keeps.{keeps, closes}
+use Rattle.account.proofs.Keeps.{keeps, closes, none-waits}
 use Rattle.account.proofs.Given.{begins-row}
 use Rattle.account.proofs.Accepted.{given, neither}
 
@@ -35,11 +35,18 @@ hosted-agrees plain way [] m q z e =
     record {
       account = subst (λ (l : List ℕ). plain l ≡ record { moved = q .done; left = plainOf m }) (append-nil (q .done)) (x []);
       enough = x;
+      noHalf = none-waits way (m .phase) m (q .waiting) e (z .held);
       over = e;
       free = unfold heldIn in free-of (sresetIn (m .state .option)) (m .state .control .held) (z .ground .4) (z .ground .3);
     }
 hosted-agrees plain way (a ∷ l) m q z e =
     hosted-agrees plain way l (step m a .next) (note way (meaning m a) (step m a .outcome) q) (keeps plain way (meaning m a) m q (e .1) (e .0) z) (e .2)
+
+-- the machine of `hosted` is that of the card's own `play`: the notes change nothing
+pub hosted-plays : (way : Way) (m : Machine) (q : Notes) (l : List Access) → hosted way m q l .machine ≡ play m l .last
+unfolding hosted play
+hosted-plays way m q [] = refl
+hosted-plays way m q (a ∷ l) = hosted-plays way (step m a .next) (note way (meaning m a) (step m a .outcome) q) l
 
 -- an accepted Command write gives the command
 pub command-given : (m : Machine) (a : Access) (v : ℕ) → meaning m a ≡ WriteRegister StatusCommand v → m .state .control .held ≡ false → step m a .next ≡ commandGiven v (withState (m .state) m)

@@ -36,8 +36,8 @@ use Rattle.account.proofs.WordWritten.{store-test, here-inside}
 
 past-held : (l : Bool) (n : ℕ) (first : Bool) (s : State) (b t k : List ℕ) → Ground Out (idle s b t k) →
     Between Out (machine (askTested (testedOf (pick l Located.BadLba Located.BadCylinder)) n first s) b t k) None
-past-held true n first s b t k g = (g, tt)
-past-held false n first s b t k g = (g, tt)
+past-held true n first s b t k g = (g, refl)
+past-held false n first s b t k g = (g, refl)
 
 ask-by : (v : Bool) (n : ℕ) (first : Bool) (c : Course) (i : ℕ) (s : State) (b t k : List ℕ) → length b ≡ 512 → Ground Out (idle s b t k) → Seated c i (suc n) s →
     locatedIn s ≡ pick v (Located.Good (record { index = i })) (pastEnd c) →
@@ -54,7 +54,7 @@ ask-held n first c i s b t k e g q w =
 asked-held : (n : ℕ) (c : Course) (i : ℕ) (s : State) (b t k : List ℕ) → length b ≡ 512 → Ground Out (idle s b t k) → Seated c i (suc n) s → locatedIn s ≡ Located.Good (record { index = i }) →
     Between Out (machine (nextAsked n s) b t k) None
 unfolding nextAsked
-asked-held zero c i s b t k f g q e = unfold passed in (g, tt)
+asked-held zero c i s b t k f g q e = unfold passed in (g, refl)
 asked-held (suc n) c i s b t k f g q e =
     let z = seat-next c (suc n) i s (g .0) e (q .2) in
     rw (passed-on n s, ne-eqb (suc n) 0 (omega arith)) (ask-held n false c (i + 1) (onward (suc n) s) b t k f g (z .0) (z .1))
@@ -66,11 +66,11 @@ marked-held true n c i m h f g q e =
     rw (stored-is (totalOf (m .state .made .default)) i (m .store) (m .marks) (m .buffer) h (g .1))
     (asked-held n c i (m .state) (m .buffer) (putSector i (m .buffer) (m .store)) (set (m .marks) i 0) f
     (g .0, stored-lent (totalOf (m .state .made .default)) i (m .store) (m .marks) (m .buffer) h (g .1) f, tt, g .3, g .4) q e)
-marked-held false n c i m h f g q e = (g, tt)
+marked-held false n c i m h f g q e = (g, refl)
 
 written-held : (l : Load) (m : Machine) → length (m .buffer) ≡ 512 → Ground Out m → Loaded l (bare (plainOf m)) → Between Out (loadWritten l m) None
 unfolding sectorStored
-written-held Buffer m f g k = (g, tt)
+written-held Buffer m f g k = (g, refl)
 written-held (Sectors zero) m f g k = absurd (omega (arith, k .1))
 written-held (Sectors (suc n)) m f g k =
     rw (store-test (here (m .state)) (m .state) (m .marks) (k .0), pred n)

@@ -7,7 +7,11 @@ use lib.ListN.{length, getD}
 use Rattle.registers.specs.State.{Machine}
 use Rattle.registers.specs.WellMade.{heldIn}
 use Rattle.account.specs.Plain.{Account}
-use Rattle.account.specs.Host.{plainOf, asks, Hosted}
+use Rattle.account.specs.Host.{plainOf, None, asks, Hosted}
+
+-- a list of bytes
+abbrev pub Bytes : List ℕ → Type 0
+Bytes l = (i : ℕ) → getD l i 0 < 256
 
 -- what the code's types say of a card: registers of 8 bits, a buffer of 512 bytes, a store of bytes
 pub record Typed (m : Machine) : Type 0 where
@@ -17,13 +21,15 @@ pub record Typed (m : Machine) : Type 0 where
   pub high : m .state .registers .address .high < 256
   pub head : m .state .registers .address .head < 256
   pub buffer : length (m .buffer) ≡ 512
-  pub bufferBytes : (i : ℕ) → getD (m .buffer) i 0 < 256
-  pub storeBytes : (i : ℕ) → getD (m .store) i 0 < 256
+  pub bufferBytes : Bytes (m .buffer)
+  pub storeBytes : Bytes (m .store)
 
 -- the data that moved, the store, the marks and the card are those of the account of that data; no transfer runs, and no reset holds the card
 pub record Agrees (plain : List ℕ → Account) (h : Hosted) : Type 0 where
   pub account : plain (h .notes .done) ≡ record { moved = h .notes .done; left = plainOf (h .machine) }
   -- whatever more the host had ready: the account takes no more of it
   pub enough : (more : List ℕ) → plain (h .notes .done ++ more) ≡ record { moved = h .notes .done; left = plainOf (h .machine) }
+  -- no half word is left with the host
+  pub noHalf : h .notes .waiting ≡ None
   pub over : asks (h .machine) ≡ false
   pub free : heldIn (h .machine .state) ≡ false

@@ -6,4 +6,5 @@ pub mod Words
 pub mod Table
 pub mod Host
 pub mod Claim
+pub mod Running
 pub mod Live

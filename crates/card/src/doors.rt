@@ -8,7 +8,7 @@ use maps::Mode;
 use registers::Core;
 ghost use mathlib.Core.Path.{_≡_};
 ghost use Rattle.card.specs.Step.{replyOf, step};
-ghost use Rattle.card.specs.Doors.{machineOf, answered, cardOf, answerOf, optionAnswered, controlAnswered};
+ghost use Rattle.card.specs.Doors.{machineOf, answered, Says, cardOf, answerOf, optionAnswered, controlAnswered};
 
 fn accept(core: Core) -> Reply
     ensures { λ r. ⌜ r ≡ replyOf (record { outcome = Outcome.Accepted 0; core = core }) ⌝ }
@@ -66,6 +66,7 @@ impl Card {
         marks: &mut [u8],
     ) -> Answer
         ensures { λ r. ⌜ answered r (now (store .exit)) (now (marks .exit)) ≡ step (machineOf self (now (store .entry)) (now (marks .entry))) (record { space = space; width = width; write = write; address = address; value = value; tuples = now (tuples .entry) }) ⌝ }
+        ensures { λ r. ⌜ Says (r .outcome) (step (machineOf self (now (store .entry)) (now (marks .entry))) (record { space = space; width = width; write = write; address = address; value = value; tuples = now (tuples .entry) }) .outcome) ⌝ }
     {
         let mut buffer = self.buffer;
         let phase = self.phase;
@@ -104,6 +105,7 @@ impl Card {
     // The write of the Configuration Option Register, with SRESET in it.
     pub fn write_option(self, value: u8) -> Answer
         ensures { λ r. ⌜ r ≡ optionAnswered value self ⌝ }
+        ensures { λ r. ⌜ Says (r .outcome) (optionAnswered value self .outcome) ⌝ }
     {
         let mut buffer = self.buffer;
         let phase = self.phase;
@@ -131,6 +133,7 @@ impl Card {
     // The write of Device Control, with its reset bit.
     pub fn write_control(self, value: u8) -> Answer
         ensures { λ r. ⌜ r ≡ controlAnswered value self ⌝ }
+        ensures { λ r. ⌜ Says (r .outcome) (controlAnswered value self .outcome) ⌝ }
     {
         let buffer = self.buffer;
         let phase = self.phase;

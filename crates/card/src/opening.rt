@@ -14,7 +14,7 @@ use registers::Phase;
 use registers::Registers;
 use registers::State;
 ghost use mathlib.Core.Path.{_≡_};
-ghost use Rattle.card.specs.Doors.{cardOf, answerOf};
+ghost use Rattle.card.specs.Doors.{Says, cardOf, answerOf};
 ghost use Rattle.card.specs.Opening.{modeOf, zeroState, openRefused, powered, opened};
 ghost use Rattle.registers.specs.PowerOn.{zeros};
 
@@ -134,6 +134,7 @@ impl Card {
         tuples: &[u8],
     ) -> Answer
         ensures { λ r. ⌜ r ≡ opened (record { cylinders = cylinders; heads = heads; sectors = sectors }) mode (now (store .entry)) (now (marks .entry)) (now (tuples .entry)) ⌝ }
+        ensures { λ r. ⌜ Says (r .outcome) (opened (record { cylinders = cylinders; heads = heads; sectors = sectors }) mode (now (store .entry)) (now (marks .entry)) (now (tuples .entry)) .outcome) ⌝ }
     {
         let geometry = Geometry {
             cylinders: cylinders,

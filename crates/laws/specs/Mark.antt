@@ -1,4 +1,5 @@
--- 01, "Interrupt mark". What sets and what clears it is read off the access, the command table's row, and Status and Sector Count before and after.
+-- 01, "Interrupt mark". What sets and what clears it is read off the access, the command table's row, the two resets' bits, and Status and Sector Count before
+-- and after.
 use Prim.Native.Nat.{ℕ, _/_, _%_}
 use mathlib.Core.Path.{_≡_}
 use mathlib.Core.Bool.{Bool, true, false, not, _&&_, _||_}

@@ -1,4 +1,4 @@
--- 01, "Answers", rows 6, 9 and 10: what stands at an address of a space, or the first refusal that applies, in this order.
+-- 01, "Answers", rows 6, 9 and 10: what stands at an address of a space, or a refusal. "The first that applies, in this order, is given".
 use Prim.Native.Nat.{ℕ}
 use lib.Dec.{eqb}
 use mathlib.Core.Bool.{Bool}

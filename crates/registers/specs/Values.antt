@@ -59,7 +59,7 @@ afterRead StatusCommand s = withMark false s
 afterRead AlternateControl s = s
 afterRead DriveAddress s = s
 
--- a write to a register with no transfer running: Feature is not kept, Drive Address takes no write
+-- a write to a register with no transfer running: Feature is not kept; "F Drive Address (writes have no effect)"
 unfoldable pub registerSet : Register → ℕ → State → State
 registerSet ErrorFeature v s = s
 registerSet SectorCount v s = withCount v s

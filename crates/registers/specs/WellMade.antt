@@ -1,4 +1,4 @@
--- 01, "What is lent": "A card value is well made if: …". Each condition is a definition of its own, in 01's order.
+-- 01, "What is lent": "A card value is well made if: …". Each condition is a test of its own, in 01's order.
 use Prim.Native.Nat.{ℕ, _%_}
 use mathlib.Core.Bool.{Bool, true, false, not}
 use mathlib.Core.List.{[], _∷_}
@@ -77,6 +77,7 @@ runFits Idle s = true
 runFits (DataIn t) s = loadFits (t .load) s
 runFits (DataOut t) s = loadFits (t .load) s
 
+-- "its geometry fits the limits; the current H is 1..16 and S 1..255 with current C = N div (H·S), at least 1"; then the conditions above
 unfoldable pub wellMade : Phase → State → Bool
 wellMade p s =
     every

@@ -1,4 +1,5 @@
--- 01, "What is lent": a mark is 0 sound, 1 unreadable, 2 can't be written; a mark above 2 that appears later counts as 1.
+-- 01, "What is lent": "A sector store, one mark byte per sector". A mark is 0 sound, 1 unreadable, 2 can't be written; "A mark above 2 that appears later
+-- counts as 1."
 use Prim.Native.Nat.{ℕ}
 use mathlib.Core.Bool.{Bool, true, false}
 use mathlib.Core.List.{List, [], _∷_}

@@ -65,7 +65,7 @@ record-inside : (write : Bool) (q : Asked) (file : List ℕ) (at : ℕ) → Insi
 unfolding recordAt
 record-inside write q file at =
     let left = length file - at in
-    pick-elim (Inside write q left) (ltb left 2) _ _
+    pick-elim (Inside write q left) (ltb left 4) _ _
     (λ _. stopped write q left Break.DoesNotFit)
     (λ _. pick-elim (Inside write q left) (ltb left (wordAt file at)) _ _
     (λ _. stopped write q left Break.DoesNotFit)

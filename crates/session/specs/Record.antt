@@ -63,10 +63,10 @@ kindAt file at size first =
     (pick (eqb (wordAt file (at + 2)) 3) (readAt file at size first)
     (Broken Kind)))
 
--- "or a record that doesn't fit"; a length below 4 leaves no place for a kind
+-- "or a record that doesn't fit": it has four bytes of length and kind at least; a length below 4 leaves no place for a kind
 unfoldable pub recordAt : List ℕ → ℕ → Bool → Record
 recordAt file at first =
-    pick (ltb (length file - at) 2) (Broken DoesNotFit)
+    pick (ltb (length file - at) 4) (Broken DoesNotFit)
     (pick (ltb (length file - at) (wordAt file at)) (Broken DoesNotFit)
     (pick (ltb (wordAt file at) 4) (Broken Length)
     (kindAt file at (wordAt file at) first)))

@@ -147,7 +147,7 @@ pub fn record_at(file: &[u8], at: usize, first: bool) -> Record
         return Record::Broken(Break::DoesNotFit);
     }
     let left = file.len() - at;
-    if left < 2 {
+    if left < 4 {
         return Record::Broken(Break::DoesNotFit);
     }
     let size = word_at(file, at);
@@ -164,7 +164,7 @@ pub fn record_at(file: &[u8], at: usize, first: bool) -> Record
 pub fn first_record(file: &[u8]) -> Record
     ensures { λ r. ⌜ r ≡ recordAt (now (file .entry)) 0 true ⌝ }
 {
-    if file.len() < 2 {
+    if file.len() < 4 {
         return Record::Broken(Break::DoesNotFit);
     }
     let size = word_at(file, 0);

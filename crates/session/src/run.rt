@@ -142,22 +142,21 @@ fn put_answer(
     out: &mut [u8],
     at: usize,
     four: Four,
-    number: u64,
     write: bool,
     value: u16,
     outcome: Outcome,
 ) -> usize
-    requires { ⌜ four ≡ fourOf number ⌝ }
-    ensures { λ r. ⌜ output (now (out .exit)) r ≡ put (output (now (out .entry)) at) (line number write (outcomeNumber outcome) (shownValue outcome write value)) ⌝ }
+    requires { ⌜ four ≡ fourOf (four .number) ⌝ }
+    ensures { λ r. ⌜ output (now (out .exit)) r ≡ put (output (now (out .entry)) at) (line (four .number) write (outcomeNumber outcome) (shownValue outcome write value)) ⌝ }
 {
     match outcome {
         Outcome::Accepted(read) => {
             let shown = shown_value(write, value, read);
-            text::put_accepted(out, at, four, number, write, shown)
+            text::put_accepted(out, at, four, write, shown)
         }
         Outcome::Refused(refusal) => {
             let answer = refusal.number();
-            text::put_line(out, at, four, number, write, answer, 0)
+            text::put_line(out, at, four, write, answer, 0)
         }
     }
 }
@@ -187,7 +186,6 @@ fn lines(
         state: state,
     };
     let mut at = from;
-    let mut next = number;
     let mut four = Four::of(number);
     let mut done = 0;
     let mut text = start;
@@ -218,10 +216,9 @@ fn lines(
                 );
                 let outcome = reply.outcome;
                 let after = reply.core;
-                text = put_answer(out, text, four, next, write, asked.value, outcome);
+                text = put_answer(out, text, four, write, asked.value, outcome);
                 core = after;
-                next = std::num::wrapping_add_u64(next, 1);
-                four = four.next(next);
+                four = four.next();
                 at += size_of(write);
                 done += 1;
                 left -= 1;

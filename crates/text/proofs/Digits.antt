@@ -20,7 +20,7 @@ carries n h = (omega arith, omega arith)
 
 -- the same digits, one division after another
 abbrev byTens : ℕ → Four
-byTens n = record { thousands = 48 + n / 10 / 10 / 10 % 10; hundreds = 48 + n / 10 / 10 % 10; tens = 48 + n / 10 % 10; ones = 48 + n % 10 }
+byTens n = record { number = n; thousands = 48 + n / 10 / 10 / 10 % 10; hundreds = 48 + n / 10 / 10 % 10; tens = 48 + n / 10 % 10; ones = 48 + n % 10 }
 
 by-tens : (n : ℕ) → fourOf n ≡ byTens n
 by-tens n =
@@ -28,7 +28,7 @@ by-tens n =
     let f : n / 1000 ≡ n / 10 / 10 / 10 = omega arith in
     rw (e, f) refl
 
-tens-count : (n : ℕ) → byTens (n + 1) ≡ counted (byTens n)
+tens-count : (n : ℕ) → byTens (n + 1) ≡ counted (byTens n) (n + 1)
 unfolding counted
 tens-count n =
     let Next : Four → Type 0 = λ (f : Four). byTens (n + 1) ≡ f in
@@ -46,18 +46,18 @@ tens-count n =
     (λ h. let d = carries (n / 10 / 10 / 10) (ltb-false _ _ h) in rw (a .0, a .1, b .0, b .1, c .0, c .1, d .1) refl))))
 
 -- one up, with the carries
-pub counts : (n : ℕ) → fourOf (n + 1) ≡ counted (fourOf n)
-counts n = by-tens (n + 1) ∙ tens-count n ∙ ap counted (sym (by-tens n))
+pub counts : (n : ℕ) → fourOf (n + 1) ≡ counted (fourOf n) (n + 1)
+counts n = by-tens (n + 1) ∙ tens-count n ∙ ap (λ (f : Four). counted f (n + 1)) (sym (by-tens n))
 
 -- numbers of 64 bits go round
-pub counts-round : (n : ℕ) → n < 2 ^ 64 → fourOf ((n + 1) % 2 ^ 64) ≡ fourAfter (fourOf n) ((n + 1) % 2 ^ 64)
+pub counts-round : (n : ℕ) → n < 2 ^ 64 → fourOf ((n + 1) % 2 ^ 64) ≡ fourAfter (fourOf n)
 unfolding fourAfter
 counts-round n h =
     pick-elim (λ (f : Four). fourOf ((n + 1) % 2 ^ 64) ≡ f) (eqb ((n + 1) % 2 ^ 64) 0) _ _
     (λ e. ap fourOf (eqb-true _ _ e))
     (λ e. let i : (n + 1) % 2 ^ 64 ≡ 0 → ⊥ = eqb-false _ _ e in
     let j : (n + 1) % 2 ^ 64 ≡ n + 1 = omega arith in
-    ap fourOf j ∙ counts n)
+    ap fourOf j ∙ counts n ∙ ap (counted (fourOf n)) (sym j))
 
 -- two, three and four digits
 two : (k n : ℕ) → 10 ≤ n → n < 100 → lastDigits (furtherDigits (suc k) n + 1) n ≡ (48 + n / 10 % 10) ∷ (48 + n % 10) ∷ []
@@ -90,6 +90,6 @@ short n h =
     (λ e. let a = eqb-false (48 + n / 1000 % 10) 48 e in sym (all-four 16 n (omega (arith, a)) h))
 
 -- a number's own digits print it
-pub numeral-of : (n : ℕ) → numeral (fourOf n) n ≡ decimal n
+pub numeral-of : (n : ℕ) → numeral (fourOf n) ≡ decimal n
 unfolding numeral
 numeral-of n = pick-elim (λ (t : List ℕ). t ≡ decimal n) (ltb n 10000) _ _ (λ e. short n (ltb-true _ _ e)) (λ e. refl)

@@ -9,8 +9,9 @@ ghost use Rattle.text.specs.Text.{digitCount, lastDigits, decimal, hexDi
 ghost use Rattle.text.specs.Digits.{fourOf, fourAfter, fourText, numeral};
 ghost use Rattle.text.specs.Output.{output, putByte, put, written, Wrote};
 
-// The last four digits of a number, as text: counting them up takes no division.
+// A number with its last four digits as text: counting them up takes no division.
 pub struct Four {
+    pub number: u64,
     pub thousands: u8,
     pub hundreds: u8,
     pub tens: u8,
@@ -22,6 +23,7 @@ impl Four {
         ensures { λ r. ⌜ r ≡ fourOf n ⌝ }
     {
         Four {
+            number: n,
             thousands: 48 + (n / 1000 % 10) as u8,
             hundreds: 48 + (n / 100 % 10) as u8,
             tens: 48 + (n / 10 % 10) as u8,
@@ -29,18 +31,21 @@ impl Four {
         }
     }
 
-    // The digits of the number `n`, from those of the one before it: a nine becomes a zero and carries.
-    pub fn next(mut self, n: u64) -> Four
-        ensures { λ r. ⌜ r ≡ fourAfter self n ⌝ }
+    // The next number: a nine becomes a zero and carries, and past the last number comes 0.
+    pub fn next(mut self) -> Four
+        ensures { λ r. ⌜ r ≡ fourAfter self ⌝ }
     {
-        if n == 0 {
+        let number = std::num::wrapping_add_u64(self.number, 1);
+        if number == 0 {
             return Four {
+                number: 0,
                 thousands: 48,
                 hundreds: 48,
                 tens: 48,
                 ones: 48,
             };
         }
+        self.number = number;
         if self.ones < 57 {
             self.ones += 1;
             return self;
@@ -134,14 +139,14 @@ fn four_text(out: &mut [u8], at: usize, four: Four) -> usize
     byte(out, at, four.ones)
 }
 
-fn numeral(out: &mut [u8], at: usize, four: Four, n: u64) -> usize
+fn numeral(out: &mut [u8], at: usize, four: Four) -> usize
     requires { ⌜ at + 20 ≤ length (now out) ⌝ }
-    ensures { λ r. ⌜ Wrote (now (out .entry)) at (numeral four n) (now (out .exit)) r × (r ≤ at + 20) ⌝ }
+    ensures { λ r. ⌜ Wrote (now (out .entry)) at (numeral four) (now (out .exit)) r × (r ≤ at + 20) ⌝ }
 {
-    if n < 10000 {
+    if four.number < 10000 {
         return four_text(out, at, four);
     }
-    decimal(out, at, n)
+    decimal(out, at, four.number)
 }
 
 fn hex_digit(d: u16) -> u8
@@ -188,19 +193,11 @@ fn letter(out: &mut [u8], at: usize, write: bool) -> usize
 }
 
 // An access's line, where there is room for the longest.
-fn line(
-    out: &mut [u8],
-    at: usize,
-    four: Four,
-    number: u64,
-    write: bool,
-    answer: u8,
-    value: u16,
-) -> usize
+fn line(out: &mut [u8], at: usize, four: Four, write: bool, answer: u8, value: u16) -> usize
     requires { ⌜ at + 64 ≤ length (now out) ⌝ }
-    ensures { λ r. ⌜ Wrote (now (out .entry)) at (lineBy (numeral four number) write answer value) (now (out .exit)) r × (r ≤ at + 64) ⌝ }
+    ensures { λ r. ⌜ Wrote (now (out .entry)) at (lineBy (numeral four) write answer value) (now (out .exit)) r × (r ≤ at + 64) ⌝ }
 {
-    let after_number = numeral(out, at, four, number);
+    let after_number = numeral(out, at, four);
     let after_letter = letter(out, after_number, write);
     let after_answer = decimal(out, after_letter, answer as u64);
     let after_blank = byte(out, after_answer, b' ');
@@ -258,43 +255,28 @@ fn roomy(size: usize, at: usize) -> bool
 }
 
 // An access's line, as far as the output goes.
-pub fn put_line(
-    out: &mut [u8],
-    at: usize,
-    four: Four,
-    number: u64,
-    write: bool,
-    answer: u8,
-    value: u16,
-) -> usize
-    ensures { λ r. ⌜ output (now (out .exit)) r ≡ put (output (now (out .entry)) at) (lineBy (numeral four number) write answer value) ⌝ }
+pub fn put_line(out: &mut [u8], at: usize, four: Four, write: bool, answer: u8, value: u16) -> usize
+    ensures { λ r. ⌜ output (now (out .exit)) r ≡ put (output (now (out .entry)) at) (lineBy (numeral four) write answer value) ⌝ }
 {
     if roomy(out.len(), at) {
-        return line(out, at, four, number, write, answer, value);
+        return line(out, at, four, write, answer, value);
     }
     let mut text = [0u8; 64];
-    let size = line(&mut text, 0, four, number, write, answer, value);
+    let size = line(&mut text, 0, four, write, answer, value);
     put(out, at, &text[..size])
 }
 
 // The line of an accepted access, as far as the output goes. A short number where there is room is the common case and goes straight to its place.
-pub fn put_accepted(
-    out: &mut [u8],
-    at: usize,
-    four: Four,
-    number: u64,
-    write: bool,
-    value: u16,
-) -> usize
-    ensures { λ r. ⌜ output (now (out .exit)) r ≡ put (output (now (out .entry)) at) (lineBy (numeral four number) write 0 value) ⌝ }
+pub fn put_accepted(out: &mut [u8], at: usize, four: Four, write: bool, value: u16) -> usize
+    ensures { λ r. ⌜ output (now (out .exit)) r ≡ put (output (now (out .entry)) at) (lineBy (numeral four) write 0 value) ⌝ }
 {
-    if 10000 <= number {
-        return put_line(out, at, four, number, write, 0, value);
+    if 10000 <= four.number {
+        return put_line(out, at, four, write, 0, value);
     }
     if roomy(out.len(), at) {
         return accepted_line(out, at, four, write, value);
     }
-    put_line(out, at, four, number, write, 0, value)
+    put_line(out, at, four, write, 0, value)
 }
 
 // A number ends a line.

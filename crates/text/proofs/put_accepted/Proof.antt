@@ -14,48 +14,48 @@ use Rattle.text.proofs.accepted_line.Reads as accepted-line-reads
 use Rattle.text.proofs.put_line.Reads as put-line-reads
 use Rattle.text.proofs.roomy.Reads as roomy-reads
 
--- src/lib.rt:264:9
+-- src/lib.rt:274:9
 put-line-requires : tie.Need-put-line-requires
 put-line-requires c κs = search needs
 
--- src/lib.rt:264:9
+-- src/lib.rt:274:9
 same-length : tie.Need-same-length
 same-length c = search needs
 
--- src/lib.rt:264:9
+-- src/lib.rt:274:9
 returns : tie.Need-returns
 returns c = search needs
 
--- src/lib.rt:266:8
+-- src/lib.rt:276:8
 roomy-requires : tie.Need-roomy-requires
 roomy-requires c κs = search needs
 
--- src/lib.rt:267:9
+-- src/lib.rt:277:9
 accepted-line-requires : tie.Need-accepted-line-requires
 accepted-line-requires c κs = leb-true _ _ (sym (c .before .before .roomy .ensures) ∙ c .before .if2 .taken)
 
--- src/lib.rt:267:9
+-- src/lib.rt:277:9
 same-length-2 : tie.Need-same-length-2
 same-length-2 c = search needs
 
--- src/lib.rt:267:9
+-- src/lib.rt:277:9
 returns-2 : tie.Need-returns-2
 unfolding numeral
 returns-2 c =
-    let a = c .before .before .before .before .before .before .before .before .args in
+    let a = c .before .before .before .before .before .before .before .before .before .args in
     let h : a .at + 64 ≤ length (a .out .now) = leb-true _ _ (sym (c .before .before .before .before .before .roomy .ensures) ∙ c .before .before .before .before .if2 .taken) in
     let w = c .before .before .accepted-line .ensures in
     simp (lt-ltb _ _ (c .before .before .before .before .before .before .if1 .left)) (put-wrote (w .0) (le-trans (w .1) h))
 
--- src/lib.rt:269:5
+-- src/lib.rt:279:5
 put-line-requires-2 : tie.Need-put-line-requires-2
 put-line-requires-2 c κs = search needs
 
--- src/lib.rt:260:1
+-- src/lib.rt:270:1
 same-length-3 : tie.Need-same-length-3
 same-length-3 c = search needs
 
--- src/lib.rt:260:1
+-- src/lib.rt:270:1
 returns-3 : tie.Need-returns-3
 returns-3 c = search needs
 

@@ -53,7 +53,7 @@ returns c =
     let o = output (a .out .now) (a .at) in
     ap (λ (s : Shown). record { place = s .place; done = s .done; end = s .end; out = s .out }) (c .before .before .before .before .before .before .run-from .ensures)
     ∙ ap (λ (x : Outcome). printedAt o (opensAs x (c .before .before .before .before .before .before .before .before .before .before .before .before .before .«open» .result .card) (a .file .now) (a .store .now) (a .marks .now) (a .tuples .now))) (sym (c .before .before .before .before .before .before .before .before .before .before .enum-told .given .1))
-    ∙ ap (λ (x : Answer). printedAt o (opensAs (x .outcome) (x .card) (a .file .now) (a .store .now) (a .marks .now) (a .tuples .now))) (c .before .before .before .before .before .before .before .before .before .before .before .before .before .«open» .ensures)
+    ∙ ap (λ (x : Answer). printedAt o (opensAs (x .outcome) (x .card) (a .file .now) (a .store .now) (a .marks .now) (a .tuples .now))) (c .before .before .before .before .before .before .before .before .before .before .before .before .before .«open» .ensures .0)
 
 -- src/play.rt:44:1
 same-length-4 : tie.Need-same-length-4
@@ -75,7 +75,7 @@ returns-2 c =
     let o = output (a .out .now) (a .at) in
     c .before .before .unopened .ensures
     ∙ ap (λ (x : Outcome). printedAt o (opensAs x (c .before .before .before .before .before .before .before .before .«open» .result .card) (a .file .now) (a .store .now) (a .marks .now) (a .tuples .now))) (sym (c .before .before .before .before .before .outcome .given .1))
-    ∙ ap (λ (x : Answer). printedAt o (opensAs (x .outcome) (x .card) (a .file .now) (a .store .now) (a .marks .now) (a .tuples .now))) (c .before .before .before .before .before .before .before .before .«open» .ensures)
+    ∙ ap (λ (x : Answer). printedAt o (opensAs (x .outcome) (x .card) (a .file .now) (a .store .now) (a .marks .now) (a .tuples .now))) (c .before .before .before .before .before .before .before .before .«open» .ensures .0)
 
 pub opened-on-spec : {M : Type 1} → statement M
 opened-on-spec =

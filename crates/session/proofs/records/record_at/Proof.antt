@@ -16,7 +16,7 @@ returns : tie.Need-returns
 unfolding recordAt
 returns c =
     let a = c .before .before .args in
-    let h : length (a .file .now) - a .at < 2 = omega arith in
+    let h : length (a .file .now) - a .at < 4 = omega arith in
     simp (lt-ltb _ _ h)
 
 -- src/records.rt:148:16

@@ -6,8 +6,9 @@ use lib.ListN.{length}
 use Rattle.registers.specs.State.{machine}
 use Rattle.session.specs.declared.Ending.the-variants.{Broken}
 use Rattle.session.specs.Record.{turnOf}
+use Rattle.text.specs.declared.Four.{Four}
 use Rattle.text.specs.Text.{bad}
-use Rattle.text.specs.Digits.{fourOf}
+use Rattle.text.specs.Digits.{fourOf, fourAfter}
 use Rattle.text.specs.Output.{Output, output, put}
 use Rattle.session.specs.Verdict.{verdictOf}
 use Rattle.session.specs.Run.{accessOf, wrapped, scriptFrom, resultOf, shown}
@@ -33,19 +34,19 @@ use Rattle.text.proofs.put_bad.Reads as put-bad-reads
 use Rattle.std.proofs.num.wrapping_add_u64.Reads as wrapping-add-u64-reads
 
 abbrev Inv-loop : tie.InvT-loop
-Inv-loop verdict part from first number tuples store₀ marks₀ out₀ start buffer₀ core₀ at₀ next₀ four₀ done₀ text₀ left₀ store marks out buffer core at next four done text left =
+Inv-loop verdict part from first number tuples store₀ marks₀ out₀ start buffer₀ core₀ at₀ four₀ done₀ text₀ left₀ store marks out buffer core at four done text left =
     (done + left ≤ length part)
     × (length part < 2 ^ 64)
     × (length store ≡ length store₀)
     × (length marks ≡ length marks₀)
     × (length out ≡ length out₀)
     × (verdict ≡ verdictOf (core .phase) (core .state) store marks tuples)
-    × (next < 2 ^ 64)
-    × (four ≡ fourOf next)
-    × (shown (output out text) (resultOf first next done (machine core buffer store marks) (scriptFrom left part tuples at)) ≡ shown (output out₀ text₀) (resultOf first next₀ done₀ (machine core₀ buffer₀ store₀ marks₀) (scriptFrom left₀ part tuples at₀)))
+    × (four .number < 2 ^ 64)
+    × (four ≡ fourOf (four .number))
+    × (shown (output out text) (resultOf first (four .number) done (machine core buffer store marks) (scriptFrom left part tuples at)) ≡ shown (output out₀ text₀) (resultOf first number done₀ (machine core₀ buffer₀ store₀ marks₀) (scriptFrom left₀ part tuples at₀)))
 
 abbrev μ-loop : tie.MeasureT-loop
-μ-loop verdict part from first number tuples store₀ marks₀ out₀ start buffer₀ core₀ at₀ next₀ four₀ done₀ text₀ left₀ store marks out buffer core at next four done text left = left
+μ-loop verdict part from first number tuples store₀ marks₀ out₀ start buffer₀ core₀ at₀ four₀ done₀ text₀ left₀ store marks out buffer core at four done text left = left
 
 -- src/run.rt:185:20
 of-requires : tie.Need-of-requires Inv-loop μ-loop
@@ -53,7 +54,9 @@ of-requires c κs = search needs
 
 -- src/run.rt:188:5
 loop-holds : tie.Need-loop-holds Inv-loop μ-loop
-loop-holds c = (search needs, search needs, refl, refl, refl, c .before .before .before .before .before .before .before .before .pre, search needs, c .of .ensures, refl)
+loop-holds c =
+    let e = c .of .ensures in
+    (search needs, search needs, refl, refl, refl, c .before .before .before .before .before .before .before .before .pre, rw e (search needs), e ∙ ap (λ (f : Four). fourOf (f .number)) (sym e), rw e refl)
 
 -- src/run.rt:190:13
 ran-requires : tie.Need-ran-requires Inv-loop μ-loop
@@ -76,7 +79,7 @@ returns : tie.Need-returns Inv-loop μ-loop
 returns c =
     let l = c .before .before .before .loop in
     let a = c .before .before .before .before .before .before .before .before .before .before .before .before .args in
-    rw (c .ran .ensures) (sym (lines-end (output (l .out) (l .text)) (a .first) (l .next) (l .done) (l .left) (l .at) (a .part .now) (a .tuples .now) (machine (l .core) (l .buffer) (l .store) (l .marks)) (c .before .if1 .taken)) ∙ l .inv .8)
+    rw (c .ran .ensures) (sym (lines-end (output (l .out) (l .text)) (a .first) (l .four .number) (l .done) (l .left) (l .at) (a .part .now) (a .tuples .now) (machine (l .core) (l .buffer) (l .store) (l .marks)) (c .before .if1 .taken)) ∙ l .inv .8)
 
 -- src/run.rt:192:13
 record-at-requires : tie.Need-record-at-requires Inv-loop μ-loop
@@ -125,7 +128,7 @@ returns-2 c =
     let e = sym (ap turnOf (c .before .before .before .before .before .before .before .before .before .before .record-at .ensures)) ∙ sym (c .before .before .before .before .before .before .before .before .before .turn .ensures) ∙ c .before .before .before .before .before .before .before .why .given .1 in
     rw (c .ran2 .ensures)
     (ap (λ (x : Output). record { machine = m; place = wrapped (a .first + l .at); done = l .done; end = Broken (c .before .before .before .before .before .before .before .why .given .0 .0); out = x }) p
-    ∙ sym (lines-stop o (a .first) (l .next) (l .done) (l .left) (l .at) (a .part .now) (a .tuples .now) m (c .before .before .before .before .before .before .before .why .given .0 .0) (c .before .before .before .before .before .before .before .before .before .before .before .before .loop-test .taken) (c .before .before .before .before .before .before .before .before .before .before .before .if1 .left) e)
+    ∙ sym (lines-stop o (a .first) (l .four .number) (l .done) (l .left) (l .at) (a .part .now) (a .tuples .now) m (c .before .before .before .before .before .before .before .why .given .0 .0) (c .before .before .before .before .before .before .before .before .before .before .before .before .loop-test .taken) (c .before .before .before .before .before .before .before .before .before .before .before .if1 .left) e)
     ∙ l .inv .8)
 
 -- src/run.rt:199:26
@@ -148,10 +151,6 @@ answer-requires c κs = search needs
 put-answer-requires : tie.Need-put-answer-requires Inv-loop μ-loop
 put-answer-requires c κs = c .before .before .before .before .before .before .before .before .before .before .before .before .before .before .before .before .before .before .before .before .loop .inv .7
 
--- src/run.rt:207:17
-wrapping-add-u64-requires-2 : tie.Need-wrapping-add-u64-requires-2 Inv-loop μ-loop
-wrapping-add-u64-requires-2 c κs = search needs
-
 -- src/run.rt:218:24
 next-requires : tie.Need-next-requires Inv-loop μ-loop
 next-requires c κs = search needs
@@ -163,42 +162,43 @@ size-of-requires c κs = search needs
 -- src/run.rt:208:17
 add-at : tie.Need-add-at Inv-loop μ-loop
 add-at c =
-    let l = c .before .before .before .before .before .before .before .before .before .before .before .before .before .before .before .before .before .before .before .before .before .before .before .before .before .before .loop in
-    let f = access-fits _ _ (c .before .before .before .before .before .before .before .before .before .before .before .before .before .before .before .before .before .before .before .before .before .before .before .before .before .before .before .before .before .before .before .before .before .before .before .args .part .now) (l .at) (c .before .before .before .before .before .before .before .before .before .before .before .before .before .before .before .before .before .before .before .before .before .before .before .before .if1 .left) (sym (ap turnOf (c .before .before .before .before .before .before .before .before .before .before .before .before .before .before .before .before .before .before .before .before .before .before .before .record-at .ensures)) ∙ sym (c .before .before .before .before .before .before .before .before .before .before .before .before .before .before .before .before .before .before .before .before .before .before .turn .ensures) ∙ c .before .before .before .before .before .before .before .before .before .before .before .before .before .before .before .before .before .before .before .before .write .given .1) in
+    let l = c .before .before .before .before .before .before .before .before .before .before .before .before .before .before .before .before .before .before .before .before .before .before .before .before .before .loop in
+    let f = access-fits _ _ (c .before .before .before .before .before .before .before .before .before .before .before .before .before .before .before .before .before .before .before .before .before .before .before .before .before .before .before .before .before .before .before .before .before .before .args .part .now) (l .at) (c .before .before .before .before .before .before .before .before .before .before .before .before .before .before .before .before .before .before .before .before .before .before .before .if1 .left) (sym (ap turnOf (c .before .before .before .before .before .before .before .before .before .before .before .before .before .before .before .before .before .before .before .before .before .before .record-at .ensures)) ∙ sym (c .before .before .before .before .before .before .before .before .before .before .before .before .before .before .before .before .before .before .before .before .before .turn .ensures) ∙ c .before .before .before .before .before .before .before .before .before .before .before .before .before .before .before .before .before .before .before .write .given .1) in
     omega (arith, f, c .size-of .ensures, l .inv .1)
 
 -- src/run.rt:209:17
 add-done : tie.Need-add-done Inv-loop μ-loop
-add-done c = omega (arith, c .before .before .before .before .before .before .before .before .before .before .before .before .before .before .before .before .before .before .before .before .before .before .before .before .before .before .loop .inv .0, c .before .before .before .before .before .before .before .before .before .before .before .before .before .before .before .before .before .before .before .before .before .before .before .before .before .before .loop .inv .1, c .before .before .before .before .before .before .before .before .before .before .before .before .before .before .before .before .before .before .before .before .before .before .before .before .before .loop-test .taken)
+add-done c = omega (arith, c .before .before .before .before .before .before .before .before .before .before .before .before .before .before .before .before .before .before .before .before .before .before .before .before .before .loop .inv .0, c .before .before .before .before .before .before .before .before .before .before .before .before .before .before .before .before .before .before .before .before .before .before .before .before .before .loop .inv .1, c .before .before .before .before .before .before .before .before .before .before .before .before .before .before .before .before .before .before .before .before .before .before .before .before .loop-test .taken)
 
 -- src/run.rt:210:17
 sub-left : tie.Need-sub-left Inv-loop μ-loop
-sub-left c = omega (arith, c .before .before .before .before .before .before .before .before .before .before .before .before .before .before .before .before .before .before .before .before .before .before .before .before .before .before .loop .inv .0, c .before .before .before .before .before .before .before .before .before .before .before .before .before .before .before .before .before .before .before .before .before .before .before .before .before .before .loop .inv .1, c .before .before .before .before .before .before .before .before .before .before .before .before .before .before .before .before .before .before .before .before .before .before .before .before .before .loop-test .taken)
+sub-left c = omega (arith, c .before .before .before .before .before .before .before .before .before .before .before .before .before .before .before .before .before .before .before .before .before .before .before .before .before .loop .inv .0, c .before .before .before .before .before .before .before .before .before .before .before .before .before .before .before .before .before .before .before .before .before .before .before .before .before .loop .inv .1, c .before .before .before .before .before .before .before .before .before .before .before .before .before .before .before .before .before .before .before .before .before .before .before .before .loop-test .taken)
 
 -- src/run.rt:188:5
 loop-less : tie.Need-loop-less Inv-loop μ-loop
-loop-less c = omega (arith, c .before .before .before .before .before .before .before .before .before .before .before .before .before .before .before .before .before .before .before .before .before .before .before .before .before .before .loop .inv .0, c .before .before .before .before .before .before .before .before .before .before .before .before .before .before .before .before .before .before .before .before .before .before .before .before .before .before .loop .inv .1, c .before .before .before .before .before .before .before .before .before .before .before .before .before .before .before .before .before .before .before .before .before .before .before .before .before .loop-test .taken)
+loop-less c = omega (arith, c .before .before .before .before .before .before .before .before .before .before .before .before .before .before .before .before .before .before .before .before .before .before .before .before .before .loop .inv .0, c .before .before .before .before .before .before .before .before .before .before .before .before .before .before .before .before .before .before .before .before .before .before .before .before .before .loop .inv .1, c .before .before .before .before .before .before .before .before .before .before .before .before .before .before .before .before .before .before .before .before .before .before .before .before .loop-test .taken)
 
 -- src/run.rt:188:5
 loop-again : tie.Need-loop-again Inv-loop μ-loop
 loop-again c =
-    let l = c .before .before .before .before .before .before .before .before .before .before .before .before .before .before .before .before .before .before .before .before .before .before .before .before .before .before .loop in
-    let a = c .before .before .before .before .before .before .before .before .before .before .before .before .before .before .before .before .before .before .before .before .before .before .before .before .before .before .before .before .before .before .before .before .before .before .before .args in
-    let r = c .before .before .before .before .before .before .before .before .before .before .before .before .answer in
+    let l = c .before .before .before .before .before .before .before .before .before .before .before .before .before .before .before .before .before .before .before .before .before .before .before .before .before .loop in
+    let a = c .before .before .before .before .before .before .before .before .before .before .before .before .before .before .before .before .before .before .before .before .before .before .before .before .before .before .before .before .before .before .before .before .before .before .args in
+    let r = c .before .before .before .before .before .before .before .before .before .before .before .answer in
     let k = r .kept .1 .1 .1 .1 .1 .1 in
     let o = output (l .out) (l .text) in
-    let e = sym (ap turnOf (c .before .before .before .before .before .before .before .before .before .before .before .before .before .before .before .before .before .before .before .before .before .before .before .record-at .ensures)) ∙ sym (c .before .before .before .before .before .before .before .before .before .before .before .before .before .before .before .before .before .before .before .before .before .before .turn .ensures) ∙ c .before .before .before .before .before .before .before .before .before .before .before .before .before .before .before .before .before .before .before .before .write .given .1 in
-    let t = steady (a .verdict) (machine (l .core) (l .buffer) (l .store) (l .marks)) (accessOf _ _ (a .tuples .now)) _ (l .inv .5) (c .before .before .before .before .before .before .before .before .before .before .before .before .before .before .before .before .count-known .ensures) (c .before .before .before .before .before .before .before .before .before .before .before .before .before .before .before .before .before .told .ensures) (r .ensures) in
-    let f = lines-turn o _ (a .first) (l .next) (l .done) (l .left) (l .at) (a .part .now) (a .tuples .now) (machine (l .core) (l .buffer) (l .store) (l .marks)) _ _ _ (c .before .before .before .before .before .before .before .before .before .before .before .before .before .before .before .before .before .before .before .before .before .before .before .before .before .loop-test .taken) (c .before .before .before .before .before .before .before .before .before .before .before .before .before .before .before .before .before .before .before .before .before .before .before .before .if1 .left) e (t .0) (c .before .before .before .before .before .put-answer .ensures) in (
-      omega (arith, l .inv .0, c .before .before .before .before .before .before .before .before .before .before .before .before .before .before .before .before .before .before .before .before .before .before .before .before .before .loop-test .taken),
+    let e = sym (ap turnOf (c .before .before .before .before .before .before .before .before .before .before .before .before .before .before .before .before .before .before .before .before .before .before .record-at .ensures)) ∙ sym (c .before .before .before .before .before .before .before .before .before .before .before .before .before .before .before .before .before .before .before .before .before .turn .ensures) ∙ c .before .before .before .before .before .before .before .before .before .before .before .before .before .before .before .before .before .before .before .write .given .1 in
+    let t = steady (a .verdict) (machine (l .core) (l .buffer) (l .store) (l .marks)) (accessOf _ _ (a .tuples .now)) _ (l .inv .5) (c .before .before .before .before .before .before .before .before .before .before .before .before .before .before .before .count-known .ensures) (c .before .before .before .before .before .before .before .before .before .before .before .before .before .before .before .before .told .ensures) (r .ensures) in
+    let g = c .before .next .ensures ∙ ap fourAfter (l .inv .7) ∙ sym (counts-round (l .four .number) (l .inv .6)) in
+    let f = lines-turn o _ (a .first) (l .four .number) (l .done) (l .left) (l .at) (a .part .now) (a .tuples .now) (machine (l .core) (l .buffer) (l .store) (l .marks)) _ _ _ (c .before .before .before .before .before .before .before .before .before .before .before .before .before .before .before .before .before .before .before .before .before .before .before .before .loop-test .taken) (c .before .before .before .before .before .before .before .before .before .before .before .before .before .before .before .before .before .before .before .before .before .before .before .if1 .left) e (t .0) (c .before .before .before .before .put-answer .ensures) in (
+      omega (arith, l .inv .0, c .before .before .before .before .before .before .before .before .before .before .before .before .before .before .before .before .before .before .before .before .before .before .before .before .loop-test .taken),
       l .inv .1,
       k .0 ∙ l .inv .2,
       k .1 .0 ∙ l .inv .3,
-      c .before .before .before .before .before .put-answer .kept .0 ∙ l .inv .4,
+      c .before .before .before .before .put-answer .kept .0 ∙ l .inv .4,
       t .1,
-      omega (arith, c .before .before .wrapping-add-u642 .ensures),
-      rw (c .before .next .ensures, c .before .before .wrapping-add-u642 .ensures, l .inv .7) (sym (counts-round (l .next) (l .inv .6))),
-      rw (c .before .before .wrapping-add-u642 .ensures, c .size-of .ensures) (f ∙ l .inv .8),
+      rw g (omega arith),
+      g ∙ ap (λ (f : Four). fourOf (f .number)) (sym g),
+      rw (g, c .size-of .ensures) (f ∙ l .inv .8),
     )
 
 -- src/run.rt:214:5
@@ -222,7 +222,7 @@ returns-3 : tie.Need-returns-3 Inv-loop μ-loop
 returns-3 c =
     let l = c .before .before .loop in
     let a = c .before .before .before .before .before .before .before .before .before .before .before .args in
-    rw (c .ran3 .ensures) (sym (lines-none (output (l .out) (l .text)) (a .first) (l .next) (l .done) (l .left) (l .at) (a .part .now) (a .tuples .now) (machine (l .core) (l .buffer) (l .store) (l .marks)) (c .before .loop-test .left)) ∙ l .inv .8)
+    rw (c .ran3 .ensures) (sym (lines-none (output (l .out) (l .text)) (a .first) (l .four .number) (l .done) (l .left) (l .at) (a .part .now) (a .tuples .now) (machine (l .core) (l .buffer) (l .store) (l .marks)) (c .before .loop-test .left)) ∙ l .inv .8)
 
 pub lines-spec : {M : Type 1} → statement M
 lines-spec =
@@ -252,7 +252,6 @@ lines-spec =
     count-known-requires
     answer-requires
     put-answer-requires
-    wrapping-add-u64-requires-2
     next-requires
     size-of-requires
     add-at

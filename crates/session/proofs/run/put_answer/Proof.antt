@@ -1,4 +1,3 @@
-use Prim.Native.Nat.{ℕ}
 use mathlib.Core.Path.{_≡_, ap, _∙_}
 use Rattle.text.specs.declared.Four.{Four}
 use Rattle.text.specs.Text.{decimal}
@@ -14,8 +13,8 @@ use Rattle.session.proofs.run.shown_value.Reads as shown-value-reads
 use Rattle.text.proofs.put_accepted.Reads as put-accepted-reads
 use Rattle.text.proofs.put_line.Reads as put-line-reads
 
-digits-print : (f : Four) (n : ℕ) → f ≡ fourOf n → numeral f n ≡ decimal n
-digits-print f n e = ap (λ (x : Four). numeral x n) e ∙ numeral-of n
+digits-print : (f : Four) → f ≡ fourOf (f .number) → numeral f ≡ decimal (f .number)
+digits-print f e = ap numeral e ∙ numeral-of (f .number)
 
 -- src/run.rt:150:27
 enum-known-outcome : tie.Need-enum-known-outcome
@@ -49,7 +48,7 @@ same-length c = search needs
 returns : tie.Need-returns
 returns c =
     let b = c .before .before .before .before .before .before .before .before .before in
-    let e = digits-print (b .args .four) (b .args .number) (b .pre) in
+    let e = digits-print (b .args .four) (b .pre) in
     simp (c .before .before .before .before .before .before .outcome .given .1) (rw (c .before .before .before .before .shown-value .ensures, e) at (c .before .before .put-accepted .ensures))
 
 -- src/run.rt:139:1
@@ -60,7 +59,7 @@ same-length-2 c = search needs
 returns-2 : tie.Need-returns-2
 returns-2 c =
     let b = c .before .before .before .before .before .before .before .before .before in
-    let e = digits-print (b .args .four) (b .args .number) (b .pre) in
+    let e = digits-print (b .args .four) (b .pre) in
     simp (c .before .before .before .before .before .before .outcome2 .given .1) (rw (c .before .before .before .before .number .ensures, e) at (c .before .before .put-line .ensures))
 
 pub put-answer-spec : {M : Type 1} → statement M

@@ -1,0 +1,21 @@
+use Rattle.card.specs.declared.Answer.{Answer}
+use Rattle.answers.specs.Answers.{outcomeNumber, outcomeValue}
+use mathlib.Core.Path.{ap}
+use borrow.Author.Needs.{needs}
+use Rattle.card.proofs.Card.write_control.Statement.{statement}
+use Rattle.card.proofs.Card.write_control.Tie as tie
+use Rattle.card.proofs.Card.write_control.Reads as reads
+use Rattle.card.proofs.Card.write_control.Lts as lts
+use Rattle.card.proofs.doors.control_reply.Reads as control-reply-reads
+
+-- src/doors.rt:145:13
+control-reply-requires : tie.Need-control-reply-requires
+control-reply-requires c κs = search needs
+
+-- src/doors.rt:134:5
+returns : tie.Need-returns
+returns c =
+    let e = c .before .before .control-reply .ensures in (e, (ap (λ (x : Answer). outcomeNumber (x .outcome)) e, ap (λ (x : Answer). outcomeValue (x .outcome)) e))
+
+pub write-control-spec : {M : Type 1} → statement M
+write-control-spec = tie.close (tie.spec control-reply-requires returns)

@@ -1,0 +1,87 @@
+use borrow.Author.Needs.{needs}
+use Prim.Native.Nat.{_≤_, _-_}
+use Rattle.trial.proofs.lists.read.Statement.{statement}
+use Rattle.trial.proofs.lists.read.Tie as tie
+
+abbrev Inv-loop : tie.InvT-loop
+Inv-loop chain places held n i₀ i = i ≤ n
+
+abbrev μ-loop : tie.MeasureT-loop
+μ-loop chain places held n i₀ i = n - i
+
+-- src/lists.rt:38:18
+cast-places : tie.Need-cast-places Inv-loop μ-loop
+cast-places c = search needs
+
+-- src/lists.rt:39:9
+entry-requires : tie.Need-entry-requires Inv-loop μ-loop
+entry-requires c κs = search needs
+
+-- src/lists.rt:40:9
+read-held-requires : tie.Need-read-held-requires Inv-loop μ-loop
+read-held-requires c κs = search needs
+
+-- src/lists.rt:42:18
+slice-aggregate-outcome-line : tie.Need-slice-aggregate-outcome-line Inv-loop μ-loop
+slice-aggregate-outcome-line c = search needs
+
+-- src/lists.rt:42:5
+outcome-line-requires : tie.Need-outcome-line-requires Inv-loop μ-loop
+outcome-line-requires c κs = search needs
+
+-- src/lists.rt:43:19
+value-requires : tie.Need-value-requires Inv-loop μ-loop
+value-requires c κs = search needs
+
+-- src/lists.rt:43:9
+shown-requires : tie.Need-shown-requires Inv-loop μ-loop
+shown-requires c κs = search needs
+
+-- src/lists.rt:45:5
+loop-holds : tie.Need-loop-holds Inv-loop μ-loop
+loop-holds c = search needs
+
+-- src/lists.rt:46:13
+read-held-requires-2 : tie.Need-read-held-requires-2 Inv-loop μ-loop
+read-held-requires-2 c κs = search needs
+
+-- src/lists.rt:47:9
+entry-line-requires : tie.Need-entry-line-requires Inv-loop μ-loop
+entry-line-requires c κs = search needs
+
+-- src/lists.rt:48:9
+add-i : tie.Need-add-i Inv-loop μ-loop
+add-i c = search needs
+
+-- src/lists.rt:45:5
+loop-less : tie.Need-loop-less Inv-loop μ-loop
+loop-less c = search needs
+
+-- src/lists.rt:45:5
+loop-again : tie.Need-loop-again Inv-loop μ-loop
+loop-again c = search needs
+
+-- src/lists.rt:37:1
+returns : tie.Need-returns Inv-loop μ-loop
+returns c = search needs
+
+pub read-spec : {M : Type 1} → statement M
+read-spec =
+    tie.close
+    (tie.spec
+    Inv-loop
+    μ-loop
+    cast-places
+    entry-requires
+    read-held-requires
+    slice-aggregate-outcome-line
+    outcome-line-requires
+    value-requires
+    shown-requires
+    loop-holds
+    read-held-requires-2
+    entry-line-requires
+    add-i
+    loop-less
+    loop-again
+    returns)

@@ -1,0 +1,100 @@
+// Kinds 1, 3 and 12: the card's doors over the lent rows, and what is shown of them.
+use crate::bytes;
+use crate::words::Words;
+use crate::words::low;
+use card::Answer;
+use card::Card;
+
+// The A line.
+fn answer_line(answer: Answer) {
+    let outcome = answer.outcome;
+    let mut numbers = trial_cards::row(answer.card);
+    numbers[0] = ground::wide(outcome.number());
+    numbers[1] = outcome.value();
+    numbers[2] = trial_cards::one(answer.line);
+    trial_text::line(
+        b"A 10 3210 0 10 10 10 10 10 10 10 10 10 10 0 3210 3210 3210 0 0 3210 3210\n",
+        &numbers,
+    );
+}
+
+fn open(w: Words, chain: &[u8], store: &[u8], marks: &[u8]) -> Card {
+    let answer = Card::open(w.w1, w.w2, w.w3, w.w4, store, marks, chain);
+    answer_line(answer);
+    answer.card
+}
+
+fn access(
+    card: Card,
+    space: u8,
+    width: u8,
+    write: bool,
+    address: u16,
+    value: u16,
+    chain: &[u8],
+    store: &mut [u8],
+    marks: &mut [u8],
+) -> Card {
+    let answer = card.access(space, width, write, address, value, chain, store, marks);
+    answer_line(answer);
+    answer.card
+}
+
+fn times(asked: u16) -> u16 {
+    if asked == 0 {
+        return 1;
+    }
+    if 256 < asked {
+        return 256;
+    }
+    asked
+}
+
+fn next_value(value: u16, width: u8, step: u16) -> u16 {
+    let next = std::num::wrapping_add_u16(value, step);
+    if width == 2 {
+        return next;
+    }
+    next % 256
+}
+
+fn accesses(card: Card, w: Words, chain: &[u8], store: &mut [u8], marks: &mut [u8]) -> Card {
+    let space = low(w.w1);
+    let width = low(w.w2);
+    let n = times(w.w6);
+    let mut c = card;
+    let mut value = w.w5;
+    let mut i: u16 = 0;
+    while i < n {
+        c = access(c, space, width, w.w3 != 0, w.w4, value, chain, store, marks);
+        value = next_value(value, width, w.w7);
+        i += 1;
+    }
+    c
+}
+
+fn sum_of(buffer: [u8; 512]) -> u16 {
+    bytes::sum(&buffer)
+}
+
+// The S line and the M line.
+fn show(buffer: [u8; 512], chain: &[u8], store: &[u8], marks: &[u8]) {
+    let numbers = [bytes::sum(store), sum_of(buffer), bytes::sum(chain)];
+    trial_text::line(b"S 3210 3210 3210\n", &numbers);
+    trial_text::bytes_line(b"M ", marks);
+}
+
+pub fn record(card: Card, w: Words, chain: &[u8], store: &mut [u8], marks: &mut [u8]) -> Card {
+    if w.w0 == 1 {
+        return open(w, chain, store, marks);
+    }
+    if w.w0 == 3 {
+        return accesses(card, w, chain, store, marks);
+    }
+    if w.w0 == 12 {
+        let buffer = card.buffer;
+        show(buffer, chain, store, marks);
+        return card;
+    }
+    card
+}

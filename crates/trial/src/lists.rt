@@ -1,0 +1,73 @@
+// Kinds 6, 7 and 14: the tuple reader and the tuple writer, over the lent bytes.
+use crate::bytes;
+use crate::words::Words;
+use crate::words::low;
+use answers::Outcome;
+use tuples::Entry;
+
+pub fn entry(w: Words) -> Entry {
+    Entry {
+        code: low(w.w2),
+        start: w.w3,
+        length: w.w4,
+    }
+}
+
+// The R line and the W line; the R line has no sum.
+fn outcome_line(pattern: &[u8], outcome: Outcome, sum: u16) {
+    let numbers = [ground::wide(outcome.number()), outcome.value(), sum];
+    trial_text::line(pattern, &numbers);
+}
+
+// An E line.
+fn entry_line(e: Entry) {
+    let numbers = [ground::wide(e.code), e.start, e.length];
+    trial_text::line(b"E 10 3210 3210\n", &numbers);
+}
+
+// The places that are shown: the entries, and two more.
+fn shown(entries: u16) -> usize {
+    if entries < 254 {
+        return entries as usize + 2;
+    }
+    256
+}
+
+fn read(w: Words, chain: &[u8]) {
+    let places = w.w1 as usize;
+    let held = entry(w);
+    let first = tuples::read_held(chain, places, held, 0);
+    let outcome = first.outcome;
+    outcome_line(b"R 10 3210\n", outcome, 0);
+    let n = shown(outcome.value());
+    let mut i: usize = 0;
+    while i < n {
+        let h = tuples::read_held(chain, places, held, i);
+        entry_line(h.entry);
+        i += 1;
+    }
+}
+
+fn written(w: Words, last: Entry, bodies: &[u8], chain: &mut [u8]) -> Outcome {
+    if w.w0 == 7 {
+        return tuples::write_made(entry(w), last, w.w1 as usize, bodies, chain);
+    }
+    tuples::write_back(bodies, chain)
+}
+
+// The W line and the T line.
+fn written_lines(outcome: Outcome, chain: &[u8]) {
+    outcome_line(b"W 10 3210 3210\n", outcome, bytes::sum(chain));
+    trial_text::bytes_line(b"T ", chain);
+}
+
+pub fn record(w: Words, last: Entry, bodies: &[u8], chain: &mut [u8]) {
+    if w.w0 == 6 {
+        read(w, chain);
+        return;
+    }
+    if w.w0 == 7 || w.w0 == 14 {
+        let outcome = written(w, last, bodies, chain);
+        written_lines(outcome, chain);
+    }
+}

@@ -1,0 +1,14 @@
+use Rattle.ground.proofs.Tests.{tests}
+use Rattle.trial_cards.proofs.mode_of.Statement.{statement}
+use Rattle.trial_cards.proofs.mode_of.Tie as tie
+
+-- src/lib.rt:158:9
+returns : tie.Need-returns
+returns c = search tests
+
+-- src/lib.rt:154:1
+returns-2 : tie.Need-returns-2
+returns-2 c = search tests
+
+pub mode-of-spec : {M : Type 1} → statement M
+mode-of-spec = tie.close (tie.spec returns returns-2)

@@ -1,0 +1,39 @@
+use mathlib.Core.Path.{sym, _∙_}
+use borrow.Author.Needs.{needs}
+use Rattle.trial_cards.proofs.place.Statement.{statement}
+use Rattle.trial_cards.proofs.place.Tie as tie
+
+-- src/lib.rt:266:8
+taken-requires : tie.Need-taken-requires
+taken-requires c κs = search needs
+
+-- src/lib.rt:268:13
+slice-aggregate-byte-or-zero : tie.Need-slice-aggregate-byte-or-zero
+slice-aggregate-byte-or-zero c = search needs
+
+-- src/lib.rt:267:16
+byte-or-zero-requires : tie.Need-byte-or-zero-requires
+byte-or-zero-requires c κs = search needs
+
+-- src/lib.rt:267:16
+cast-result : tie.Need-cast-result
+cast-result c = search needs
+
+-- src/lib.rt:267:9
+returns : tie.Need-returns
+returns c = simp (sym (c .before .before .before .taken .ensures) ∙ c .before .before .if1 .taken, c .byte-or-zero .ensures)
+
+-- src/lib.rt:263:1
+returns-2 : tie.Need-returns-2
+returns-2 c = simp (sym (c .before .taken .ensures) ∙ c .if1 .left)
+
+pub place-spec : {M : Type 1} → statement M
+place-spec =
+    tie.close
+    (tie.spec
+    taken-requires
+    slice-aggregate-byte-or-zero
+    byte-or-zero-requires
+    cast-result
+    returns
+    returns-2)

@@ -1,0 +1,63 @@
+use borrow.Author.Needs.{needs}
+use Rattle.trial_cards.proofs.state_row.Statement.{statement}
+use Rattle.trial_cards.proofs.state_row.Tie as tie
+
+-- src/lib.rt:85:17
+with-made-requires : tie.Need-with-made-requires
+with-made-requires c κs = search needs
+
+-- src/lib.rt:86:13
+wide-requires : tie.Need-wide-requires
+wide-requires c κs = search needs
+
+-- src/lib.rt:86:5
+array-write-r : tie.Need-array-write-r
+array-write-r c = search needs
+
+-- src/lib.rt:87:13
+one-requires : tie.Need-one-requires
+one-requires c κs = search needs
+
+-- src/lib.rt:87:5
+array-write-r-2 : tie.Need-array-write-r-2
+array-write-r-2 c = search needs
+
+-- src/lib.rt:88:5
+array-write-r-3 : tie.Need-array-write-r-3
+array-write-r-3 c = search needs
+
+-- src/lib.rt:89:5
+array-write-r-4 : tie.Need-array-write-r-4
+array-write-r-4 c = search needs
+
+-- src/lib.rt:90:5
+array-write-r-5 : tie.Need-array-write-r-5
+array-write-r-5 c = search needs
+
+-- src/lib.rt:92:9
+with-registers-requires : tie.Need-with-registers-requires
+with-registers-requires c κs = search needs
+
+-- src/lib.rt:91:5
+with-option-requires : tie.Need-with-option-requires
+with-option-requires c κs = search needs
+
+-- src/lib.rt:81:1
+returns : tie.Need-returns
+returns c = simp (c .with-option .ensures, c .before .with-registers .ensures, c .before .before .one .ensures .0, c .before .before .before .wide .ensures .0, c .before .before .before .before .with-made .ensures)
+
+pub state-row-spec : {M : Type 1} → statement M
+state-row-spec =
+    tie.close
+    (tie.spec
+    with-made-requires
+    wide-requires
+    array-write-r
+    one-requires
+    array-write-r-2
+    array-write-r-3
+    array-write-r-4
+    array-write-r-5
+    with-registers-requires
+    with-option-requires
+    returns)

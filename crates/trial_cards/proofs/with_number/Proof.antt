@@ -1,0 +1,23 @@
+use Rattle.ground.proofs.Tests.{tests}
+use borrow.Author.Needs.{needs}
+use Rattle.trial_cards.proofs.with_number.Statement.{statement}
+use Rattle.trial_cards.proofs.with_number.Tie as tie
+
+-- src/lib.rt:280:9
+mul-r : tie.Need-mul-r
+mul-r c = search needs
+
+-- src/lib.rt:280:9
+array-write-r : tie.Need-array-write-r
+array-write-r c = search needs
+
+-- src/lib.rt:275:1
+returns : tie.Need-returns
+returns c = search tests
+
+-- src/lib.rt:275:1
+returns-2 : tie.Need-returns-2
+returns-2 c = search tests
+
+pub with-number-spec : {M : Type 1} → statement M
+with-number-spec = tie.close (tie.spec mul-r array-write-r returns returns-2)

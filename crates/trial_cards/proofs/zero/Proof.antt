@@ -1,0 +1,16 @@
+use Rattle.trial_cards.specs.Cards.{zeroCard}
+use borrow.Author.Needs.{needs}
+use Rattle.trial_cards.proofs.zero.Statement.{statement}
+use Rattle.trial_cards.proofs.zero.Tie as tie
+
+-- src/lib.rt:308:5
+card-of-requires : tie.Need-card-of-requires
+card-of-requires c κs = search needs
+
+-- src/lib.rt:305:1
+returns : tie.Need-returns
+unfolding zeroCard
+returns c = c .card-of .ensures
+
+pub zero-spec : {M : Type 1} → statement M
+zero-spec = tie.close (tie.spec card-of-requires returns)

@@ -1,0 +1,144 @@
+-- The card value as a row of 30 numbers, and a card of such a row: 0 to 2 are for an answer, 3 to 20 are the card's as the A line of oracle/TRIAL.md shows them, the rest are what it does not show.
+use Prim.Native.Nat.{ℕ, _+_, _*_, _/_, _%_}
+use mathlib.Core.Bool.{Bool, true, false}
+use mathlib.Core.List.{List, [], _∷_}
+use lib.Dec.{eqb, ltb}
+use lib.ListN.{getD, set, replicate}
+use Rattle.ground.specs.Choice.{pick}
+use Rattle.maps.specs.declared.Mode.{Mode}
+use Rattle.maps.specs.declared.Mode.the-variants.{PcCard, TrueIde}
+use Rattle.registers.specs.declared.Control.{Control}
+use Rattle.registers.specs.declared.Half.{Half}
+use Rattle.registers.specs.declared.Half.the-variants.{Nothing, Low, High}
+use Rattle.registers.specs.declared.Load.{Load}
+use Rattle.registers.specs.declared.Load.the-variants.{Sectors, Buffer}
+use Rattle.registers.specs.declared.Made.{Made}
+use Rattle.registers.specs.declared.Phase.{Phase}
+use Rattle.registers.specs.declared.Phase.the-variants.{Idle, DataIn, DataOut}
+use Rattle.registers.specs.declared.Registers.{Registers}
+use Rattle.registers.specs.declared.State.{State}
+use Rattle.registers.specs.declared.Transfer.{Transfer}
+use Rattle.card.specs.declared.Card.{Card}
+
+-- ---- from the card
+
+abbrev pub oneOf : Bool → ℕ
+oneOf true = 1
+oneOf false = 0
+
+abbrev pub modeNumber : Mode → ℕ
+modeNumber PcCard = 0
+modeNumber TrueIde = 1
+
+abbrev pub halfNumber : Half → ℕ
+halfNumber Nothing = 0
+halfNumber Low = 1
+halfNumber High = 2
+
+abbrev pub withRegisters : List ℕ → Registers → List ℕ
+withRegisters l r =
+    set (set (set (set (set (set (set l 3 (r .status)) 4 (r .error)) 5 (r .count)) 6 (r .address .sector)) 7 (r .address .low)) 8 (r .address .high)) 9 (r .address .head)
+
+-- Configuration Option and its two parts, Device Control and its two bits
+abbrev pub withOption : List ℕ → ℕ → Control → List ℕ
+withOption l o k =
+    set (set (set (set (set (set l 10 o) 11 (4 * oneOf (k .held) + 2 * oneOf (k .masked))) 26 (o % 128)) 27 (o / 128)) 28 (oneOf (k .held))) 29 (oneOf (k .masked))
+
+abbrev pub withMade : List ℕ → Made → List ℕ
+withMade l m =
+    set (set (set (set l 21 (m .default .cylinders)) 22 (m .default .heads)) 23 (m .default .sectors)) 24 (modeNumber (m .mode))
+
+abbrev pub stateRow : State → List ℕ
+stateRow s =
+    withOption
+    (withRegisters
+    (set (set (set (set (set (withMade (replicate 30 0) (s .made)) 12 (s .code)) 13 (oneOf (s .mark))) 14 (s .current .cylinders)) 15 (s .current .heads)) 16 (s .current .sectors))
+    (s .registers))
+    (s .option)
+    (s .control)
+
+abbrev pub withLoad : List ℕ → Load → List ℕ
+withLoad l (Sectors left) = set (set l 20 left) 25 1
+withLoad l Buffer = l
+
+abbrev pub withTransfer : List ℕ → ℕ → Transfer → List ℕ
+withTransfer l phase t = withLoad (set (set (set l 17 phase) 18 (halfNumber (t .half))) 19 (t .words)) (t .load)
+
+abbrev pub withPhase : List ℕ → Phase → List ℕ
+withPhase l Idle = l
+withPhase l (DataIn t) = withTransfer l 1 t
+withPhase l (DataOut t) = withTransfer l 2 t
+
+unfoldable pub rowOf : Card → List ℕ
+rowOf c = withPhase (stateRow (c .state)) (c .phase)
+
+-- ---- and back
+
+abbrev pub modeOf : ℕ → Mode
+modeOf n = pick (eqb n 0) PcCard TrueIde
+
+abbrev pub halfOf : ℕ → Half
+halfOf n = pick (eqb n 0) Nothing (pick (eqb n 1) Low High)
+
+abbrev pub loadOf : ℕ → ℕ → Load
+loadOf n left = pick (eqb n 0) Buffer (Sectors left)
+
+abbrev pub madeOf : List ℕ → Made
+madeOf l = record { mode = modeOf (getD l 24 0); default = record { cylinders = getD l 21 0; heads = getD l 22 0; sectors = getD l 23 0 } }
+
+abbrev pub registersOf : List ℕ → Registers
+registersOf l =
+    record {
+      status = getD l 3 0 % 256;
+      error = getD l 4 0 % 256;
+      count = getD l 5 0 % 256;
+      address = record { sector = getD l 6 0 % 256; low = getD l 7 0 % 256; high = getD l 8 0 % 256; head = getD l 9 0 % 256 };
+    }
+
+abbrev pub stateOf : List ℕ → State
+stateOf l =
+    record {
+      made = madeOf l;
+      current = record { cylinders = getD l 14 0; heads = getD l 15 0; sectors = getD l 16 0 };
+      registers = registersOf l;
+      option = getD l 26 0 % 128 + 128 * (getD l 27 0 % 2);
+      control = record { held = eqb (getD l 28 0 % 2) 1; masked = eqb (getD l 29 0 % 2) 1 };
+      mark = eqb (getD l 13 0 % 2) 1;
+      code = getD l 12 0 % 256;
+    }
+
+abbrev pub transferOf : List ℕ → Transfer
+transferOf l = record { load = loadOf (getD l 25 0) (getD l 20 0); half = halfOf (getD l 18 0); words = getD l 19 0 }
+
+abbrev pub phaseWith : ℕ → Transfer → Phase
+phaseWith n t = pick (eqb n 0) Idle (pick (eqb n 1) (DataIn t) (DataOut t))
+
+abbrev pub phaseOf : List ℕ → Phase
+phaseOf l = phaseWith (getD l 17 0) (transferOf l)
+
+unfoldable pub cardOf : List ℕ → List ℕ → Card
+cardOf l buffer = record { phase = phaseOf l; state = stateOf l; buffer = buffer }
+
+unfoldable pub zeroCard : Card
+zeroCard = cardOf (replicate 30 0) (replicate 512 0)
+
+-- ---- kind 4
+
+-- where the row has each field of oracle/TRIAL.md, from field 0, which is none
+abbrev pub places : List ℕ
+places = 0 ∷ 21 ∷ 22 ∷ 23 ∷ 14 ∷ 15 ∷ 16 ∷ 26 ∷ 27 ∷ 28 ∷ 29 ∷ 13 ∷ 3 ∷ 4 ∷ 5 ∷ 6 ∷ 7 ∷ 8 ∷ 9 ∷ 12 ∷ 18 ∷ 19 ∷ 20 ∷ 24 ∷ 17 ∷ 25 ∷ []
+
+-- a half word and a phase are at most 2, a mode and what a transfer moves at most 1
+abbrev pub takenOf : ℕ → ℕ → Bool
+takenOf field value =
+    pick (eqb field 20) (ltb value 3) (pick (eqb field 24) (ltb value 3) (pick (eqb field 23) (ltb value 2) (pick (eqb field 25) (ltb value 2) true)))
+
+-- 0, which is not the card's, if nothing is to be done
+abbrev pub placeOf : ℕ → ℕ → ℕ
+placeOf field value = pick (takenOf field value) (getD places field 0) 0
+
+abbrev pub withNumber : List ℕ → ℕ → ℕ → List ℕ
+withNumber l at value = pick (ltb at 30) (set l at value) l
+
+unfoldable pub brokenOf : Card → ℕ → ℕ → Card
+brokenOf c field value = cardOf (withNumber (rowOf c) (placeOf field value) value) (c .buffer)
