@@ -109,6 +109,8 @@ pub struct Card {
     pub phase: Phase,
     /// The running transfer moves sectors, not the buffer alone.
     pub sectors: bool,
+    /// The buffer on its way to the host is Identify's: for the coverage table alone.
+    pub identity: bool,
     pub left: u16,
     pub words: u16,
     pub half: Half,
@@ -143,6 +145,7 @@ impl Card {
             buffer: [0; 512],
             phase: Phase::Idle,
             sectors: false,
+            identity: false,
             left: 0,
             words: 0,
             half: Half::Nothing,

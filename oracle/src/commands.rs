@@ -96,6 +96,7 @@ impl Card {
 
     /// The buffer becomes ready for the host to read.
     fn offer(&mut self) {
+        self.identity = false;
         self.phase = Phase::In;
         self.words = 0;
         self.status = DATA;
@@ -385,7 +386,7 @@ impl Card {
         match (self.phase, self.sectors) {
             (Phase::In, true) => self.sector_was_read(lent),
             (Phase::Out, true) => self.sector_was_written(lent),
-            (Phase::In, false) => self.good_read(Row::ReadBuffer),
+            (Phase::In, false) => self.good_read(if self.identity { Row::Identify } else { Row::ReadBuffer }),
             _ => self.good(Row::WriteBuffer),
         }
     }
@@ -421,6 +422,7 @@ impl Card {
             self.buffer[2 * i..2 * i + 2].copy_from_slice(&word.to_le_bytes());
         }
         self.offer();
+        self.identity = true;
         cover::identify();
     }
 

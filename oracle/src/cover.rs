@@ -434,7 +434,7 @@ fn end_rows() -> Vec<(String, Need)> {
 fn end_need(row: usize, result: usize, lba: bool) -> Need {
     let addressed = row < 4 || row == 10;
     let there = match result {
-        0 => (addressed || !lba) && row != 4 && row != 12,
+        0 => (addressed || !lba) && row != 12,
         1 => addressed && !lba,
         2 => addressed,
         3 => row == 0 || row == 2,
