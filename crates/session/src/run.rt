@@ -66,7 +66,7 @@ fn verdict_of(core: Core, store: &[u8], marks: &[u8], tuples: &[u8]) -> Verdict
     Verdict::Fit
 }
 
-// One access: the card's inner step is called here and nowhere else.
+// One access: the one place of a run where the card's inner step is called.
 fn answer(
     verdict: Verdict,
     core: Core,

@@ -1,4 +1,5 @@
 // The bytes of a row: how they are set, and their sum.
+use crate::lines;
 use crate::words::Words;
 use crate::words::low;
 ghost use Prim.Native.Nat.{_≤_};
@@ -43,7 +44,7 @@ fn byte(w: Words, k: usize) -> u8 {
 // Kinds 9, 10 and 13.
 pub fn put(row: &mut [u8], w: Words) {
     let start = w.w1 as usize;
-    let n = trial_text::at_most(w.w2 as usize, 8);
+    let n = lines::at_most(w.w2 as usize, 8);
     let mut k: usize = 0;
     while k < n {
         set(row, start + k, byte(w, k));

@@ -1,5 +1,6 @@
 // Kinds 1, 3 and 12: the card's doors over the lent rows, and what is shown of them.
 use crate::bytes;
+use crate::lines;
 use crate::words::Words;
 use crate::words::low;
 use card::Answer;
@@ -12,7 +13,7 @@ fn answer_line(answer: Answer) {
     numbers[0] = ground::wide(outcome.number());
     numbers[1] = outcome.value();
     numbers[2] = trial_cards::one(answer.line);
-    trial_text::line(
+    lines::line(
         b"A 10 3210 0 10 10 10 10 10 10 10 10 10 10 0 3210 3210 3210 0 0 3210 3210\n",
         &numbers,
     );
@@ -80,21 +81,23 @@ fn sum_of(buffer: [u8; 512]) -> u16 {
 // The S line and the M line.
 fn show(buffer: [u8; 512], chain: &[u8], store: &[u8], marks: &[u8]) {
     let numbers = [bytes::sum(store), sum_of(buffer), bytes::sum(chain)];
-    trial_text::line(b"S 3210 3210 3210\n", &numbers);
-    trial_text::bytes_line(b"M ", marks);
+    lines::line(b"S 3210 3210 3210\n", &numbers);
+    lines::bytes_line(b"M ", marks);
 }
 
-pub fn record(card: Card, w: Words, chain: &[u8], store: &mut [u8], marks: &mut [u8]) -> Card {
+// Kinds 1 and 12, which change no row.
+fn opened(card: Card, w: Words, chain: &[u8], store: &[u8], marks: &[u8]) -> Card {
     if w.w0 == 1 {
         return open(w, chain, store, marks);
     }
+    let buffer = card.buffer;
+    show(buffer, chain, store, marks);
+    card
+}
+
+pub fn record(card: Card, w: Words, chain: &[u8], store: &mut [u8], marks: &mut [u8]) -> Card {
     if w.w0 == 3 {
         return accesses(card, w, chain, store, marks);
     }
-    if w.w0 == 12 {
-        let buffer = card.buffer;
-        show(buffer, chain, store, marks);
-        return card;
-    }
-    card
+    opened(card, w, chain, store, marks)
 }

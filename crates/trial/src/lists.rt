@@ -1,5 +1,6 @@
 // Kinds 6, 7 and 14: the tuple reader and the tuple writer, over the lent bytes.
 use crate::bytes;
+use crate::lines;
 use crate::words::Words;
 use crate::words::low;
 use answers::Outcome;
@@ -16,13 +17,13 @@ pub fn entry(w: Words) -> Entry {
 // The R line and the W line; the R line has no sum.
 fn outcome_line(pattern: &[u8], outcome: Outcome, sum: u16) {
     let numbers = [ground::wide(outcome.number()), outcome.value(), sum];
-    trial_text::line(pattern, &numbers);
+    lines::line(pattern, &numbers);
 }
 
 // An E line.
 fn entry_line(e: Entry) {
     let numbers = [ground::wide(e.code), e.start, e.length];
-    trial_text::line(b"E 10 3210 3210\n", &numbers);
+    lines::line(b"E 10 3210 3210\n", &numbers);
 }
 
 // The places that are shown: the entries, and two more.
@@ -58,7 +59,7 @@ fn written(w: Words, last: Entry, bodies: &[u8], chain: &mut [u8]) -> Outcome {
 // The W line and the T line.
 fn written_lines(outcome: Outcome, chain: &[u8]) {
     outcome_line(b"W 10 3210 3210\n", outcome, bytes::sum(chain));
-    trial_text::bytes_line(b"T ", chain);
+    lines::bytes_line(b"T ", chain);
 }
 
 pub fn record(w: Words, last: Entry, bodies: &[u8], chain: &mut [u8]) {

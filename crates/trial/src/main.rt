@@ -1,11 +1,12 @@
 // Plays one trial input through the card's doors, for the comparison with the independent program: oracle/TRIAL.md says what is read and what is printed.
 mod bytes;
 mod doors;
+mod lines;
 mod lists;
 mod words;
 
 use card::Card;
-use trial_text::at_most;
+use lines::at_most;
 use tuples::Entry;
 use words::Words;
 use words::low;
@@ -170,7 +171,13 @@ fn door_record(card: Card, rows: Rows, lent: Lengths, w: Words, store: &mut [u8]
 }
 
 fn at_doors(kind: u16) -> bool {
-    kind == 1 || kind == 3 || kind == 12
+    if kind == 1 {
+        return true;
+    }
+    if kind == 3 {
+        return true;
+    }
+    kind == 12
 }
 
 // One record. Each function does nothing at a kind that is not its own.
@@ -187,26 +194,23 @@ fn turn(held: Held, side: Side, w: Words, store: &mut [u8]) -> Held {
     }
 }
 
-// Reads the input, and puts a record of kind 12 after its last whole one; the place of that record is given.
+// Reads the input; the end of its last whole record is given.
 fn read(input: &mut [u8]) -> u32
     ensures { λ r. ⌜ r ≤ 65536 ⌝ }
 {
     let n = at_most(io::read_full(0, input), 65536);
-    let last = n - n % 16;
-    bytes::set(input, last, 12);
-    bytes::set(input, last + 1, 0);
-    last as u32
+    (n - n % 16) as u32
 }
 
-// The records in turn, the last of which is that of kind 12.
-fn play(input: &[u8], last: u32, store: &mut [u8])
-    requires { ⌜ last ≤ 65536 ⌝ }
+// The records in turn, and at the end one of kind 12.
+fn play(input: &[u8], end: u32, store: &mut [u8])
+    requires { ⌜ end ≤ 65536 ⌝ }
 {
     let mut held = start();
     let mut side = nothing_lent();
     let mut place: u32 = 0;
-    while place <= last {
-        let w = words::words_at(input, place);
+    while place <= end {
+        let w = words::words_at(input, place, end);
         place += 16;
         side = changed(side, w);
         held = turn(held, side, w, store);
@@ -220,8 +224,8 @@ fn zero_store() -> [u8; 524288]
 }
 
 fn main() {
-    let mut input = [0u8; 65552];
+    let mut input = io::large_buffer();
     let mut store = zero_store();
-    let last = read(&mut input);
-    play(&input, last, &mut store);
+    let end = read(&mut input);
+    play(&input, end, &mut store);
 }

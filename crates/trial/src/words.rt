@@ -23,9 +23,17 @@ fn word_at(input: &[u8], place: u32, at: u8) -> u16 {
         + 256 * ground::wide(ground::byte_or_zero(input, second))
 }
 
-pub fn words_at(input: &[u8], place: u32) -> Words {
+fn kind_at(input: &[u8], place: u32, end: u32) -> u16 {
+    if place < end {
+        return word_at(input, place, 0);
+    }
+    12
+}
+
+// The record at a place; at the end of the input, one of kind 12.
+pub fn words_at(input: &[u8], place: u32, end: u32) -> Words {
     Words {
-        w0: word_at(input, place, 0),
+        w0: kind_at(input, place, end),
         w1: word_at(input, place, 2),
         w2: word_at(input, place, 4),
         w3: word_at(input, place, 6),

@@ -8,11 +8,11 @@ use mir.Syntax.{w8}
 use lib.ListN.{getD}
 use borrow.Author.Needs.{needs}
 
--- src/lib.rt:31:18
+-- src/lib.rt
 byte-or-zero-requires : tie.Need-byte-or-zero-requires
 byte-or-zero-requires c κs = search needs
 
--- src/lib.rt:28:1
+-- src/lib.rt
 returns : tie.Need-returns
 returns c = record {
   count = search needs;

@@ -10,38 +10,38 @@ use Rattle.card.proofs.targeted.Reads as targeted-reads
 use Rattle.maps.proofs.answers_at.Reads as answers-at-reads
 use Rattle.maps.proofs.stands_at.Reads as stands-at-reads
 
--- src/lib.rt:112:8
+-- src/lib.rt
 held-away-requires : tie.Need-held-away-requires
 held-away-requires c κs = search needs
 
--- src/lib.rt:113:9
+-- src/lib.rt
 returns : tie.Need-returns
 unfolding decided
 returns c =
     let w = sym (c .before .held-away .ensures) ∙ c .if1 .taken in
     simp w
 
--- src/lib.rt:116:8
+-- src/lib.rt
 answers-at-requires : tie.Need-answers-at-requires
 answers-at-requires c κs = search needs
 
--- src/lib.rt:117:22
+-- src/lib.rt
 stands-at-requires : tie.Need-stands-at-requires
 stands-at-requires c κs = search needs
 
--- src/lib.rt:118:29
+-- src/lib.rt
 enum-known-target : tie.Need-enum-known-target
 enum-known-target c = search needs
 
--- src/lib.rt:118:40
+-- src/lib.rt
 targeted-requires : tie.Need-targeted-requires
 targeted-requires c κs = search needs
 
--- src/lib.rt:119:31
+-- src/lib.rt
 enum-known-refusal : tie.Need-enum-known-refusal
 enum-known-refusal c = search needs
 
--- src/lib.rt:117:9
+-- src/lib.rt
 returns-2 : tie.Need-returns-2
 unfolding decided
 returns-2 c =
@@ -50,7 +50,7 @@ returns-2 c =
     let t = sym (c .before .before .before .before .stands-at .ensures) ∙ c .before .before .target .given .1 in
     simp (w, v, t, c .targeted .ensures)
 
--- src/lib.rt:117:9
+-- src/lib.rt
 returns-3 : tie.Need-returns-3
 unfolding decided
 returns-3 c =
@@ -59,7 +59,7 @@ returns-3 c =
     let t = sym (c .before .before .before .stands-at .ensures) ∙ c .before .refusal .given .1 in
     simp (w, v, t)
 
--- src/lib.rt:98:1
+-- src/lib.rt
 returns-4 : tie.Need-returns-4
 unfolding decided
 returns-4 c =

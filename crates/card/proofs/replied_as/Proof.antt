@@ -5,11 +5,11 @@ use Rattle.card.proofs.replied_as.Reads as reads
 use Rattle.card.proofs.replied_as.Lts as lts
 use Rattle.registers.proofs.State.line.Reads as line-reads
 
--- src/lib.rt:241:9
+-- src/lib.rt
 line-requires : tie.Need-line-requires
 line-requires c κs = search needs
 
--- src/lib.rt:235:1
+-- src/lib.rt
 returns : tie.Need-returns
 returns c = simp (c .line .ensures)
 

@@ -10,27 +10,27 @@ use Rattle.card.proofs.decide.Reads as decide-reads
 use Rattle.card.proofs.perform.Reads as perform-reads
 use Rattle.card.proofs.replied_as.Reads as replied-as-reads
 
--- src/lib.rt:274:9
+-- src/lib.rt
 decide-requires : tie.Need-decide-requires
 decide-requires c κs = search needs
 
--- src/lib.rt:275:16
+-- src/lib.rt
 perform-requires : tie.Need-perform-requires
 perform-requires c κs = search needs
 
--- src/lib.rt:275:5
+-- src/lib.rt
 replied-as-requires : tie.Need-replied-as-requires
 replied-as-requires c κs = search needs
 
--- src/lib.rt:259:1
+-- src/lib.rt
 same-length : tie.Need-same-length
 same-length c = search needs
 
--- src/lib.rt:259:1
+-- src/lib.rt
 same-length-2 : tie.Need-same-length-2
 same-length-2 c = search needs
 
--- src/lib.rt:259:1
+-- src/lib.rt
 returns : tie.Need-returns
 unfolding worked
 returns c = simp (c .replied-as .ensures) (ap (λ (x : Effect). stepped x) (simp (c .before .before .before .before .before .before .before .before .before .decide .ensures) at (c .before .before .before .before .before .perform .ensures)))

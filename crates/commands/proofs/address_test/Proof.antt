@@ -8,46 +8,46 @@ use Rattle.commands.proofs.address_test.Lts as lts
 use Rattle.geometry.proofs.Address.locate.Reads as locate-reads
 use Rattle.geometry.proofs.Geometry.total.Reads as total-reads
 
--- src/lib.rt:160:35
+-- src/lib.rt
 total-requires : tie.Need-total-requires
 total-requires c κs = search needs
 
--- src/lib.rt:160:11
+-- src/lib.rt
 locate-requires : tie.Need-locate-requires
 locate-requires c κs = search needs
 
--- src/lib.rt:161:23
+-- src/lib.rt
 enum-known-spot : tie.Need-enum-known-spot
 enum-known-spot c = search needs
 
--- src/lib.rt:162:51
+-- src/lib.rt
 enum-told : tie.Need-enum-told
 enum-told c = search needs
 
--- src/lib.rt:163:47
+-- src/lib.rt
 enum-told-2 : tie.Need-enum-told-2
 enum-told-2 c = search needs
 
--- src/lib.rt:164:42
+-- src/lib.rt
 enum-told-3 : tie.Need-enum-told-3
 enum-told-3 c = search needs
 
--- src/lib.rt:152:1
+-- src/lib.rt
 returns : tie.Need-returns
 unfolding addressTest
 returns c = let e = simp (c .before .before .before .before .total .ensures) at (sym (c .before .before .before .locate .ensures) ∙ c .before .spot .given .1) in simp e
 
--- src/lib.rt:152:1
+-- src/lib.rt
 returns-2 : tie.Need-returns-2
 unfolding addressTest
 returns-2 c = let e = simp (c .before .before .before .total .ensures) at (sym (c .before .before .locate .ensures) ∙ c .enum-told .given .1) in simp e
 
--- src/lib.rt:152:1
+-- src/lib.rt
 returns-3 : tie.Need-returns-3
 unfolding addressTest
 returns-3 c = let e = simp (c .before .before .before .total .ensures) at (sym (c .before .before .locate .ensures) ∙ c .enum-told2 .given .1) in simp e
 
--- src/lib.rt:152:1
+-- src/lib.rt
 returns-4 : tie.Need-returns-4
 unfolding addressTest
 returns-4 c = let e = simp (c .before .before .before .total .ensures) at (sym (c .before .before .locate .ensures) ∙ c .enum-told3 .given .1) in simp e

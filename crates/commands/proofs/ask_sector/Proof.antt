@@ -9,32 +9,32 @@ use Rattle.commands.proofs.address_test.Reads as address-test-reads
 use Rattle.commands.proofs.begun.Reads as begun-reads
 use Rattle.commands.proofs.ended.Reads as ended-reads
 
--- src/lib.rt:329:11
+-- src/lib.rt
 address-test-requires : tie.Need-address-test-requires
 address-test-requires c κs = search needs
 
--- src/lib.rt:330:42
+-- src/lib.rt
 enum-told : tie.Need-enum-told
 enum-told c = search needs
 
--- src/lib.rt:330:29
+-- src/lib.rt
 begun-requires : tie.Need-begun-requires
 begun-requires c κs = search needs
 
--- src/lib.rt:331:23
+-- src/lib.rt
 enum-known-end : tie.Need-enum-known-end
 enum-known-end c = search needs
 
--- src/lib.rt:331:31
+-- src/lib.rt
 ended-requires : tie.Need-ended-requires
 ended-requires c κs = search needs
 
--- src/lib.rt:326:1
+-- src/lib.rt
 returns : tie.Need-returns
 unfolding askSector
 returns c = let e = sym (c .before .before .before .address-test .ensures) ∙ c .before .enum-told .given .1 in simp (e, c .begun .ensures)
 
--- src/lib.rt:326:1
+-- src/lib.rt
 returns-2 : tie.Need-returns-2
 unfolding askSector
 returns-2 c = let e = sym (c .before .before .before .before .address-test .ensures) ∙ c .before .before .end .given .1 in simp (e, c .ended .ensures)

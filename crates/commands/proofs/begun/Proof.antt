@@ -6,15 +6,15 @@ use Rattle.commands.proofs.begun.Lts as lts
 use Rattle.commands.proofs.mark_begun.Reads as mark-begun-reads
 use Rattle.commands.proofs.phase_of.Reads as phase-of-reads
 
--- src/lib.rt:248:9
+-- src/lib.rt
 mark-begun-requires : tie.Need-mark-begun-requires
 mark-begun-requires c κs = search needs
 
--- src/lib.rt:252:9
+-- src/lib.rt
 phase-of-requires : tie.Need-phase-of-requires
 phase-of-requires c κs = search needs
 
--- src/lib.rt:240:1
+-- src/lib.rt
 returns : tie.Need-returns
 returns c = simp (c .before .before .mark-begun .ensures, c .phase-of .ensures)
 

@@ -7,19 +7,19 @@ use Rattle.commands.proofs.End.code.Reads as code-reads
 use Rattle.commands.proofs.End.error.Reads as error-reads
 use Rattle.commands.proofs.End.status.Reads as status-reads
 
--- src/lib.rt:136:9
+-- src/lib.rt
 status-requires : tie.Need-status-requires
 status-requires c κs = search needs
 
--- src/lib.rt:137:9
+-- src/lib.rt
 error-requires : tie.Need-error-requires
 error-requires c κs = search needs
 
--- src/lib.rt:138:9
+-- src/lib.rt
 code-requires : tie.Need-code-requires
 code-requires c κs = search needs
 
--- src/lib.rt:132:1
+-- src/lib.rt
 returns : tie.Need-returns
 returns c = simp (c .before .before .before .before .status .ensures, c .before .before .before .error .ensures, c .before .before .code .ensures)
 

@@ -7,31 +7,31 @@ use Rattle.commands.proofs.ended.Reads as ended-reads
 use Rattle.commands.proofs.less_one.Reads as less-one-reads
 use Rattle.commands.proofs.next_read.Reads as next-read-reads
 
--- src/lib.rt:320:38
+-- src/lib.rt
 enum-told : tie.Need-enum-told
 enum-told c = search needs
 
--- src/lib.rt:320:25
+-- src/lib.rt
 ended-requires : tie.Need-ended-requires
 ended-requires c κs = search needs
 
--- src/lib.rt:321:23
+-- src/lib.rt
 enum-known-load : tie.Need-enum-known-load
 enum-known-load c = search needs
 
--- src/lib.rt:321:49
+-- src/lib.rt
 less-one-requires : tie.Need-less-one-requires
 less-one-requires c κs = search needs
 
--- src/lib.rt:321:32
+-- src/lib.rt
 next-read-requires : tie.Need-next-read-requires
 next-read-requires c κs = search needs
 
--- src/lib.rt:316:1
+-- src/lib.rt
 returns : tie.Need-returns
 returns c = simp (c .before .enum-told .given .1, c .ended .ensures)
 
--- src/lib.rt:316:1
+-- src/lib.rt
 returns-2 : tie.Need-returns-2
 returns-2 c = simp (c .before .before .before .before .load .given .1) (simp (c .before .before .less-one .ensures) at (c .next-read .ensures))
 

@@ -9,24 +9,24 @@ use Rattle.commands.proofs.ask_sector.Reads as ask-sector-reads
 use Rattle.commands.proofs.ended.Reads as ended-reads
 use Rattle.commands.proofs.passed.Reads as passed-reads
 
--- src/lib.rt:340:9
+-- src/lib.rt
 passed-requires : tie.Need-passed-requires
 passed-requires c κs = search needs
 
--- src/lib.rt:342:9
+-- src/lib.rt
 ended-requires : tie.Need-ended-requires
 ended-requires c κs = search needs
 
--- src/lib.rt:342:9
+-- src/lib.rt
 returns : tie.Need-returns
 unfolding nextAsked
 returns c = simp (eq-eqb _ _ (c .before .if1 .taken), c .ended .ensures, c .before .before .passed .ensures)
 
--- src/lib.rt:344:5
+-- src/lib.rt
 ask-sector-requires : tie.Need-ask-sector-requires
 ask-sector-requires c κs = search needs
 
--- src/lib.rt:337:1
+-- src/lib.rt
 returns-2 : tie.Need-returns-2
 unfolding nextAsked
 returns-2 c = simp (ne-eqb _ _ (c .before .if1 .left), c .ask-sector .ensures, c .before .before .passed .ensures)

@@ -9,24 +9,24 @@ use Rattle.commands.proofs.ended.Reads as ended-reads
 use Rattle.commands.proofs.passed.Reads as passed-reads
 use Rattle.commands.proofs.read_sector.Reads as read-sector-reads
 
--- src/lib.rt:308:9
+-- src/lib.rt
 passed-requires : tie.Need-passed-requires
 passed-requires c κs = search needs
 
--- src/lib.rt:310:9
+-- src/lib.rt
 ended-requires : tie.Need-ended-requires
 ended-requires c κs = search needs
 
--- src/lib.rt:310:9
+-- src/lib.rt
 returns : tie.Need-returns
 unfolding nextRead
 returns c = simp (eq-eqb _ _ (c .before .if1 .taken), c .ended .ensures, c .before .before .passed .ensures)
 
--- src/lib.rt:312:5
+-- src/lib.rt
 read-sector-requires : tie.Need-read-sector-requires
 read-sector-requires c κs = search needs
 
--- src/lib.rt:305:1
+-- src/lib.rt
 returns-2 : tie.Need-returns-2
 unfolding nextRead
 returns-2 c = simp (ne-eqb _ _ (c .before .before .if1 .left)) (simp (c .before .before .before .passed .ensures) at (c .read-sector .ensures))

@@ -7,20 +7,20 @@ use Rattle.commands.proofs.passed.Reads as reads
 use Rattle.commands.proofs.passed.Lts as lts
 use Rattle.geometry.proofs.Address.next.Reads as next-reads
 
--- src/lib.rt:268:9
+-- src/lib.rt
 returns : tie.Need-returns
 unfolding passed
 returns c = simp (eq-eqb _ _ (c .if1 .taken))
 
--- src/lib.rt:272:9
+-- src/lib.rt
 next-requires : tie.Need-next-requires
 next-requires c κs = search needs
 
--- src/lib.rt:273:17
+-- src/lib.rt
 cast-count : tie.Need-cast-count
 cast-count c = search needs
 
--- src/lib.rt:260:1
+-- src/lib.rt
 returns-2 : tie.Need-returns-2
 unfolding passed
 returns-2 c = simp (ne-eqb _ _ (c .before .before .before .if1 .left), c .next .ensures)

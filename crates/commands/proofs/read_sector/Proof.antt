@@ -10,38 +10,38 @@ use Rattle.commands.proofs.ended.Reads as ended-reads
 use Rattle.commands.proofs.read_test.Reads as read-test-reads
 use Rattle.sectors.proofs.read_sector.Reads as read-sector-reads
 
--- src/lib.rt:293:11
+-- src/lib.rt
 read-test-requires : tie.Need-read-test-requires
 read-test-requires c κs = search needs
 
--- src/lib.rt:294:23
+-- src/lib.rt
 enum-known-spot : tie.Need-enum-known-spot
 enum-known-spot c = search needs
 
--- src/lib.rt:296:13
+-- src/lib.rt
 read-sector-requires : tie.Need-read-sector-requires
 read-sector-requires c κs = search needs
 
--- src/lib.rt:297:13
+-- src/lib.rt
 begun-requires : tie.Need-begun-requires
 begun-requires c κs = search needs
 
--- src/lib.rt:299:23
+-- src/lib.rt
 enum-known-end : tie.Need-enum-known-end
 enum-known-end c = search needs
 
--- src/lib.rt:299:31
+-- src/lib.rt
 ended-requires : tie.Need-ended-requires
 ended-requires c κs = search needs
 
--- src/lib.rt:290:1
+-- src/lib.rt
 returns : tie.Need-returns
 unfolding readSector
 returns c =
     let e = sym (c .before .before .before .before .before .before .read-test .ensures) ∙ c .before .before .before .before .spot .given .1 in
     simp (e, c .begun .ensures, c .before .read-sector .ensures)
 
--- src/lib.rt:290:1
+-- src/lib.rt
 returns-2 : tie.Need-returns-2
 unfolding readSector
 returns-2 c = let e = sym (c .before .before .before .before .read-test .ensures) ∙ c .before .before .end .given .1 in simp (e, c .ended .ensures)

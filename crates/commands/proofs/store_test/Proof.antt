@@ -9,23 +9,23 @@ use Rattle.commands.proofs.address_test.Reads as address-test-reads
 use Rattle.sectors.proofs.mark_at.Reads as mark-at-reads
 use Rattle.sectors.proofs.writable.Reads as writable-reads
 
--- src/lib.rt:188:11
+-- src/lib.rt
 address-test-requires : tie.Need-address-test-requires
 address-test-requires c κs = search needs
 
--- src/lib.rt:189:23
+-- src/lib.rt
 enum-known-spot : tie.Need-enum-known-spot
 enum-known-spot c = search needs
 
--- src/lib.rt:191:34
+-- src/lib.rt
 mark-at-requires : tie.Need-mark-at-requires
 mark-at-requires c κs = search needs
 
--- src/lib.rt:191:16
+-- src/lib.rt
 writable-requires : tie.Need-writable-requires
 writable-requires c κs = search needs
 
--- src/lib.rt:192:17
+-- src/lib.rt
 returns : tie.Need-returns
 unfolding storeTest
 returns c =
@@ -33,11 +33,11 @@ returns c =
     let w = simp (c .before .before .mark-at .ensures) at (sym (c .before .writable .ensures) ∙ c .if1 .taken) in
     simp (e, w)
 
--- src/lib.rt:196:23
+-- src/lib.rt
 enum-known-end : tie.Need-enum-known-end
 enum-known-end c = search needs
 
--- src/lib.rt:185:1
+-- src/lib.rt
 returns-2 : tie.Need-returns-2
 unfolding storeTest
 returns-2 c =
@@ -45,7 +45,7 @@ returns-2 c =
     let w = simp (c .before .before .mark-at .ensures) at (sym (c .before .writable .ensures) ∙ c .if1 .left) in
     simp (e, w)
 
--- src/lib.rt:185:1
+-- src/lib.rt
 returns-3 : tie.Need-returns-3
 unfolding storeTest
 returns-3 c = let e = sym (c .before .before .before .address-test .ensures) ∙ c .before .end .given .1 in simp e

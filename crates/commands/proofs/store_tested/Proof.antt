@@ -8,31 +8,31 @@ use Rattle.commands.proofs.store_tested.Lts as lts
 use Rattle.commands.proofs.store_test.Reads as store-test-reads
 use Rattle.sectors.proofs.store_sector.Reads as store-sector-reads
 
--- src/lib.rt:204:11
+-- src/lib.rt
 store-test-requires : tie.Need-store-test-requires
 store-test-requires c κs = search needs
 
--- src/lib.rt:205:23
+-- src/lib.rt
 enum-known-spot : tie.Need-enum-known-spot
 enum-known-spot c = search needs
 
--- src/lib.rt:207:13
+-- src/lib.rt
 store-sector-requires : tie.Need-store-sector-requires
 store-sector-requires c κs = search needs
 
--- src/lib.rt:210:23
+-- src/lib.rt
 enum-known-end : tie.Need-enum-known-end
 enum-known-end c = search needs
 
--- src/lib.rt:201:1
+-- src/lib.rt
 same-length : tie.Need-same-length
 same-length c = search needs
 
--- src/lib.rt:201:1
+-- src/lib.rt
 same-length-2 : tie.Need-same-length-2
 same-length-2 c = search needs
 
--- src/lib.rt:201:1
+-- src/lib.rt
 returns : tie.Need-returns
 unfolding sectorStored
 returns c =
@@ -40,11 +40,11 @@ returns c =
     let w = sym (c .before .before .before .before .store-sector .ensures) in
     simp (e, w)
 
--- src/lib.rt:201:1
+-- src/lib.rt
 same-length-3 : tie.Need-same-length-3
 same-length-3 c = search needs
 
--- src/lib.rt:201:1
+-- src/lib.rt
 returns-2 : tie.Need-returns-2
 unfolding sectorStored
 returns-2 c = let e = sym (c .before .before .before .store-test .ensures) ∙ c .before .end .given .1 in simp e

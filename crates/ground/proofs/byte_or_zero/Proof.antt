@@ -6,15 +6,15 @@ use Rattle.ground.proofs.byte_or_zero.Tie as tie
 use Rattle.ground.proofs.byte_or_zero.Reads as reads
 use Rattle.ground.proofs.byte_or_zero.Lts as lts
 
--- src/lib.rt:33:16
+-- src/lib.rt
 shared-slice-read-result : tie.Need-shared-slice-read-result
 shared-slice-read-result c = search needs
 
--- src/lib.rt:33:9
+-- src/lib.rt
 returns : tie.Need-returns
 returns c = search needs
 
--- src/lib.rt:29:1
+-- src/lib.rt
 returns-2 : tie.Need-returns-2
 returns-2 c = sym (List·getD-eq-default (c .before .args .bytes .now) 0 (c .if1 .left))
 

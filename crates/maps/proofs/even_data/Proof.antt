@@ -5,12 +5,12 @@ use Rattle.maps.proofs.even_data.Tie as tie
 use Rattle.maps.proofs.even_data.Reads as reads
 use Rattle.maps.proofs.even_data.Lts as lts
 
--- src/lib.rt:293:9
+-- src/lib.rt
 returns : tie.Need-returns
 unfolding evenData
 returns c = search tests
 
--- src/lib.rt:289:1
+-- src/lib.rt
 returns-2 : tie.Need-returns-2
 unfolding evenData
 returns-2 c = search tests

@@ -8,25 +8,25 @@ use Rattle.maps.proofs.option_at.Lts as lts
 use Rattle.maps.proofs.above_three.Reads as above-three-reads
 use Rattle.maps.proofs.misfits.Reads as misfits-reads
 
--- src/lib.rt:210:8
+-- src/lib.rt
 misfits-requires : tie.Need-misfits-requires
 misfits-requires c κs = search needs
 
--- src/lib.rt:211:9
+-- src/lib.rt
 returns : tie.Need-returns
 unfolding optionAt
 returns c = simp (sym (c .before .misfits .ensures) ∙ c .if1 .taken)
 
--- src/lib.rt:213:8
+-- src/lib.rt
 above-three-requires : tie.Need-above-three-requires
 above-three-requires c κs = search needs
 
--- src/lib.rt:214:9
+-- src/lib.rt
 returns-2 : tie.Need-returns-2
 unfolding optionAt
 returns-2 c = simp (sym (c .before .before .before .misfits .ensures) ∙ c .before .before .if1 .left, sym (c .before .above-three .ensures) ∙ c .if2 .taken)
 
--- src/lib.rt:207:1
+-- src/lib.rt
 returns-3 : tie.Need-returns-3
 unfolding optionAt
 returns-3 c = simp (sym (c .before .before .before .misfits .ensures) ∙ c .before .before .if1 .left, sym (c .before .above-three .ensures) ∙ c .if2 .left)

@@ -5,12 +5,12 @@ use Rattle.maps.proofs.within.Tie as tie
 use Rattle.maps.proofs.within.Reads as reads
 use Rattle.maps.proofs.within.Lts as lts
 
--- src/lib.rt:88:9
+-- src/lib.rt
 returns : tie.Need-returns
 unfolding within
 returns c = search tests
 
--- src/lib.rt:84:1
+-- src/lib.rt
 returns-2 : tie.Need-returns-2
 unfolding within
 returns-2 c = search tests

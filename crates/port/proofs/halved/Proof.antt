@@ -5,11 +5,11 @@ use Rattle.port.proofs.halved.Reads as reads
 use Rattle.port.proofs.halved.Lts as lts
 use Rattle.port.proofs.half_of.Reads as half-of-reads
 
--- src/lib.rt:104:9
+-- src/lib.rt
 half-of-requires : tie.Need-half-of-requires
 half-of-requires c κs = search needs
 
--- src/lib.rt:100:1
+-- src/lib.rt
 returns : tie.Need-returns
 returns c = simp (c .half-of .ensures)
 

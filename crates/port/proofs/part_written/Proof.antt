@@ -7,29 +7,29 @@ use Rattle.port.proofs.part_written.Lts as lts
 use Rattle.port.proofs.halved.Reads as halved-reads
 use Rattle.port.proofs.word_written.Reads as word-written-reads
 
--- src/lib.rt:295:9
+-- src/lib.rt
 word-written-requires : tie.Need-word-written-requires
 word-written-requires c κs = search needs
 
--- src/lib.rt:295:9
+-- src/lib.rt
 same-length : tie.Need-same-length
 same-length c = search needs
 
--- src/lib.rt:295:9
+-- src/lib.rt
 same-length-2 : tie.Need-same-length-2
 same-length-2 c = search needs
 
--- src/lib.rt:295:9
+-- src/lib.rt
 returns : tie.Need-returns
 unfolding wordWritten
 returns c =
     simp (c .before .before .before .before .before .before .before .if1 .taken) (c .before .before .before .before .word-written .ensures)
 
--- src/lib.rt:297:9
+-- src/lib.rt
 halved-requires : tie.Need-halved-requires
 halved-requires c κs = search needs
 
--- src/lib.rt:282:1
+-- src/lib.rt
 returns-2 : tie.Need-returns-2
 returns-2 c =
     simp (c .before .if1 .left, c .halved .ensures)

@@ -5,17 +5,17 @@ use Rattle.registers.proofs.at_rest.Tie as tie
 use Rattle.registers.proofs.at_rest.Reads as reads
 use Rattle.registers.proofs.at_rest.Lts as lts
 
--- src/lib.rt:98:9
+-- src/lib.rt
 returns : tie.Need-returns
 unfolding atRest
 returns c = search tests
 
--- src/lib.rt:101:9
+-- src/lib.rt
 returns-2 : tie.Need-returns-2
 unfolding atRest
 returns-2 c = search tests
 
--- src/lib.rt:94:1
+-- src/lib.rt
 returns-3 : tie.Need-returns-3
 unfolding atRest
 returns-3 c = search tests

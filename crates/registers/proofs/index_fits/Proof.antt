@@ -5,7 +5,7 @@ use Rattle.registers.proofs.index_fits.Tie as tie
 use Rattle.registers.proofs.index_fits.Reads as reads
 use Rattle.registers.proofs.index_fits.Lts as lts
 
--- src/lib.rt:79:1
+-- src/lib.rt
 returns : tie.Need-returns
 unfolding indexFits
 returns c = search tests

@@ -16,41 +16,41 @@ Inv-loop part₀ bytes i₀ part i = (i ≤ 512) × (length part ≡ 512) × (ta
 abbrev μ-loop : tie.MeasureT-loop
 μ-loop part₀ bytes i₀ part i = 512 - i
 
--- src/lib.rt:102:5
+-- src/lib.rt
 told-requires : tie.Need-told-requires Inv-loop μ-loop
 told-requires c κs = search needs
 
--- src/lib.rt:104:5
+-- src/lib.rt
 loop-holds : tie.Need-loop-holds Inv-loop μ-loop
 loop-holds c = search needs
 
--- src/lib.rt:105:19
+-- src/lib.rt
 element-copy-out-part : tie.Need-element-copy-out-part Inv-loop μ-loop
 element-copy-out-part c = search needs
 
--- src/lib.rt:105:9
+-- src/lib.rt
 slice-write-part : tie.Need-slice-write-part Inv-loop μ-loop
 slice-write-part c = search needs
 
--- src/lib.rt:106:9
+-- src/lib.rt
 add-i : tie.Need-add-i Inv-loop μ-loop
 add-i c = search needs
 
--- src/lib.rt:104:5
+-- src/lib.rt
 loop-less : tie.Need-loop-less Inv-loop μ-loop
 loop-less c = search needs
 
--- src/lib.rt:104:5
+-- src/lib.rt
 loop-again : tie.Need-loop-again Inv-loop μ-loop
 loop-again c =
     let i = c .before .before .loop in
     (search needs, search needs, copy-more (i .i) _ (i .part) (omega arith) (omega arith) (i .inv .2))
 
--- src/lib.rt:98:1
+-- src/lib.rt
 same-length : tie.Need-same-length Inv-loop μ-loop
 same-length c = search needs
 
--- src/lib.rt:98:1
+-- src/lib.rt
 returns : tie.Need-returns Inv-loop μ-loop
 returns c =
     let i = c .before .loop in

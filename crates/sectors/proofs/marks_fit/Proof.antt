@@ -16,36 +16,36 @@ Inv-loop marks i₀ i = (i ≤ length marks) × (marksFit (drop i marks) ≡ mar
 abbrev μ-loop : tie.MeasureT-loop
 μ-loop marks i₀ i = length marks - i
 
--- src/lib.rt:43:5
+-- src/lib.rt
 loop-holds : tie.Need-loop-holds Inv-loop μ-loop
 loop-holds c = search needs
 
--- src/lib.rt:44:16
+-- src/lib.rt
 shared-slice-read-if1 : tie.Need-shared-slice-read-if1 Inv-loop μ-loop
 shared-slice-read-if1 c = search needs
 
--- src/lib.rt:45:13
+-- src/lib.rt
 returns : tie.Need-returns Inv-loop μ-loop
 returns c =
     let l = c .before .before .before .loop in
     sym (fit-less _ _ (c .before .before .loop-test .taken) (c .if1 .taken)) ∙ l .inv .1
 
--- src/lib.rt:47:9
+-- src/lib.rt
 add-i : tie.Need-add-i Inv-loop μ-loop
 add-i c = search needs
 
--- src/lib.rt:43:5
+-- src/lib.rt
 loop-less : tie.Need-loop-less Inv-loop μ-loop
 loop-less c = search needs
 
--- src/lib.rt:43:5
+-- src/lib.rt
 loop-again : tie.Need-loop-again Inv-loop μ-loop
 loop-again c =
     let l = c .before .before .before .loop in
     let m = c .before .before .before .before .args .marks .now in
     (search needs, sym (fit-more m (l .i) (omega arith) (omega (arith, c .if1 .left))) ∙ l .inv .1)
 
--- src/lib.rt:39:1
+-- src/lib.rt
 returns-2 : tie.Need-returns-2 Inv-loop μ-loop
 returns-2 c = sym (fit-end _ _ (c .loop-test .left)) ∙ c .before .loop .inv .1
 

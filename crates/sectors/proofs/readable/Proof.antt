@@ -5,12 +5,12 @@ use Rattle.sectors.proofs.readable.Tie as tie
 use Rattle.sectors.proofs.readable.Reads as reads
 use Rattle.sectors.proofs.readable.Lts as lts
 
--- src/lib.rt:13:9
+-- src/lib.rt
 returns : tie.Need-returns
 unfolding readable
 returns c = search tests
 
--- src/lib.rt:9:1
+-- src/lib.rt
 returns-2 : tie.Need-returns-2
 unfolding readable
 returns-2 c = search tests

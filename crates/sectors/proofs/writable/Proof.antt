@@ -5,12 +5,12 @@ use Rattle.sectors.proofs.writable.Tie as tie
 use Rattle.sectors.proofs.writable.Reads as reads
 use Rattle.sectors.proofs.writable.Lts as lts
 
--- src/lib.rt:23:9
+-- src/lib.rt
 returns : tie.Need-returns
 unfolding writable
 returns c = search tests
 
--- src/lib.rt:19:1
+-- src/lib.rt
 returns-2 : tie.Need-returns-2
 unfolding writable
 returns-2 c = search tests

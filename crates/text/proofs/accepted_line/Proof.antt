@@ -11,35 +11,35 @@ use Rattle.text.proofs.four_text.Reads as four-text-reads
 use Rattle.text.proofs.hex_four.Reads as hex-four-reads
 use Rattle.text.proofs.letter.Reads as letter-reads
 
--- src/lib.rt:164:9
+-- src/lib.rt
 four-text-requires : tie.Need-four-text-requires
 four-text-requires c κs = search needs
 
--- src/lib.rt:165:9
+-- src/lib.rt
 letter-requires : tie.Need-letter-requires
 letter-requires c κs = search needs
 
--- src/lib.rt:166:9
+-- src/lib.rt
 byte-requires : tie.Need-byte-requires
 byte-requires c κs = search needs
 
--- src/lib.rt:167:9
+-- src/lib.rt
 byte-requires-2 : tie.Need-byte-requires-2
 byte-requires-2 c κs = search needs
 
--- src/lib.rt:168:9
+-- src/lib.rt
 hex-four-requires : tie.Need-hex-four-requires
 hex-four-requires c κs = search needs
 
--- src/lib.rt:169:5
+-- src/lib.rt
 byte-requires-3 : tie.Need-byte-requires-3
 byte-requires-3 c κs = search needs
 
--- src/lib.rt:160:1
+-- src/lib.rt
 same-length : tie.Need-same-length
 same-length c = search needs
 
--- src/lib.rt:160:1
+-- src/lib.rt
 returns : tie.Need-returns
 unfolding furtherDigits lastDigits
 returns c =

@@ -6,19 +6,19 @@ use Rattle.text.proofs.byte.Tie as tie
 use Rattle.text.proofs.byte.Reads as reads
 use Rattle.text.proofs.byte.Lts as lts
 
--- src/text.rt:62:5
+-- src/lib.rt
 slice-write-out : tie.Need-slice-write-out
 slice-write-out c = search needs
 
--- src/text.rt:63:5
+-- src/lib.rt
 add-result : tie.Need-add-result
 add-result c = search needs
 
--- src/text.rt:58:1
+-- src/lib.rt
 same-length : tie.Need-same-length
 same-length c = search needs
 
--- src/text.rt:58:1
+-- src/lib.rt
 returns : tie.Need-returns
 unfolding written
 returns c = record { bytes = refl; place = search needs }

@@ -11,23 +11,23 @@ use Rattle.text.proofs.decimal.Lts as lts
 use Rattle.text.proofs.digit_count.Reads as digit-count-reads
 use Rattle.text.proofs.last_digits.Reads as last-digits-reads
 
--- src/text.rt:42:9
+-- src/lib.rt
 digit-count-requires : tie.Need-digit-count-requires
 digit-count-requires c κs = search needs
 
--- src/text.rt:43:5
+-- src/lib.rt
 last-digits-requires : tie.Need-last-digits-requires
 last-digits-requires c κs = search needs
 
--- src/text.rt:44:5
+-- src/lib.rt
 add-result : tie.Need-add-result
 add-result c = search needs
 
--- src/text.rt:38:1
+-- src/lib.rt
 same-length : tie.Need-same-length
 same-length c = search needs
 
--- src/text.rt:38:1
+-- src/lib.rt
 returns : tie.Need-returns
 returns c =
     let a = c .before .before .before .before .before .before .args in

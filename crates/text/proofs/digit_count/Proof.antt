@@ -15,37 +15,37 @@ Inv-loop n left₀ room₀ left room = (room ≤ 19) × (furtherDigits room left
 abbrev μ-loop : tie.MeasureT-loop
 μ-loop n left₀ room₀ left room = room
 
--- src/text.rt:14:5
+-- src/lib.rt
 loop-holds : tie.Need-loop-holds Inv-loop μ-loop
 loop-holds c = search needs
 
--- src/text.rt:16:20
+-- src/lib.rt
 sub-result : tie.Need-sub-result Inv-loop μ-loop
 sub-result c = search needs
 
--- src/text.rt:16:13
+-- src/lib.rt
 returns : tie.Need-returns Inv-loop μ-loop
 returns c =
     let l = c .before .before .loop in
     let e = further-small (l .room) (l .left) (c .if1 .taken) in
     (omega arith, omega arith)
 
--- src/text.rt:19:9
+-- src/lib.rt
 sub-room : tie.Need-sub-room Inv-loop μ-loop
 sub-room c = search needs
 
--- src/text.rt:14:5
+-- src/lib.rt
 loop-less : tie.Need-loop-less Inv-loop μ-loop
 loop-less c = search needs
 
--- src/text.rt:14:5
+-- src/lib.rt
 loop-again : tie.Need-loop-again Inv-loop μ-loop
 loop-again c =
     let l = c .before .before .loop in
     let e = further-more (l .room) (l .left) (c .before .loop-test .taken) (c .if1 .left) in
     (omega arith, omega arith)
 
--- src/text.rt:9:1
+-- src/lib.rt
 returns-2 : tie.Need-returns-2 Inv-loop μ-loop
 returns-2 c =
     let l = c .before .loop in

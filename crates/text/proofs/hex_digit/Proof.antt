@@ -6,28 +6,28 @@ use Rattle.text.proofs.hex_digit.Tie as tie
 use Rattle.text.proofs.hex_digit.Reads as reads
 use Rattle.text.proofs.hex_digit.Lts as lts
 
--- src/text.rt:52:21
+-- src/lib.rt
 cast-result : tie.Need-cast-result
 cast-result c = search needs
 
--- src/text.rt:52:16
+-- src/lib.rt
 add-result : tie.Need-add-result
 add-result c = search needs
 
--- src/text.rt:52:9
+-- src/lib.rt
 returns : tie.Need-returns
 unfolding hexDigit
 returns c = search tests
 
--- src/text.rt:54:10
+-- src/lib.rt
 cast-result-2 : tie.Need-cast-result-2
 cast-result-2 c = search needs
 
--- src/text.rt:54:5
+-- src/lib.rt
 add-result-2 : tie.Need-add-result-2
 add-result-2 c = search needs
 
--- src/text.rt:47:1
+-- src/lib.rt
 returns-2 : tie.Need-returns-2
 unfolding hexDigit
 returns-2 c = search tests

@@ -10,43 +10,43 @@ use Rattle.text.proofs.hex_four.Lts as lts
 use Rattle.text.proofs.byte.Reads as byte-reads
 use Rattle.text.proofs.hex_digit.Reads as hex-digit-reads
 
--- src/text.rt:69:9
+-- src/lib.rt
 hex-digit-requires : tie.Need-hex-digit-requires
 hex-digit-requires c κs = search needs
 
--- src/text.rt:70:9
+-- src/lib.rt
 hex-digit-requires-2 : tie.Need-hex-digit-requires-2
 hex-digit-requires-2 c κs = search needs
 
--- src/text.rt:71:9
+-- src/lib.rt
 hex-digit-requires-3 : tie.Need-hex-digit-requires-3
 hex-digit-requires-3 c κs = search needs
 
--- src/text.rt:72:9
+-- src/lib.rt
 hex-digit-requires-4 : tie.Need-hex-digit-requires-4
 hex-digit-requires-4 c κs = search needs
 
--- src/text.rt:73:9
+-- src/lib.rt
 byte-requires : tie.Need-byte-requires
 byte-requires c κs = search needs
 
--- src/text.rt:74:9
+-- src/lib.rt
 byte-requires-2 : tie.Need-byte-requires-2
 byte-requires-2 c κs = search needs
 
--- src/text.rt:75:9
+-- src/lib.rt
 byte-requires-3 : tie.Need-byte-requires-3
 byte-requires-3 c κs = search needs
 
--- src/text.rt:76:5
+-- src/lib.rt
 byte-requires-4 : tie.Need-byte-requires-4
 byte-requires-4 c κs = search needs
 
--- src/text.rt:65:1
+-- src/lib.rt
 same-length : tie.Need-same-length
 same-length c = search needs
 
--- src/text.rt:65:1
+-- src/lib.rt
 returns : tie.Need-returns
 returns c =
     let p = wrote-then (c .before .before .before .before .before .before .before .before .before .before .before .before .before .before .byte .ensures) (wrote-then (c .before .before .before .before .before .before .before .before .before .before .byte2 .ensures) (wrote-then (c .before .before .before .before .before .before .byte3 .ensures) (c .before .before .byte4 .ensures))) in

@@ -18,45 +18,45 @@ Inv-loop out₀ at count n left₀ k₀ out left k = (at + k ≤ length out) × 
 abbrev μ-loop : tie.MeasureT-loop
 μ-loop out₀ at count n left₀ k₀ out left k = k
 
--- src/text.rt:31:5
+-- src/lib.rt
 loop-holds : tie.Need-loop-holds Inv-loop μ-loop
 loop-holds c = search needs
 
--- src/text.rt:32:9
+-- src/lib.rt
 sub-k : tie.Need-sub-k Inv-loop μ-loop
 sub-k c = search needs
 
--- src/text.rt:33:28
+-- src/lib.rt
 cast-out : tie.Need-cast-out Inv-loop μ-loop
 cast-out c = search needs
 
--- src/text.rt:33:23
+-- src/lib.rt
 add-out : tie.Need-add-out Inv-loop μ-loop
 add-out c = search needs
 
--- src/text.rt:33:13
+-- src/lib.rt
 add-out-2 : tie.Need-add-out-2 Inv-loop μ-loop
 add-out-2 c = search needs
 
--- src/text.rt:33:9
+-- src/lib.rt
 slice-write-out : tie.Need-slice-write-out Inv-loop μ-loop
 slice-write-out c = search needs
 
--- src/text.rt:31:5
+-- src/lib.rt
 loop-less : tie.Need-loop-less Inv-loop μ-loop
 loop-less c = search needs
 
--- src/text.rt:31:5
+-- src/lib.rt
 loop-again : tie.Need-loop-again Inv-loop μ-loop
 loop-again c =
     let l = c .before .loop in
     (simp length-set (omega arith), simp length-set (l .inv .1), sym (last-turn (l .k) (l .left) (c .before .before .args .at) (l .out) (c .loop-test .taken)) ∙ l .inv .2)
 
--- src/text.rt:25:1
+-- src/lib.rt
 same-length : tie.Need-same-length Inv-loop μ-loop
 same-length c = search needs
 
--- src/text.rt:25:1
+-- src/lib.rt
 returns : tie.Need-returns Inv-loop μ-loop
 returns c =
     let l = c .before .loop in

@@ -11,35 +11,35 @@ use Rattle.text.proofs.hex_four.Reads as hex-four-reads
 use Rattle.text.proofs.letter.Reads as letter-reads
 use Rattle.text.proofs.numeral.Reads as numeral-reads
 
--- src/text.rt:112:9
+-- src/lib.rt
 numeral-requires : tie.Need-numeral-requires
 numeral-requires c κs = search needs
 
--- src/text.rt:113:9
+-- src/lib.rt
 letter-requires : tie.Need-letter-requires
 letter-requires c κs = search needs
 
--- src/text.rt:114:9
+-- src/lib.rt
 decimal-requires : tie.Need-decimal-requires
 decimal-requires c κs = search needs
 
--- src/text.rt:115:9
+-- src/lib.rt
 byte-requires : tie.Need-byte-requires
 byte-requires c κs = search needs
 
--- src/text.rt:116:9
+-- src/lib.rt
 hex-four-requires : tie.Need-hex-four-requires
 hex-four-requires c κs = search needs
 
--- src/text.rt:117:5
+-- src/lib.rt
 byte-requires-2 : tie.Need-byte-requires-2
 byte-requires-2 c κs = search needs
 
--- src/text.rt:101:1
+-- src/lib.rt
 same-length : tie.Need-same-length
 same-length c = search needs
 
--- src/text.rt:101:1
+-- src/lib.rt
 returns : tie.Need-returns
 returns c =
     let p = wrote-then (c .before .before .before .before .before .before .before .before .before .before .before .before .before .before .before .before .before .before .before .before .before .before .numeral .ensures .0) (wrote-then (c .before .before .before .before .before .before .before .before .before .before .before .before .before .before .before .before .before .before .letter .ensures) (wrote-then (c .before .before .before .before .before .before .before .before .before .before .before .before .before .before .decimal .ensures .0) (wrote-then (c .before .before .before .before .before .before .before .before .before .before .byte .ensures) (wrote-then (c .before .before .before .before .before .before .hex-four .ensures) (c .before .before .byte2 .ensures))))) in

@@ -17,27 +17,27 @@ Inv-loop out₀ at text next₀ i₀ out next i = (i ≤ length text) × (length
 abbrev μ-loop : tie.MeasureT-loop
 μ-loop out₀ at text next₀ i₀ out next i = length text - i
 
--- src/text.rt:137:5
+-- src/lib.rt
 loop-holds : tie.Need-loop-holds Inv-loop μ-loop
 loop-holds c = search needs
 
--- src/text.rt:138:36
+-- src/lib.rt
 shared-slice-read-put-byte : tie.Need-shared-slice-read-put-byte Inv-loop μ-loop
 shared-slice-read-put-byte c = search needs
 
--- src/text.rt:138:9
+-- src/lib.rt
 put-byte-requires : tie.Need-put-byte-requires Inv-loop μ-loop
 put-byte-requires c κs = search needs
 
--- src/text.rt:139:9
+-- src/lib.rt
 add-i : tie.Need-add-i Inv-loop μ-loop
 add-i c = search needs
 
--- src/text.rt:137:5
+-- src/lib.rt
 loop-less : tie.Need-loop-less Inv-loop μ-loop
 loop-less c = search needs
 
--- src/text.rt:137:5
+-- src/lib.rt
 loop-again : tie.Need-loop-again Inv-loop μ-loop
 loop-again c =
     let l = c .before .before .before .before .before .before .loop in
@@ -45,11 +45,11 @@ loop-again c =
     let e = put-turn (l .i) t (output (l .out) (l .next)) (c .before .before .before .before .before .loop-test .taken) in
     (search needs, search needs, ap (λ (o : Output). put o (drop (l .i + 1) t)) (c .before .before .put-byte .ensures) ∙ sym e ∙ l .inv .2)
 
--- src/text.rt:132:1
+-- src/lib.rt
 same-length : tie.Need-same-length Inv-loop μ-loop
 same-length c = search needs
 
--- src/text.rt:132:1
+-- src/lib.rt
 returns : tie.Need-returns Inv-loop μ-loop
 returns c =
     let l = c .before .loop in

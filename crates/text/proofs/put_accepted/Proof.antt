@@ -14,31 +14,31 @@ use Rattle.text.proofs.accepted_line.Reads as accepted-line-reads
 use Rattle.text.proofs.put_line.Reads as put-line-reads
 use Rattle.text.proofs.roomy.Reads as roomy-reads
 
--- src/lib.rt:274:9
+-- src/lib.rt
 put-line-requires : tie.Need-put-line-requires
 put-line-requires c κs = search needs
 
--- src/lib.rt:274:9
+-- src/lib.rt
 same-length : tie.Need-same-length
 same-length c = search needs
 
--- src/lib.rt:274:9
+-- src/lib.rt
 returns : tie.Need-returns
 returns c = search needs
 
--- src/lib.rt:276:8
+-- src/lib.rt
 roomy-requires : tie.Need-roomy-requires
 roomy-requires c κs = search needs
 
--- src/lib.rt:277:9
+-- src/lib.rt
 accepted-line-requires : tie.Need-accepted-line-requires
 accepted-line-requires c κs = leb-true _ _ (sym (c .before .before .roomy .ensures) ∙ c .before .if2 .taken)
 
--- src/lib.rt:277:9
+-- src/lib.rt
 same-length-2 : tie.Need-same-length-2
 same-length-2 c = search needs
 
--- src/lib.rt:277:9
+-- src/lib.rt
 returns-2 : tie.Need-returns-2
 unfolding numeral
 returns-2 c =
@@ -47,15 +47,15 @@ returns-2 c =
     let w = c .before .before .accepted-line .ensures in
     simp (lt-ltb _ _ (c .before .before .before .before .before .before .if1 .left)) (put-wrote (w .0) (le-trans (w .1) h))
 
--- src/lib.rt:279:5
+-- src/lib.rt
 put-line-requires-2 : tie.Need-put-line-requires-2
 put-line-requires-2 c κs = search needs
 
--- src/lib.rt:270:1
+-- src/lib.rt
 same-length-3 : tie.Need-same-length-3
 same-length-3 c = search needs
 
--- src/lib.rt:270:1
+-- src/lib.rt
 returns-3 : tie.Need-returns-3
 returns-3 c = search needs
 

@@ -6,24 +6,24 @@ use Rattle.text.proofs.put_byte.Tie as tie
 use Rattle.text.proofs.put_byte.Reads as reads
 use Rattle.text.proofs.put_byte.Lts as lts
 
--- src/text.rt:125:9
+-- src/lib.rt
 slice-write-out : tie.Need-slice-write-out
 slice-write-out c = search needs
 
--- src/text.rt:126:16
+-- src/lib.rt
 add-result : tie.Need-add-result
 add-result c = search needs
 
--- src/text.rt:126:9
+-- src/lib.rt
 same-length : tie.Need-same-length
 same-length c = search needs
 
--- src/text.rt:126:9
+-- src/lib.rt
 returns : tie.Need-returns
 unfolding putByte
 returns c = simp (lt-ltb _ _ (c .if1 .taken))
 
--- src/text.rt:121:1
+-- src/lib.rt
 returns-2 : tie.Need-returns-2
 unfolding putByte
 returns-2 c = simp (le-ltb _ _ (c .if1 .left))

@@ -6,19 +6,19 @@ use Rattle.text.proofs.put_header.Reads as reads
 use Rattle.text.proofs.put_header.Lts as lts
 use Rattle.text.proofs.put.Reads as put-reads
 
--- src/text.rt:188:18
+-- src/lib.rt
 slice-aggregate-put : tie.Need-slice-aggregate-put
 slice-aggregate-put c = search needs
 
--- src/text.rt:188:5
+-- src/lib.rt
 put-requires : tie.Need-put-requires
 put-requires c κs = search needs
 
--- src/text.rt:185:1
+-- src/lib.rt
 same-length : tie.Need-same-length
 same-length c = search needs
 
--- src/text.rt:185:1
+-- src/lib.rt
 returns : tie.Need-returns
 unfolding header
 returns c = c .before .before .put .ensures

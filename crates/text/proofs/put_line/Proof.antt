@@ -17,19 +17,19 @@ use Rattle.text.proofs.line.Reads as line-reads
 use Rattle.text.proofs.put.Reads as put-reads
 use Rattle.text.proofs.roomy.Reads as roomy-reads
 
--- src/text.rt:167:8
+-- src/lib.rt
 roomy-requires : tie.Need-roomy-requires
 roomy-requires c κs = search needs
 
--- src/text.rt:168:9
+-- src/lib.rt
 line-requires : tie.Need-line-requires
 line-requires c κs = leb-true _ _ (sym (c .before .before .roomy .ensures) ∙ c .before .if1 .taken)
 
--- src/text.rt:168:9
+-- src/lib.rt
 same-length : tie.Need-same-length
 same-length c = search needs
 
--- src/text.rt:168:9
+-- src/lib.rt
 returns : tie.Need-returns
 returns c =
     let a = c .before .before .before .before .before .before .before .args in
@@ -37,33 +37,33 @@ returns c =
     let w = c .before .before .line .ensures in
     put-wrote (w .0) (le-trans (w .1) h)
 
--- src/text.rt:171:21
+-- src/lib.rt
 slice-aggregate-line : tie.Need-slice-aggregate-line
 slice-aggregate-line c = search needs
 
--- src/text.rt:171:9
+-- src/lib.rt
 line-requires-2 : tie.Need-line-requires-2
 line-requires-2 c κs = search needs
 
--- src/text.rt:172:18
+-- src/lib.rt
 array-share-prefix-text : tie.Need-array-share-prefix-text
 array-share-prefix-text c = search needs
 
--- src/text.rt:172:18
+-- src/lib.rt
 slice-aggregate-put : tie.Need-slice-aggregate-put
 slice-aggregate-put c =
     let w = c .before .before .before .line2 in
     sym (length-take-le (w .result) (w .last .0) (rw (w .kept .0) (w .ensures .1)))
 
--- src/text.rt:172:5
+-- src/lib.rt
 put-requires : tie.Need-put-requires
 put-requires c κs = search needs
 
--- src/text.rt:157:1
+-- src/lib.rt
 same-length-2 : tie.Need-same-length-2
 same-length-2 c = search needs
 
--- src/text.rt:157:1
+-- src/lib.rt
 returns-2 : tie.Need-returns-2
 returns-2 c =
     let w = c .before .before .before .before .before .before .line2 .ensures .0 in

@@ -13,27 +13,27 @@ use Rattle.text.proofs.byte.Reads as byte-reads
 use Rattle.text.proofs.decimal.Reads as decimal-reads
 use Rattle.text.proofs.put.Reads as put-reads
 
--- src/text.rt:180:32
+-- src/lib.rt
 slice-aggregate-decimal : tie.Need-slice-aggregate-decimal
 slice-aggregate-decimal c = search needs
 
--- src/text.rt:180:9
+-- src/lib.rt
 decimal-requires : tie.Need-decimal-requires
 decimal-requires c κs = search needs
 
--- src/text.rt:181:21
+-- src/lib.rt
 slice-aggregate-byte : tie.Need-slice-aggregate-byte
 slice-aggregate-byte c = search needs
 
--- src/text.rt:181:9
+-- src/lib.rt
 byte-requires : tie.Need-byte-requires
 byte-requires c κs = search needs
 
--- src/text.rt:182:18
+-- src/lib.rt
 array-share-prefix-text : tie.Need-array-share-prefix-text
 array-share-prefix-text c = search needs
 
--- src/text.rt:182:18
+-- src/lib.rt
 slice-aggregate-put : tie.Need-slice-aggregate-put
 slice-aggregate-put c =
     let w = c .before .before .before .byte in
@@ -42,15 +42,15 @@ slice-aggregate-put c =
     let h : w .result ≤ 64 = omega (arith, d .1) in
     sym (length-take-le (w .result) (w .last .0) (rw (w .kept .0, c .before .before .before .before .before .before .decimal .kept .0) h))
 
--- src/text.rt:182:5
+-- src/lib.rt
 put-requires : tie.Need-put-requires
 put-requires c κs = search needs
 
--- src/text.rt:176:1
+-- src/lib.rt
 same-length : tie.Need-same-length
 same-length c = search needs
 
--- src/text.rt:176:1
+-- src/lib.rt
 returns : tie.Need-returns
 returns c =
     let d = c .before .before .before .before .before .before .before .before .before .decimal .ensures in

@@ -11,23 +11,23 @@ use Rattle.text.proofs.put_unopened.Lts as lts
 use Rattle.text.proofs.put.Reads as put-reads
 use Rattle.text.proofs.put_number.Reads as put-number-reads
 
--- src/text.rt:201:29
+-- src/lib.rt
 slice-aggregate-put : tie.Need-slice-aggregate-put
 slice-aggregate-put c = search needs
 
--- src/text.rt:201:9
+-- src/lib.rt
 put-requires : tie.Need-put-requires
 put-requires c κs = search needs
 
--- src/text.rt:202:5
+-- src/lib.rt
 put-number-requires : tie.Need-put-number-requires
 put-number-requires c κs = search needs
 
--- src/text.rt:198:1
+-- src/lib.rt
 same-length : tie.Need-same-length
 same-length c = search needs
 
--- src/text.rt:198:1
+-- src/lib.rt
 returns : tie.Need-returns
 returns c =
     c .before .before .put-number .ensures ∙ ap (λ (o : Output). put o (decimal (c .before .before .before .before .before .before .before .before .before .before .args .number) ++ (newline ∷ []))) (c .before .before .before .before .before .before .put .ensures) ∙ sym (put-then _ _ _)

@@ -6,15 +6,15 @@ use Rattle.text.proofs.roomy.Tie as tie
 use Rattle.text.proofs.roomy.Reads as reads
 use Rattle.text.proofs.roomy.Lts as lts
 
--- src/text.rt:148:9
+-- src/lib.rt
 returns : tie.Need-returns
 returns c = simp (lt-leb (c .before .args .at + 64) (c .before .args .size) (omega arith))
 
--- src/text.rt:151:9
+-- src/lib.rt
 returns-2 : tie.Need-returns-2
 returns-2 c = simp (lt-leb (c .before .before .args .at + 64) (c .before .before .args .size) (omega arith))
 
--- src/text.rt:144:1
+-- src/lib.rt
 returns-3 : tie.Need-returns-3
 returns-3 c = simp (le-leb (c .before .before .args .at + 64) (c .before .before .args .size) (omega arith))
 

@@ -9,11 +9,11 @@ use Rattle.card.proofs.Card.open.Reads as reads
 use Rattle.card.proofs.Card.open.Lts as lts
 use Rattle.card.proofs.opening.open_reply.Reads as open-reply-reads
 
--- src/opening.rt:144:13
+-- src/opening.rt
 open-reply-requires : tie.Need-open-reply-requires
 open-reply-requires c κs = search needs
 
--- src/opening.rt:127:5
+-- src/opening.rt
 returns : tie.Need-returns
 unfolding zeros
 returns c =

@@ -12,57 +12,57 @@ use Rattle.card.proofs.refuse.Reads as refuse-reads
 use Rattle.registers.proofs.Core.well_made.Reads as well-made-reads
 use Rattle.registers.proofs.Core.write_option.Reads as write-option-reads
 
--- src/doors.rt:28:9
+-- src/doors.rt
 well-made-requires : tie.Need-well-made-requires
 well-made-requires c κs = search needs
 
--- src/doors.rt:29:9
+-- src/doors.rt
 refuse-requires : tie.Need-refuse-requires
 refuse-requires c κs = search needs
 
--- src/doors.rt:29:9
+-- src/doors.rt
 returns : tie.Need-returns
 unfolding optionAnswered
 returns c =
     let w = sym (c .before .before .well-made .ensures) ∙ no _ (c .before .if1 .taken) in simp (w, c .refuse .ensures)
 
--- src/doors.rt:32:46
+-- src/doors.rt
 enum-told : tie.Need-enum-told
 enum-told c = search needs
 
--- src/doors.rt:32:26
+-- src/doors.rt
 refuse-requires-2 : tie.Need-refuse-requires-2
 refuse-requires-2 c κs = search needs
 
--- src/doors.rt:34:25
+-- src/doors.rt
 enum-told-2 : tie.Need-enum-told-2
 enum-told-2 c = search needs
 
--- src/doors.rt:36:17
+-- src/doors.rt
 refuse-requires-3 : tie.Need-refuse-requires-3
 refuse-requires-3 c κs = search needs
 
--- src/doors.rt:36:17
+-- src/doors.rt
 returns-2 : tie.Need-returns-2
 unfolding optionAnswered
 returns-2 c =
     let w = sym (c .before .before .before .before .before .well-made .ensures) ∙ yes _ (c .before .before .before .before .if1 .left) in simp (w, c .before .before .enum-told2 .given .1, lt-leb _ _ (c .before .if2 .taken), c .refuse3 .ensures)
 
--- src/doors.rt:38:20
+-- src/doors.rt
 write-option-requires : tie.Need-write-option-requires
 write-option-requires c κs = search needs
 
--- src/doors.rt:38:13
+-- src/doors.rt
 accept-requires : tie.Need-accept-requires
 accept-requires c κs = search needs
 
--- src/doors.rt:22:1
+-- src/doors.rt
 returns-3 : tie.Need-returns-3
 unfolding optionAnswered
 returns-3 c =
     let w = sym (c .before .before .before .before .well-made .ensures) ∙ yes _ (c .before .before .before .if1 .left) in simp (w, c .before .enum-told .given .1, c .refuse2 .ensures)
 
--- src/doors.rt:22:1
+-- src/doors.rt
 returns-4 : tie.Need-returns-4
 unfolding optionAnswered
 returns-4 c =

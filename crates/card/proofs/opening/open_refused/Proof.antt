@@ -5,11 +5,11 @@ use Rattle.card.proofs.opening.open_refused.Reads as reads
 use Rattle.card.proofs.opening.open_refused.Lts as lts
 use Rattle.card.proofs.opening.zero_state.Reads as zero-state-reads
 
--- src/opening.rt:69:9
+-- src/opening.rt
 zero-state-requires : tie.Need-zero-state-requires
 zero-state-requires c κs = search needs
 
--- src/opening.rt:66:1
+-- src/opening.rt
 returns : tie.Need-returns
 returns c =
     simp (c .zero-state .ensures)

@@ -14,49 +14,49 @@ use Rattle.geometry.proofs.Geometry.fits.Reads as fits-reads
 use Rattle.geometry.proofs.Geometry.total.Reads as total-reads
 use Rattle.sectors.proofs.marks_fit.Reads as marks-fit-reads
 
--- src/opening.rt:118:13
+-- src/opening.rt
 fits-requires : tie.Need-fits-requires
 fits-requires c κs = search needs
 
--- src/opening.rt:119:13
+-- src/opening.rt
 open-refused-requires : tie.Need-open-refused-requires
 open-refused-requires c κs = search needs
 
--- src/opening.rt:119:13
+-- src/opening.rt
 returns : tie.Need-returns
 unfolding opened
 returns c =
     let w = sym (c .before .before .fits2 .ensures) ∙ no _ (c .before .if1 .taken) in
     simp (w, c .open-refused .ensures)
 
--- src/opening.rt:122:13
+-- src/opening.rt
 open-refused-requires-2 : tie.Need-open-refused-requires-2
 open-refused-requires-2 c κs = search needs
 
--- src/opening.rt:122:13
+-- src/opening.rt
 returns-2 : tie.Need-returns-2
 unfolding opened
 returns-2 c =
     let w = sym (c .before .before .before .fits2 .ensures) ∙ yes _ (c .before .before .if1 .left) in
     simp (w, lt-leb _ _ (c .before .if2 .taken), c .open-refused2 .ensures)
 
--- src/opening.rt:124:21
+-- src/opening.rt
 total-requires : tie.Need-total-requires
 total-requires c κs = search needs
 
--- src/opening.rt:124:21
+-- src/opening.rt
 cast-total : tie.Need-cast-total
 cast-total c = search needs
 
--- src/opening.rt:125:27
+-- src/opening.rt
 mul-if3 : tie.Need-mul-if3
 mul-if3 c = search needs
 
--- src/opening.rt:126:13
+-- src/opening.rt
 open-refused-requires-3 : tie.Need-open-refused-requires-3
 open-refused-requires-3 c κs = search needs
 
--- src/opening.rt:126:13
+-- src/opening.rt
 returns-3 : tie.Need-returns-3
 unfolding opened
 returns-3 c =
@@ -64,11 +64,11 @@ returns-3 c =
     let n = simp (c .before .before .total .ensures) at (c .before .if3 .taken) in
     simp (w, le-leb _ _ (c .before .before .before .if2 .left), ne-eqb _ _ n, c .open-refused3 .ensures)
 
--- src/opening.rt:129:13
+-- src/opening.rt
 open-refused-requires-4 : tie.Need-open-refused-requires-4
 open-refused-requires-4 c κs = search needs
 
--- src/opening.rt:129:13
+-- src/opening.rt
 returns-4 : tie.Need-returns-4
 unfolding opened
 returns-4 c =
@@ -77,11 +77,11 @@ returns-4 c =
     let n = simp (c .before .before .before .total .ensures) at (c .before .if4 .taken) in
     simp (w, le-leb _ _ (c .before .before .before .before .if2 .left), eq-eqb _ _ s, ne-eqb _ _ n, c .open-refused4 .ensures)
 
--- src/opening.rt:132:13
+-- src/opening.rt
 open-refused-requires-5 : tie.Need-open-refused-requires-5
 open-refused-requires-5 c κs = search needs
 
--- src/opening.rt:132:13
+-- src/opening.rt
 returns-5 : tie.Need-returns-5
 unfolding opened
 returns-5 c =
@@ -90,15 +90,15 @@ returns-5 c =
     let n = simp (c .before .before .before .before .total .ensures) at (c .before .before .if4 .left) in
     simp (w, le-leb _ _ (c .before .before .before .before .before .if2 .left), eq-eqb _ _ s, eq-eqb _ _ n, ne-eqb _ _ (c .before .if5 .taken), c .open-refused5 .ensures)
 
--- src/opening.rt:134:13
+-- src/opening.rt
 marks-fit-requires : tie.Need-marks-fit-requires
 marks-fit-requires c κs = search needs
 
--- src/opening.rt:135:13
+-- src/opening.rt
 open-refused-requires-6 : tie.Need-open-refused-requires-6
 open-refused-requires-6 c κs = search needs
 
--- src/opening.rt:135:13
+-- src/opening.rt
 returns-6 : tie.Need-returns-6
 unfolding opened
 returns-6 c =
@@ -108,15 +108,15 @@ returns-6 c =
     let m = sym (c .before .before .marks-fit .ensures) ∙ no _ (c .before .if6 .taken) in
     simp (w, le-leb _ _ (c .before .before .before .before .before .before .before .if2 .left), eq-eqb _ _ s, eq-eqb _ _ n, eq-eqb _ _ (c .before .before .before .if5 .left), m, c .open-refused6 .ensures)
 
--- src/opening.rt:137:38
+-- src/opening.rt
 mode-of-requires : tie.Need-mode-of-requires
 mode-of-requires c κs = search needs
 
--- src/opening.rt:137:13
+-- src/opening.rt
 powered-requires : tie.Need-powered-requires
 powered-requires c κs = search needs
 
--- src/opening.rt:102:5
+-- src/opening.rt
 returns-7 : tie.Need-returns-7
 unfolding opened
 returns-7 c =

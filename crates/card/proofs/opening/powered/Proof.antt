@@ -5,11 +5,11 @@ use Rattle.card.proofs.opening.powered.Reads as reads
 use Rattle.card.proofs.opening.powered.Lts as lts
 use Rattle.registers.proofs.Made.power_on.Reads as power-on-reads
 
--- src/opening.rt:87:9
+-- src/opening.rt
 power-on-requires : tie.Need-power-on-requires
 power-on-requires c κs = search needs
 
--- src/opening.rt:80:1
+-- src/opening.rt
 returns : tie.Need-returns
 returns c =
     simp (c .power-on .ensures)

@@ -7,23 +7,23 @@ use Rattle.commands.proofs.table.command_given.Lts as lts
 use Rattle.commands.proofs.table.command_of.Reads as command-of-reads
 use Rattle.commands.proofs.table.obey.Reads as obey-reads
 
--- src/table.rt:225:9
+-- src/table.rt
 command-of-requires : tie.Need-command-of-requires
 command-of-requires c κs = search needs
 
--- src/table.rt:226:5
+-- src/table.rt
 obey-requires : tie.Need-obey-requires
 obey-requires c κs = search needs
 
--- src/table.rt:214:1
+-- src/table.rt
 same-length : tie.Need-same-length
 same-length c = search needs
 
--- src/table.rt:214:1
+-- src/table.rt
 same-length-2 : tie.Need-same-length-2
 same-length-2 c = search needs
 
--- src/table.rt:214:1
+-- src/table.rt
 returns : tie.Need-returns
 unfolding commandGiven
 returns c = simp (c .before .before .before .before .before .before .before .before .command-of .ensures) at (c .before .before .before .before .obey .ensures)

@@ -8,23 +8,23 @@ use Rattle.commands.proofs.table.sought_end.Reads as sought-end-reads
 use Rattle.geometry.proofs.Address.seek.Reads as seek-reads
 use Rattle.geometry.proofs.Geometry.total.Reads as total-reads
 
--- src/table.rt:168:40
+-- src/table.rt
 total-requires : tie.Need-total-requires
 total-requires c κs = search needs
 
--- src/table.rt:168:9
+-- src/table.rt
 seek-requires : tie.Need-seek-requires
 seek-requires c κs = search needs
 
--- src/table.rt:169:25
+-- src/table.rt
 sought-end-requires : tie.Need-sought-end-requires
 sought-end-requires c κs = search needs
 
--- src/table.rt:169:5
+-- src/table.rt
 ended-requires : tie.Need-ended-requires
 ended-requires c κs = search needs
 
--- src/table.rt:160:1
+-- src/table.rt
 returns : tie.Need-returns
 returns c = simp (c .ended .ensures, c .before .sought-end .ensures, c .before .before .seek .ensures, c .before .before .before .total .ensures)
 

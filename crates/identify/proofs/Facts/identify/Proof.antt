@@ -19,31 +19,31 @@ Inv-loop self buffer₀ i₀ buffer i = (i ≤ 512) × (length buffer ≡ 512) �
 abbrev μ-loop : tie.MeasureT-loop
 μ-loop self buffer₀ i₀ buffer i = 512 - i
 
--- src/lib.rt:146:9
+-- src/lib.rt
 told-requires : tie.Need-told-requires Inv-loop μ-loop
 told-requires c κs = search needs
 
--- src/lib.rt:148:9
+-- src/lib.rt
 loop-holds : tie.Need-loop-holds Inv-loop μ-loop
 loop-holds c = search needs
 
--- src/lib.rt:149:25
+-- src/lib.rt
 byte-requires : tie.Need-byte-requires Inv-loop μ-loop
 byte-requires c κs = search needs
 
--- src/lib.rt:149:13
+-- src/lib.rt
 element-write-buffer : tie.Need-element-write-buffer Inv-loop μ-loop
 element-write-buffer c = search needs
 
--- src/lib.rt:150:13
+-- src/lib.rt
 add-i : tie.Need-add-i Inv-loop μ-loop
 add-i c = search needs
 
--- src/lib.rt:148:9
+-- src/lib.rt
 loop-less : tie.Need-loop-less Inv-loop μ-loop
 loop-less c = search needs
 
--- src/lib.rt:148:9
+-- src/lib.rt
 loop-again : tie.Need-loop-again Inv-loop μ-loop
 loop-again c =
     let l = c .before .before .loop in
@@ -52,7 +52,7 @@ loop-again c =
     let h : l .i < 512 = omega arith in
     (search needs, search needs, rw (c .byte .ensures, ← identify-at f (l .i) h) (copy-more (l .i) (identifyBytes f) (l .buffer) (omega arith) (omega arith) (l .inv .2)))
 
--- src/lib.rt:143:5
+-- src/lib.rt
 returns : tie.Need-returns Inv-loop μ-loop
 returns c =
     let l = c .before .loop in

@@ -18,26 +18,26 @@ use Rattle.registers.proofs.index_fits.Reads as index-fits-reads
 use Rattle.registers.proofs.sreset_fits.Reads as sreset-fits-reads
 use Rattle.registers.proofs.status_fits.Reads as status-fits-reads
 
--- src/lib.rt:244:13
+-- src/lib.rt
 fits-requires : tie.Need-fits-requires
 fits-requires c κs = search needs
 
--- src/lib.rt:245:13
+-- src/lib.rt
 returns : tie.Need-returns
 unfolding wellMade every
 returns c =
     let w1 = sym (c .before .fits2 .ensures) ∙ no _ (c .if1 .taken) in
     simp (w1)
 
--- src/lib.rt:247:33
+-- src/lib.rt
 total-requires : tie.Need-total-requires
 total-requires c κs = search needs
 
--- src/lib.rt:247:13
+-- src/lib.rt
 current-for-requires : tie.Need-current-for-requires
 current-for-requires c κs = search needs
 
--- src/lib.rt:248:13
+-- src/lib.rt
 returns-2 : tie.Need-returns-2
 unfolding wellMade every
 returns-2 c =
@@ -45,11 +45,11 @@ returns-2 c =
     let w2 = sym (simp (c .before .before .total .ensures) at (c .before .current-for .ensures)) ∙ no _ (c .if2 .taken) in
     simp (w1, w2)
 
--- src/lib.rt:250:13
+-- src/lib.rt
 index-fits-requires : tie.Need-index-fits-requires
 index-fits-requires c κs = search needs
 
--- src/lib.rt:251:13
+-- src/lib.rt
 returns-3 : tie.Need-returns-3
 unfolding wellMade every
 returns-3 c =
@@ -58,11 +58,11 @@ returns-3 c =
     let w3 = sym (c .before .index-fits .ensures) ∙ no _ (c .if3 .taken) in
     simp (w1, w2, w3)
 
--- src/lib.rt:253:13
+-- src/lib.rt
 sreset-fits-requires : tie.Need-sreset-fits-requires
 sreset-fits-requires c κs = search needs
 
--- src/lib.rt:254:13
+-- src/lib.rt
 returns-4 : tie.Need-returns-4
 unfolding wellMade every
 returns-4 c =
@@ -72,11 +72,11 @@ returns-4 c =
     let w4 = sym (c .before .sreset-fits .ensures) ∙ no _ (c .if4 .taken) in
     simp (w1, w2, w3, w4)
 
--- src/lib.rt:256:13
+-- src/lib.rt
 status-fits-requires : tie.Need-status-fits-requires
 status-fits-requires c κs = search needs
 
--- src/lib.rt:257:13
+-- src/lib.rt
 returns-5 : tie.Need-returns-5
 unfolding wellMade every
 returns-5 c =
@@ -87,15 +87,15 @@ returns-5 c =
     let w5 = sym (c .before .status-fits .ensures) ∙ no _ (c .if5 .taken) in
     simp (w1, w2, w3, w4, w5)
 
--- src/lib.rt:259:29
+-- src/lib.rt
 held-in-requires : tie.Need-held-in-requires
 held-in-requires c κs = search needs
 
--- src/lib.rt:259:13
+-- src/lib.rt
 hold-fits-requires : tie.Need-hold-fits-requires
 hold-fits-requires c κs = search needs
 
--- src/lib.rt:260:13
+-- src/lib.rt
 returns-6 : tie.Need-returns-6
 unfolding wellMade every
 returns-6 c =
@@ -107,11 +107,11 @@ returns-6 c =
     let w6 = sym (simp (c .before .before .held-in .ensures) at (c .before .hold-fits .ensures)) ∙ no _ (c .if6 .taken) in
     simp (w1, w2, w3, w4, w5, w6)
 
--- src/lib.rt:262:13
+-- src/lib.rt
 words-fit-requires : tie.Need-words-fit-requires
 words-fit-requires c κs = search needs
 
--- src/lib.rt:263:13
+-- src/lib.rt
 returns-7 : tie.Need-returns-7
 unfolding wellMade every
 returns-7 c =
@@ -124,11 +124,11 @@ returns-7 c =
     let w7 = sym (c .before .words-fit .ensures) ∙ no _ (c .if7 .taken) in
     simp (w1, w2, w3, w4, w5, w6, w7)
 
--- src/lib.rt:265:13
+-- src/lib.rt
 run-fits-requires : tie.Need-run-fits-requires
 run-fits-requires c κs = search needs
 
--- src/lib.rt:266:13
+-- src/lib.rt
 returns-8 : tie.Need-returns-8
 unfolding wellMade every
 returns-8 c =
@@ -142,7 +142,7 @@ returns-8 c =
     let w8 = sym (c .before .run-fits .ensures) ∙ no _ (c .if8 .taken) in
     simp (w1, w2, w3, w4, w5, w6, w7, w8)
 
--- src/lib.rt:234:5
+-- src/lib.rt
 returns-9 : tie.Need-returns-9
 unfolding wellMade every
 returns-9 c =

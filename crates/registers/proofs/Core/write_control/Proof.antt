@@ -6,15 +6,15 @@ use Rattle.registers.proofs.Core.write_control.Lts as lts
 use Rattle.registers.proofs.Core.control_turned.Reads as control-turned-reads
 use Rattle.registers.proofs.resets.turn_of.Reads as turn-of-reads
 
--- src/resets.rt:178:13
+-- src/resets.rt
 turn-of-requires : tie.Need-turn-of-requires
 turn-of-requires c κs = search needs
 
--- src/resets.rt:179:9
+-- src/resets.rt
 control-turned-requires : tie.Need-control-turned-requires
 control-turned-requires c κs = search needs
 
--- src/resets.rt:173:5
+-- src/resets.rt
 returns : tie.Need-returns
 returns c = simp (c .before .turn-of .ensures) at (c .control-turned .ensures)
 

@@ -6,15 +6,15 @@ use Rattle.registers.proofs.Core.write_option.Lts as lts
 use Rattle.registers.proofs.Core.option_turned.Reads as option-turned-reads
 use Rattle.registers.proofs.resets.turn_of.Reads as turn-of-reads
 
--- src/resets.rt:133:13
+-- src/resets.rt
 turn-of-requires : tie.Need-turn-of-requires
 turn-of-requires c κs = search needs
 
--- src/resets.rt:134:9
+-- src/resets.rt
 option-turned-requires : tie.Need-option-turned-requires
 option-turned-requires c κs = search needs
 
--- src/resets.rt:129:5
+-- src/resets.rt
 returns : tie.Need-returns
 returns c = simp (c .before .before .turn-of .ensures) at (c .option-turned .ensures)
 

@@ -5,11 +5,11 @@ use Rattle.registers.proofs.State.entered.Reads as reads
 use Rattle.registers.proofs.State.entered.Lts as lts
 use Rattle.registers.proofs.Phase.rest_status.Reads as rest-status-reads
 
--- src/resets.rt:86:13
+-- src/resets.rt
 rest-status-requires : tie.Need-rest-status-requires
 rest-status-requires c κs = search needs
 
--- src/resets.rt:82:5
+-- src/resets.rt
 returns : tie.Need-returns
 returns c = simp (c .before .rest-status .ensures)
 

@@ -5,12 +5,12 @@ use Rattle.registers.proofs.State.held_in.Tie as tie
 use Rattle.registers.proofs.State.held_in.Reads as reads
 use Rattle.registers.proofs.State.held_in.Lts as lts
 
--- src/lib.rt:155:13
+-- src/lib.rt
 returns : tie.Need-returns
 unfolding heldIn
 returns c = search tests
 
--- src/lib.rt:151:5
+-- src/lib.rt
 returns-2 : tie.Need-returns-2
 unfolding heldIn
 returns-2 c = search tests

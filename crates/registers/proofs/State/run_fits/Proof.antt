@@ -6,37 +6,37 @@ use Rattle.registers.proofs.State.run_fits.Reads as reads
 use Rattle.registers.proofs.State.run_fits.Lts as lts
 use Rattle.registers.proofs.State.load_fits.Reads as load-fits-reads
 
--- src/lib.rt:209:28
+-- src/lib.rt
 enum-told : tie.Need-enum-told
 enum-told c = search needs
 
--- src/lib.rt:210:27
+-- src/lib.rt
 enum-known-phase : tie.Need-enum-known-phase
 enum-known-phase c = search needs
 
--- src/lib.rt:212:17
+-- src/lib.rt
 load-fits-requires : tie.Need-load-fits-requires
 load-fits-requires c κs = search needs
 
--- src/lib.rt:214:28
+-- src/lib.rt
 enum-known-phase-2 : tie.Need-enum-known-phase-2
 enum-known-phase-2 c = search needs
 
--- src/lib.rt:216:17
+-- src/lib.rt
 load-fits-requires-2 : tie.Need-load-fits-requires-2
 load-fits-requires-2 c κs = search needs
 
--- src/lib.rt:205:5
+-- src/lib.rt
 returns : tie.Need-returns
 unfolding runFits
 returns c = simp (c .enum-told .given .1)
 
--- src/lib.rt:205:5
+-- src/lib.rt
 returns-2 : tie.Need-returns-2
 unfolding runFits
 returns-2 c = simp (c .before .before .phase .given .1, c .load-fits .ensures)
 
--- src/lib.rt:205:5
+-- src/lib.rt
 returns-3 : tie.Need-returns-3
 unfolding runFits
 returns-3 c = simp (c .before .before .phase2 .given .1, c .load-fits2 .ensures)

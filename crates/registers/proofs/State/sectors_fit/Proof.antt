@@ -10,35 +10,35 @@ use Rattle.registers.proofs.State.sectors_fit.Reads as reads
 use Rattle.registers.proofs.State.sectors_fit.Lts as lts
 use Rattle.registers.proofs.State.found.Reads as found-reads
 
--- src/lib.rt:179:13
+-- src/lib.rt
 found-requires : tie.Need-found-requires
 found-requires c κs = search needs
 
--- src/lib.rt:180:13
+-- src/lib.rt
 returns : tie.Need-returns
 unfolding sectorsFit every
 returns c = let w = sym (c .before .found .ensures) ∙ no _ (c .if1 .taken) in simp w
 
--- src/lib.rt:183:13
+-- src/lib.rt
 returns-2 : tie.Need-returns-2
 unfolding sectorsFit every
 returns-2 c = let w = sym (c .before .before .found .ensures) ∙ yes _ (c .before .if1 .left) in simp (w, lt-leb _ _ (c .if2 .taken))
 
--- src/lib.rt:186:13
+-- src/lib.rt
 returns-3 : tie.Need-returns-3
 unfolding sectorsFit every
 returns-3 c = let w = sym (c .before .before .before .found .ensures) ∙ yes _ (c .before .before .if1 .left) in simp (w, le-leb _ _ (c .before .if2 .left), lt-leb _ _ (c .if3 .taken))
 
--- src/lib.rt:189:21
+-- src/lib.rt
 cast-count : tie.Need-cast-count
 cast-count c = search needs
 
--- src/lib.rt:191:13
+-- src/lib.rt
 returns-4 : tie.Need-returns-4
 unfolding sectorsFit every
 returns-4 c = let w = sym (c .before .before .before .before .before .before .found .ensures) ∙ yes _ (c .before .before .before .before .before .if1 .left) in simp (w, le-leb _ _ (c .before .before .before .before .if2 .left), le-leb _ _ (c .before .before .before .if3 .left), ne-eqb _ _ (c .if4 .taken))
 
--- src/lib.rt:176:5
+-- src/lib.rt
 returns-5 : tie.Need-returns-5
 unfolding sectorsFit every
 returns-5 c = let w = sym (c .before .before .before .before .before .before .found .ensures) ∙ yes _ (c .before .before .before .before .before .if1 .left) in simp (w, le-leb _ _ (c .before .before .before .before .if2 .left), le-leb _ _ (c .before .before .before .if3 .left), eq-eqb _ _ (c .if4 .left))

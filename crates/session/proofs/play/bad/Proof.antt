@@ -9,15 +9,15 @@ use Rattle.session.proofs.play.bad.Reads as reads
 use Rattle.session.proofs.play.bad.Lts as lts
 use Rattle.text.proofs.put_bad.Reads as put-bad-reads
 
--- src/play.rt:22:9
+-- src/play.rt
 put-bad-requires : tie.Need-put-bad-requires
 put-bad-requires c κs = search needs
 
--- src/play.rt:19:1
+-- src/play.rt
 same-length : tie.Need-same-length
 same-length c = search needs
 
--- src/play.rt:19:1
+-- src/play.rt
 returns : tie.Need-returns
 returns c = ap (λ (o : Output). printedIn o (stopped (c .before .before .before .before .before .args .place) (Broken (c .before .before .before .before .before .args .why)))) (c .before .before .put-bad .ensures)
 

@@ -5,7 +5,7 @@ use Rattle.session.proofs.play.no_tuples.Tie as tie
 use Rattle.session.proofs.play.no_tuples.Reads as reads
 use Rattle.session.proofs.play.no_tuples.Lts as lts
 
--- src/play.rt:85:1
+-- src/play.rt
 returns : tie.Need-returns
 unfolding noTuples
 returns c = refl

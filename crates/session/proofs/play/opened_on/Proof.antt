@@ -13,39 +13,39 @@ use Rattle.card.proofs.Card.open.Reads as open-reads
 use Rattle.session.proofs.play.unopened.Reads as unopened-reads
 use Rattle.session.proofs.run.run_from.Reads as run-from-reads
 
--- src/play.rt:55:9
+-- src/play.rt
 open-requires : tie.Need-open-requires
 open-requires c κs = search needs
 
--- src/play.rt:60:67
+-- src/play.rt
 enum-told : tie.Need-enum-told
 enum-told c = search needs
 
--- src/play.rt:60:17
+-- src/play.rt
 run-from-requires : tie.Need-run-from-requires
 run-from-requires c κs = search needs
 
--- src/play.rt:69:26
+-- src/play.rt
 enum-known-outcome : tie.Need-enum-known-outcome
 enum-known-outcome c = search needs
 
--- src/play.rt:69:38
+-- src/play.rt
 unopened-requires : tie.Need-unopened-requires
 unopened-requires c κs = search needs
 
--- src/play.rt:44:1
+-- src/play.rt
 same-length : tie.Need-same-length
 same-length c = search needs
 
--- src/play.rt:44:1
+-- src/play.rt
 same-length-2 : tie.Need-same-length-2
 same-length-2 c = search needs
 
--- src/play.rt:44:1
+-- src/play.rt
 same-length-3 : tie.Need-same-length-3
 same-length-3 c = search needs
 
--- src/play.rt:44:1
+-- src/play.rt
 returns : tie.Need-returns
 unfolding openedOn
 returns c =
@@ -55,19 +55,19 @@ returns c =
     ∙ ap (λ (x : Outcome). printedAt o (opensAs x (c .before .before .before .before .before .before .before .before .before .before .before .before .before .«open» .result .card) (a .file .now) (a .store .now) (a .marks .now) (a .tuples .now))) (sym (c .before .before .before .before .before .before .before .before .before .before .enum-told .given .1))
     ∙ ap (λ (x : Answer). printedAt o (opensAs (x .outcome) (x .card) (a .file .now) (a .store .now) (a .marks .now) (a .tuples .now))) (c .before .before .before .before .before .before .before .before .before .before .before .before .before .«open» .ensures .0)
 
--- src/play.rt:44:1
+-- src/play.rt
 same-length-4 : tie.Need-same-length-4
 same-length-4 c = search needs
 
--- src/play.rt:44:1
+-- src/play.rt
 same-length-5 : tie.Need-same-length-5
 same-length-5 c = search needs
 
--- src/play.rt:44:1
+-- src/play.rt
 same-length-6 : tie.Need-same-length-6
 same-length-6 c = search needs
 
--- src/play.rt:44:1
+-- src/play.rt
 returns-2 : tie.Need-returns-2
 unfolding openedOn
 returns-2 c =

@@ -10,19 +10,19 @@ use Rattle.session.proofs.play.play.Lts as lts
 use Rattle.session.proofs.play.session.Reads as session-reads
 use Rattle.text.proofs.put_header.Reads as put-header-reads
 
--- src/play.rt:132:9
+-- src/play.rt
 put-header-requires : tie.Need-put-header-requires
 put-header-requires c κs = search needs
 
--- src/play.rt:133:5
+-- src/play.rt
 session-requires : tie.Need-session-requires
 session-requires c κs = search needs
 
--- src/play.rt:129:1
+-- src/play.rt
 same-length : tie.Need-same-length
 same-length c = search needs
 
--- src/play.rt:129:1
+-- src/play.rt
 returns : tie.Need-returns
 returns c =
     let a = c .before .before .before .before .before .before .before .before .before .before .args in

@@ -10,19 +10,19 @@ use Rattle.session.proofs.play.unopened.Lts as lts
 use Rattle.answers.proofs.Refusal.number.Reads as number-reads
 use Rattle.text.proofs.put_unopened.Reads as put-unopened-reads
 
--- src/play.rt:34:44
+-- src/play.rt
 number-requires : tie.Need-number-requires
 number-requires c κs = search needs
 
--- src/play.rt:34:9
+-- src/play.rt
 put-unopened-requires : tie.Need-put-unopened-requires
 put-unopened-requires c κs = search needs
 
--- src/play.rt:31:1
+-- src/play.rt
 same-length : tie.Need-same-length
 same-length c = search needs
 
--- src/play.rt:31:1
+-- src/play.rt
 returns : tie.Need-returns
 returns c = ap (λ (o : Output). printedIn o (stopped 0 (Unopened (c .before .before .before .before .before .before .args .refusal)))) (rw (c .before .before .before .number .ensures) at (c .before .before .put-unopened .ensures))
 

@@ -5,7 +5,7 @@ use Rattle.session.proofs.play.zero_marks.Tie as tie
 use Rattle.session.proofs.play.zero_marks.Reads as reads
 use Rattle.session.proofs.play.zero_marks.Lts as lts
 
--- src/play.rt:79:1
+-- src/play.rt
 returns : tie.Need-returns
 unfolding zeroBytes
 returns c = refl

@@ -5,7 +5,7 @@ use Rattle.session.proofs.play.zero_store.Tie as tie
 use Rattle.session.proofs.play.zero_store.Reads as reads
 use Rattle.session.proofs.play.zero_store.Lts as lts
 
--- src/play.rt:73:1
+-- src/play.rt
 returns : tie.Need-returns
 unfolding zeroBytes
 returns c = refl

@@ -9,28 +9,28 @@ use Rattle.session.proofs.records.first_record.Lts as lts
 use Rattle.session.proofs.records.opening_at.Reads as opening-at-reads
 use Rattle.session.proofs.records.word_at.Reads as word-at-reads
 
--- src/records.rt:168:9
+-- src/records.rt
 returns : tie.Need-returns
 unfolding recordAt kindAt openingAt writeAt readAt
 returns c =
     simp (sub-zero, lt-ltb _ _ (c .if1 .taken))
 
--- src/records.rt:170:9
+-- src/records.rt
 word-at-requires : tie.Need-word-at-requires
 word-at-requires c κs = search needs
 
--- src/records.rt:171:21
+-- src/records.rt
 cast-if2 : tie.Need-cast-if2
 cast-if2 c = search needs
 
--- src/records.rt:172:9
+-- src/records.rt
 returns-2 : tie.Need-returns-2
 unfolding recordAt kindAt openingAt writeAt readAt
 returns-2 c =
     let e = rw (c .before .word-at .ensures) at (c .if2 .taken) in
     simp (sub-zero, le-ltb _ _ (c .before .before .if1 .left), lt-ltb _ _ e)
 
--- src/records.rt:175:9
+-- src/records.rt
 returns-3 : tie.Need-returns-3
 unfolding recordAt kindAt openingAt writeAt readAt
 returns-3 c =
@@ -38,15 +38,15 @@ returns-3 c =
     let f = rw (c .before .before .word-at .ensures) at (c .if3 .taken) in
     simp (sub-zero, le-ltb _ _ (c .before .before .before .if1 .left), le-ltb _ _ e, lt-ltb _ _ f)
 
--- src/records.rt:177:9
+-- src/records.rt
 word-at-requires-2 : tie.Need-word-at-requires-2
 word-at-requires-2 c κs = search needs
 
--- src/records.rt:179:9
+-- src/records.rt
 opening-at-requires : tie.Need-opening-at-requires
 opening-at-requires c κs = search needs
 
--- src/records.rt:179:9
+-- src/records.rt
 returns-4 : tie.Need-returns-4
 unfolding recordAt kindAt
 returns-4 c =
@@ -55,7 +55,7 @@ returns-4 c =
     let g0 = rw (c .before .before .word-at2 .ensures) at (c .before .if4 .taken) in
     simp (sub-zero, le-ltb _ _ (c .before .before .before .before .before .before .if1 .left), le-ltb _ _ e, le-ltb _ _ f, eq-eqb _ _ g0, c .opening-at .ensures, c .before .before .before .before .before .word-at .ensures)
 
--- src/records.rt:182:9
+-- src/records.rt
 returns-5 : tie.Need-returns-5
 unfolding recordAt kindAt openingAt writeAt readAt
 returns-5 c =
@@ -65,7 +65,7 @@ returns-5 c =
     let g1 = rw (c .before .before .word-at2 .ensures) at (c .if5 .taken) in
     simp (sub-zero, le-ltb _ _ (c .before .before .before .before .before .before .if1 .left), le-ltb _ _ e, le-ltb _ _ f, ne-eqb _ _ g0, eq-eqb _ _ g1)
 
--- src/records.rt:185:9
+-- src/records.rt
 returns-6 : tie.Need-returns-6
 unfolding recordAt kindAt openingAt writeAt readAt
 returns-6 c =
@@ -76,7 +76,7 @@ returns-6 c =
     let g2 = rw (c .before .before .before .word-at2 .ensures) at (c .if6 .taken) in
     simp (sub-zero, le-ltb _ _ (c .before .before .before .before .before .before .before .if1 .left), le-ltb _ _ e, le-ltb _ _ f, ne-eqb _ _ g0, ne-eqb _ _ g1, eq-eqb _ _ g2)
 
--- src/records.rt:164:1
+-- src/records.rt
 returns-7 : tie.Need-returns-7
 unfolding recordAt kindAt openingAt writeAt readAt
 returns-7 c =

@@ -8,49 +8,49 @@ use Rattle.session.proofs.records.opening_at.Reads as reads
 use Rattle.session.proofs.records.opening_at.Lts as lts
 use Rattle.session.proofs.records.word_at.Reads as word-at-reads
 
--- src/records.rt:57:9
+-- src/records.rt
 returns : tie.Need-returns
 unfolding openingAt
 returns c = simp (no (c .before .before .args .first) (c .if1 .taken))
 
--- src/records.rt:60:9
+-- src/records.rt
 returns-2 : tie.Need-returns-2
 unfolding openingAt
 returns-2 c = simp (yes (c .before .before .before .args .first) (c .before .if1 .left), ne-eqb _ _ (c .if2 .taken))
 
--- src/records.rt:62:35
+-- src/records.rt
 add-word-at : tie.Need-add-word-at
 add-word-at c = search needs
 
--- src/records.rt:62:9
+-- src/records.rt
 word-at-requires : tie.Need-word-at-requires
 word-at-requires c κs = search needs
 
--- src/records.rt:63:31
+-- src/records.rt
 add-word-at-2 : tie.Need-add-word-at-2
 add-word-at-2 c = search needs
 
--- src/records.rt:63:9
+-- src/records.rt
 word-at-requires-2 : tie.Need-word-at-requires-2
 word-at-requires-2 c κs = search needs
 
--- src/records.rt:64:33
+-- src/records.rt
 add-word-at-3 : tie.Need-add-word-at-3
 add-word-at-3 c = search needs
 
--- src/records.rt:64:9
+-- src/records.rt
 word-at-requires-3 : tie.Need-word-at-requires-3
 word-at-requires-3 c κs = search needs
 
--- src/records.rt:65:30
+-- src/records.rt
 add-word-at-4 : tie.Need-add-word-at-4
 add-word-at-4 c = search needs
 
--- src/records.rt:65:9
+-- src/records.rt
 word-at-requires-4 : tie.Need-word-at-requires-4
 word-at-requires-4 c κs = search needs
 
--- src/records.rt:52:1
+-- src/records.rt
 returns-3 : tie.Need-returns-3
 unfolding openingAt
 returns-3 c = simp (yes (c .before .before .before .before .before .before .before .args .first) (c .before .before .before .before .before .if1 .left), eq-eqb _ _ (c .before .before .before .before .if2 .left), c .word-at4 .ensures, c .before .word-at3 .ensures, c .before .before .word-at2 .ensures, c .before .before .before .word-at .ensures)

@@ -8,45 +8,45 @@ use Rattle.session.proofs.records.read_at.Lts as lts
 use Rattle.session.proofs.records.fields_tested.Reads as fields-tested-reads
 use Rattle.session.proofs.records.word_at.Reads as word-at-reads
 
--- src/records.rt:104:9
+-- src/records.rt
 returns : tie.Need-returns
 unfolding readAt
 returns c = simp (c .if1 .taken)
 
--- src/records.rt:107:9
+-- src/records.rt
 returns-2 : tie.Need-returns-2
 unfolding readAt
 returns-2 c = simp (c .before .if1 .left, ne-eqb _ _ (c .if2 .taken))
 
--- src/records.rt:109:22
+-- src/records.rt
 add-space : tie.Need-add-space
 add-space c = search needs
 
--- src/records.rt:109:17
+-- src/records.rt
 shared-slice-read-space : tie.Need-shared-slice-read-space
 shared-slice-read-space c = search needs
 
--- src/records.rt:110:22
+-- src/records.rt
 add-width : tie.Need-add-width
 add-width c = search needs
 
--- src/records.rt:110:17
+-- src/records.rt
 shared-slice-read-width : tie.Need-shared-slice-read-width
 shared-slice-read-width c = search needs
 
--- src/records.rt:111:33
+-- src/records.rt
 add-word-at : tie.Need-add-word-at
 add-word-at c = search needs
 
--- src/records.rt:111:9
+-- src/records.rt
 word-at-requires : tie.Need-word-at-requires
 word-at-requires c κs = search needs
 
--- src/records.rt:112:5
+-- src/records.rt
 fields-tested-requires : tie.Need-fields-tested-requires
 fields-tested-requires c κs = search needs
 
--- src/records.rt:99:1
+-- src/records.rt
 returns-3 : tie.Need-returns-3
 unfolding readAt
 returns-3 c = simp (c .before .before .before .before .before .if1 .left, eq-eqb _ _ (c .before .before .before .before .if2 .left), c .fields-tested .ensures, c .before .word-at .ensures)

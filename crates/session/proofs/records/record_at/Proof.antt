@@ -11,7 +11,7 @@ use Rattle.session.proofs.records.record_at.Lts as lts
 use Rattle.session.proofs.records.kind_at.Reads as kind-at-reads
 use Rattle.session.proofs.records.word_at.Reads as word-at-reads
 
--- src/records.rt:146:9
+-- src/records.rt
 returns : tie.Need-returns
 unfolding recordAt
 returns c =
@@ -19,38 +19,38 @@ returns c =
     let h : length (a .file .now) - a .at < 4 = omega arith in
     simp (lt-ltb _ _ h)
 
--- src/records.rt:148:16
+-- src/records.rt
 sub-left : tie.Need-sub-left
 sub-left c = search needs
 
--- src/records.rt:150:9
+-- src/records.rt
 returns-2 : tie.Need-returns-2
 unfolding recordAt
 returns-2 c = simp (lt-ltb _ _ (c .if2 .taken))
 
--- src/records.rt:152:9
+-- src/records.rt
 word-at-requires : tie.Need-word-at-requires
 word-at-requires c κs = search needs
 
--- src/records.rt:153:15
+-- src/records.rt
 cast-if3 : tie.Need-cast-if3
 cast-if3 c = search needs
 
--- src/records.rt:154:9
+-- src/records.rt
 returns-3 : tie.Need-returns-3
 unfolding recordAt
 returns-3 c = let e = rw (c .before .word-at .ensures) at (c .if3 .taken) in simp (le-ltb _ _ (c .before .before .if2 .left), lt-ltb _ _ e)
 
--- src/records.rt:157:9
+-- src/records.rt
 returns-4 : tie.Need-returns-4
 unfolding recordAt
 returns-4 c = let e = rw (c .before .before .word-at .ensures) at (c .before .if3 .left) in let f = rw (c .before .before .word-at .ensures) at (c .if4 .taken) in simp (le-ltb _ _ (c .before .before .before .if2 .left), le-ltb _ _ e, lt-ltb _ _ f)
 
--- src/records.rt:159:5
+-- src/records.rt
 kind-at-requires : tie.Need-kind-at-requires
 kind-at-requires c κs = search needs
 
--- src/records.rt:142:1
+-- src/records.rt
 returns-5 : tie.Need-returns-5
 unfolding recordAt
 returns-5 c = let e = rw (c .before .before .before .word-at .ensures) at (c .before .before .if3 .left) in let f = rw (c .before .before .before .word-at .ensures) at (c .before .if4 .left) in simp (le-ltb _ _ (c .before .before .before .before .if2 .left), le-ltb _ _ e, le-ltb _ _ f, c .kind-at .ensures, c .before .before .before .word-at .ensures)

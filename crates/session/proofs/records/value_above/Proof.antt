@@ -5,12 +5,12 @@ use Rattle.session.proofs.records.value_above.Tie as tie
 use Rattle.session.proofs.records.value_above.Reads as reads
 use Rattle.session.proofs.records.value_above.Lts as lts
 
--- src/records.rt:25:9
+-- src/records.rt
 returns : tie.Need-returns
 unfolding valueAbove
 returns c = search tests
 
--- src/records.rt:21:1
+-- src/records.rt
 returns-2 : tie.Need-returns-2
 unfolding valueAbove
 returns-2 c = search tests

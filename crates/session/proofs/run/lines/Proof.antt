@@ -48,76 +48,76 @@ Inv-loop verdict part from first number tuples store₀ marks₀ out₀ start bu
 abbrev μ-loop : tie.MeasureT-loop
 μ-loop verdict part from first number tuples store₀ marks₀ out₀ start buffer₀ core₀ at₀ four₀ done₀ text₀ left₀ store marks out buffer core at four done text left = left
 
--- src/run.rt:185:20
+-- src/run.rt
 of-requires : tie.Need-of-requires Inv-loop μ-loop
 of-requires c κs = search needs
 
--- src/run.rt:188:5
+-- src/run.rt
 loop-holds : tie.Need-loop-holds Inv-loop μ-loop
 loop-holds c =
     let e = c .of .ensures in
     (search needs, search needs, refl, refl, refl, c .before .before .before .before .before .before .before .before .pre, rw e (search needs), e ∙ ap (λ (f : Four). fourOf (f .number)) (sym e), rw e refl)
 
--- src/run.rt:190:13
+-- src/run.rt
 ran-requires : tie.Need-ran-requires Inv-loop μ-loop
 ran-requires c κs = search needs
 
--- src/run.rt:190:13
+-- src/run.rt
 same-length : tie.Need-same-length Inv-loop μ-loop
 same-length c = search needs
 
--- src/run.rt:190:13
+-- src/run.rt
 same-length-2 : tie.Need-same-length-2 Inv-loop μ-loop
 same-length-2 c = search needs
 
--- src/run.rt:190:13
+-- src/run.rt
 same-length-3 : tie.Need-same-length-3 Inv-loop μ-loop
 same-length-3 c = search needs
 
--- src/run.rt:190:13
+-- src/run.rt
 returns : tie.Need-returns Inv-loop μ-loop
 returns c =
     let l = c .before .before .before .loop in
     let a = c .before .before .before .before .before .before .before .before .before .before .before .before .args in
     rw (c .ran .ensures) (sym (lines-end (output (l .out) (l .text)) (a .first) (l .four .number) (l .done) (l .left) (l .at) (a .part .now) (a .tuples .now) (machine (l .core) (l .buffer) (l .store) (l .marks)) (c .before .if1 .taken)) ∙ l .inv .8)
 
--- src/run.rt:192:13
+-- src/run.rt
 record-at-requires : tie.Need-record-at-requires Inv-loop μ-loop
 record-at-requires c κs = search needs
 
--- src/run.rt:193:15
+-- src/run.rt
 turn-requires : tie.Need-turn-requires Inv-loop μ-loop
 turn-requires c κs = search needs
 
--- src/run.rt:194:24
+-- src/run.rt
 enum-known-why : tie.Need-enum-known-why Inv-loop μ-loop
 enum-known-why c = search needs
 
--- src/run.rt:195:21
+-- src/run.rt
 wrapping-add-u64-requires : tie.Need-wrapping-add-u64-requires Inv-loop μ-loop
 wrapping-add-u64-requires c κs = search needs
 
--- src/run.rt:196:21
+-- src/run.rt
 put-bad-requires : tie.Need-put-bad-requires Inv-loop μ-loop
 put-bad-requires c κs = search needs
 
--- src/run.rt:197:17
+-- src/run.rt
 ran-requires-2 : tie.Need-ran-requires-2 Inv-loop μ-loop
 ran-requires-2 c κs = search needs
 
--- src/run.rt:197:17
+-- src/run.rt
 same-length-4 : tie.Need-same-length-4 Inv-loop μ-loop
 same-length-4 c = c .before .before .before .before .before .before .before .before .before .before .before .before .before .loop .inv .2
 
--- src/run.rt:197:17
+-- src/run.rt
 same-length-5 : tie.Need-same-length-5 Inv-loop μ-loop
 same-length-5 c = c .before .before .before .before .before .before .before .before .before .before .before .before .before .loop .inv .3
 
--- src/run.rt:197:17
+-- src/run.rt
 same-length-6 : tie.Need-same-length-6 Inv-loop μ-loop
 same-length-6 c = c .before .before .before .put-bad .kept .0 ∙ c .before .before .before .before .before .before .before .before .before .before .before .before .before .loop .inv .4
 
--- src/run.rt:197:17
+-- src/run.rt
 returns-2 : tie.Need-returns-2 Inv-loop μ-loop
 returns-2 c =
     let l = c .before .before .before .before .before .before .before .before .before .before .before .before .before .loop in
@@ -131,54 +131,54 @@ returns-2 c =
     ∙ sym (lines-stop o (a .first) (l .four .number) (l .done) (l .left) (l .at) (a .part .now) (a .tuples .now) m (c .before .before .before .before .before .before .before .why .given .0 .0) (c .before .before .before .before .before .before .before .before .before .before .before .before .loop-test .taken) (c .before .before .before .before .before .before .before .before .before .before .before .if1 .left) e)
     ∙ l .inv .8)
 
--- src/run.rt:199:26
+-- src/run.rt
 enum-known-write : tie.Need-enum-known-write Inv-loop μ-loop
 enum-known-write c = search needs
 
--- src/run.rt:200:17
+-- src/run.rt
 told-requires : tie.Need-told-requires Inv-loop μ-loop
 told-requires c κs = search needs
 
--- src/run.rt:201:17
+-- src/run.rt
 count-known-requires : tie.Need-count-known-requires Inv-loop μ-loop
 count-known-requires c κs = search needs
 
--- src/run.rt:202:21
+-- src/run.rt
 answer-requires : tie.Need-answer-requires Inv-loop μ-loop
 answer-requires c κs = search needs
 
--- src/run.rt:205:17
+-- src/run.rt
 put-answer-requires : tie.Need-put-answer-requires Inv-loop μ-loop
 put-answer-requires c κs = c .before .before .before .before .before .before .before .before .before .before .before .before .before .before .before .before .before .before .before .before .loop .inv .7
 
--- src/run.rt:218:24
+-- src/run.rt
 next-requires : tie.Need-next-requires Inv-loop μ-loop
 next-requires c κs = search needs
 
--- src/run.rt:208:23
+-- src/run.rt
 size-of-requires : tie.Need-size-of-requires Inv-loop μ-loop
 size-of-requires c κs = search needs
 
--- src/run.rt:208:17
+-- src/run.rt
 add-at : tie.Need-add-at Inv-loop μ-loop
 add-at c =
     let l = c .before .before .before .before .before .before .before .before .before .before .before .before .before .before .before .before .before .before .before .before .before .before .before .before .before .loop in
     let f = access-fits _ _ (c .before .before .before .before .before .before .before .before .before .before .before .before .before .before .before .before .before .before .before .before .before .before .before .before .before .before .before .before .before .before .before .before .before .before .args .part .now) (l .at) (c .before .before .before .before .before .before .before .before .before .before .before .before .before .before .before .before .before .before .before .before .before .before .before .if1 .left) (sym (ap turnOf (c .before .before .before .before .before .before .before .before .before .before .before .before .before .before .before .before .before .before .before .before .before .before .record-at .ensures)) ∙ sym (c .before .before .before .before .before .before .before .before .before .before .before .before .before .before .before .before .before .before .before .before .before .turn .ensures) ∙ c .before .before .before .before .before .before .before .before .before .before .before .before .before .before .before .before .before .before .before .write .given .1) in
     omega (arith, f, c .size-of .ensures, l .inv .1)
 
--- src/run.rt:209:17
+-- src/run.rt
 add-done : tie.Need-add-done Inv-loop μ-loop
 add-done c = omega (arith, c .before .before .before .before .before .before .before .before .before .before .before .before .before .before .before .before .before .before .before .before .before .before .before .before .before .loop .inv .0, c .before .before .before .before .before .before .before .before .before .before .before .before .before .before .before .before .before .before .before .before .before .before .before .before .before .loop .inv .1, c .before .before .before .before .before .before .before .before .before .before .before .before .before .before .before .before .before .before .before .before .before .before .before .before .loop-test .taken)
 
--- src/run.rt:210:17
+-- src/run.rt
 sub-left : tie.Need-sub-left Inv-loop μ-loop
 sub-left c = omega (arith, c .before .before .before .before .before .before .before .before .before .before .before .before .before .before .before .before .before .before .before .before .before .before .before .before .before .loop .inv .0, c .before .before .before .before .before .before .before .before .before .before .before .before .before .before .before .before .before .before .before .before .before .before .before .before .before .loop .inv .1, c .before .before .before .before .before .before .before .before .before .before .before .before .before .before .before .before .before .before .before .before .before .before .before .before .loop-test .taken)
 
--- src/run.rt:188:5
+-- src/run.rt
 loop-less : tie.Need-loop-less Inv-loop μ-loop
 loop-less c = omega (arith, c .before .before .before .before .before .before .before .before .before .before .before .before .before .before .before .before .before .before .before .before .before .before .before .before .before .loop .inv .0, c .before .before .before .before .before .before .before .before .before .before .before .before .before .before .before .before .before .before .before .before .before .before .before .before .before .loop .inv .1, c .before .before .before .before .before .before .before .before .before .before .before .before .before .before .before .before .before .before .before .before .before .before .before .before .loop-test .taken)
 
--- src/run.rt:188:5
+-- src/run.rt
 loop-again : tie.Need-loop-again Inv-loop μ-loop
 loop-again c =
     let l = c .before .before .before .before .before .before .before .before .before .before .before .before .before .before .before .before .before .before .before .before .before .before .before .before .before .loop in
@@ -201,23 +201,23 @@ loop-again c =
       rw (g, c .size-of .ensures) (f ∙ l .inv .8),
     )
 
--- src/run.rt:214:5
+-- src/run.rt
 ran-requires-3 : tie.Need-ran-requires-3 Inv-loop μ-loop
 ran-requires-3 c κs = search needs
 
--- src/run.rt:160:1
+-- src/run.rt
 same-length-7 : tie.Need-same-length-7 Inv-loop μ-loop
 same-length-7 c = search needs
 
--- src/run.rt:160:1
+-- src/run.rt
 same-length-8 : tie.Need-same-length-8 Inv-loop μ-loop
 same-length-8 c = search needs
 
--- src/run.rt:160:1
+-- src/run.rt
 same-length-9 : tie.Need-same-length-9 Inv-loop μ-loop
 same-length-9 c = search needs
 
--- src/run.rt:160:1
+-- src/run.rt
 returns-3 : tie.Need-returns-3 Inv-loop μ-loop
 returns-3 c =
     let l = c .before .before .loop in

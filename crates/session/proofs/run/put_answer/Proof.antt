@@ -16,46 +16,46 @@ use Rattle.text.proofs.put_line.Reads as put-line-reads
 digits-print : (f : Four) → f ≡ fourOf (f .number) → numeral f ≡ decimal (f .number)
 digits-print f e = ap numeral e ∙ numeral-of (f .number)
 
--- src/run.rt:150:27
+-- src/run.rt
 enum-known-outcome : tie.Need-enum-known-outcome
 enum-known-outcome c = search needs
 
--- src/run.rt:151:56
+-- src/run.rt
 shown-value-requires : tie.Need-shown-value-requires
 shown-value-requires c κs = search needs
 
--- src/run.rt:151:13
+-- src/run.rt
 put-accepted-requires : tie.Need-put-accepted-requires
 put-accepted-requires c κs = search needs
 
--- src/run.rt:153:26
+-- src/run.rt
 enum-known-outcome-2 : tie.Need-enum-known-outcome-2
 enum-known-outcome-2 c = search needs
 
--- src/run.rt:153:77
+-- src/run.rt
 number-requires : tie.Need-number-requires
 number-requires c κs = search needs
 
--- src/run.rt:153:38
+-- src/run.rt
 put-line-requires : tie.Need-put-line-requires
 put-line-requires c κs = search needs
 
--- src/run.rt:139:1
+-- src/run.rt
 same-length : tie.Need-same-length
 same-length c = search needs
 
--- src/run.rt:139:1
+-- src/run.rt
 returns : tie.Need-returns
 returns c =
     let b = c .before .before .before .before .before .before .before .before .before in
     let e = digits-print (b .args .four) (b .pre) in
     simp (c .before .before .before .before .before .before .outcome .given .1) (rw (c .before .before .before .before .shown-value .ensures, e) at (c .before .before .put-accepted .ensures))
 
--- src/run.rt:139:1
+-- src/run.rt
 same-length-2 : tie.Need-same-length-2
 same-length-2 c = search needs
 
--- src/run.rt:139:1
+-- src/run.rt
 returns-2 : tie.Need-returns-2
 returns-2 c =
     let b = c .before .before .before .before .before .before .before .before .before in

@@ -5,11 +5,11 @@ use Rattle.session.proofs.run.ran.Reads as reads
 use Rattle.session.proofs.run.ran.Lts as lts
 use Rattle.std.proofs.num.wrapping_add_u64.Reads as wrapping-add-u64-reads
 
--- src/run.rt:127:9
+-- src/run.rt
 wrapping-add-u64-requires : tie.Need-wrapping-add-u64-requires
 wrapping-add-u64-requires c κs = search needs
 
--- src/run.rt:116:1
+-- src/run.rt
 returns : tie.Need-returns
 returns c = simp (c .before .wrapping-add-u64 .ensures)
 

@@ -11,23 +11,23 @@ use Rattle.session.proofs.run.run.Reads as reads
 use Rattle.session.proofs.run.run.Lts as lts
 use Rattle.session.proofs.run.run_from.Reads as run-from-reads
 
--- src/run.rt:255:5
+-- src/run.rt
 run-from-requires : tie.Need-run-from-requires
 run-from-requires c κs = search needs
 
--- src/run.rt:243:1
+-- src/run.rt
 same-length : tie.Need-same-length
 same-length c = search needs
 
--- src/run.rt:243:1
+-- src/run.rt
 same-length-2 : tie.Need-same-length-2
 same-length-2 c = search needs
 
--- src/run.rt:243:1
+-- src/run.rt
 same-length-3 : tie.Need-same-length-3
 same-length-3 c = search needs
 
--- src/run.rt:243:1
+-- src/run.rt
 returns : tie.Need-returns
 returns c =
     let a = c .before .before .before .before .before .before .before .before .before .before .before .before .before .before .before .args in

@@ -10,30 +10,30 @@ use Rattle.session.proofs.run.verdict_of.Lts as lts
 use Rattle.geometry.proofs.Geometry.total.Reads as total-reads
 use Rattle.registers.proofs.Core.well_made.Reads as well-made-reads
 
--- src/run.rt:55:17
+-- src/run.rt
 total-requires : tie.Need-total-requires
 total-requires c κs = search needs
 
--- src/run.rt:55:17
+-- src/run.rt
 cast-total : tie.Need-cast-total
 cast-total c = search needs
 
--- src/run.rt:56:9
+-- src/run.rt
 well-made-requires : tie.Need-well-made-requires
 well-made-requires c κs = search needs
 
--- src/run.rt:57:9
+-- src/run.rt
 returns : tie.Need-returns
 unfolding verdictOf
 returns c =
     let w = sym (c .before .well-made .ensures) ∙ no _ (c .if1 .taken) in
     simp (w)
 
--- src/run.rt:59:23
+-- src/run.rt
 mul-if2 : tie.Need-mul-if2
 mul-if2 c = search needs
 
--- src/run.rt:60:9
+-- src/run.rt
 returns-2 : tie.Need-returns-2
 unfolding verdictOf
 returns-2 c =
@@ -41,7 +41,7 @@ returns-2 c =
     let h2 = rw (c .before .before .before .total .ensures) at (c .if2 .taken) in
     simp (w, ne-eqb _ _ h2)
 
--- src/run.rt:63:9
+-- src/run.rt
 returns-3 : tie.Need-returns-3
 unfolding verdictOf
 returns-3 c =
@@ -50,7 +50,7 @@ returns-3 c =
     let h3 = rw (c .before .before .before .before .total .ensures) at (c .if3 .taken) in
     simp (w, eq-eqb _ _ h2, ne-eqb _ _ h3)
 
--- src/run.rt:66:9
+-- src/run.rt
 returns-4 : tie.Need-returns-4
 unfolding verdictOf
 returns-4 c =
@@ -60,7 +60,7 @@ returns-4 c =
     let h4 = c .if4 .taken in
     simp (w, eq-eqb _ _ h2, eq-eqb _ _ h3, ne-eqb _ _ h4)
 
--- src/run.rt:49:1
+-- src/run.rt
 returns-5 : tie.Need-returns-5
 unfolding verdictOf
 returns-5 c =

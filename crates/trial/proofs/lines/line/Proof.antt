@@ -4,8 +4,8 @@ use lib.ListN.{length}
 use lib.Seq.{length-take-le}
 use mathlib.Core.Path.{_≡_, sym}
 use native.Mathlib.Omega.{arith}
-use Rattle.trial_text.proofs.line.Statement.{statement}
-use Rattle.trial_text.proofs.line.Tie as tie
+use Rattle.trial.proofs.lines.line.Statement.{statement}
+use Rattle.trial.proofs.lines.line.Tie as tie
 
 abbrev Inv-loop : tie.InvT-loop
 Inv-loop pattern numbers n out₀ number₀ i₀ out number i = (i ≤ n) × (n ≤ 128) × (length out ≡ 128)
@@ -13,59 +13,59 @@ Inv-loop pattern numbers n out₀ number₀ i₀ out number i = (i ≤ n) × (n 
 abbrev μ-loop : tie.MeasureT-loop
 μ-loop pattern numbers n out₀ number₀ i₀ out number i = n - i
 
--- src/lib.rt:50:9
+-- src/lib.rt
 at-most-requires : tie.Need-at-most-requires Inv-loop μ-loop
 at-most-requires c κs = search needs
 
--- src/lib.rt:54:5
+-- src/lib.rt
 loop-holds : tie.Need-loop-holds Inv-loop μ-loop
 loop-holds c = search needs
 
--- src/lib.rt:55:13
+-- src/lib.rt
 byte-or-zero-requires : tie.Need-byte-or-zero-requires Inv-loop μ-loop
 byte-or-zero-requires c κs = search needs
 
--- src/lib.rt:56:27
+-- src/lib.rt
 number-or-zero-requires : tie.Need-number-or-zero-requires Inv-loop μ-loop
 number-or-zero-requires c κs = search needs
 
--- src/lib.rt:56:18
+-- src/lib.rt
 shown-requires : tie.Need-shown-requires Inv-loop μ-loop
 shown-requires c κs = search needs
 
--- src/lib.rt:56:9
+-- src/lib.rt
 array-write-out : tie.Need-array-write-out Inv-loop μ-loop
 array-write-out c = search needs
 
--- src/lib.rt:57:9
+-- src/lib.rt
 next-requires : tie.Need-next-requires Inv-loop μ-loop
 next-requires c κs = search needs
 
--- src/lib.rt:58:9
+-- src/lib.rt
 add-i : tie.Need-add-i Inv-loop μ-loop
 add-i c = search needs
 
--- src/lib.rt:54:5
+-- src/lib.rt
 loop-less : tie.Need-loop-less Inv-loop μ-loop
 loop-less c = search needs
 
--- src/lib.rt:54:5
+-- src/lib.rt
 loop-again : tie.Need-loop-again Inv-loop μ-loop
 loop-again c = search needs
 
--- src/lib.rt:60:22
+-- src/lib.rt
 array-share-prefix-out : tie.Need-array-share-prefix-out Inv-loop μ-loop
 array-share-prefix-out c = search needs
 
--- src/lib.rt:60:22
+-- src/lib.rt
 slice-aggregate-write-all : tie.Need-slice-aggregate-write-all Inv-loop μ-loop
 slice-aggregate-write-all c = sym (length-take-le _ _ (omega arith))
 
--- src/lib.rt:60:5
+-- src/lib.rt
 write-all-requires : tie.Need-write-all-requires Inv-loop μ-loop
 write-all-requires c κs = search needs
 
--- src/lib.rt:49:1
+-- src/lib.rt
 returns : tie.Need-returns Inv-loop μ-loop
 returns c = search needs
 
