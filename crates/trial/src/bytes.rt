@@ -5,14 +5,14 @@ use crate::words::low;
 ghost use Prim.Native.Nat.{_≤_};
 
 // A byte is set, where there is such a place.
-pub fn set(row: &mut [u8], at: usize, value: u8) {
+pub(crate) fn set(row: &mut [u8], at: usize, value: u8) {
     if at < row.len() {
         row[at] = value;
     }
 }
 
 // Kind 5.
-pub fn fill(store: &mut [u8], w: Words) {
+pub(crate) fn fill(store: &mut [u8], w: Words) {
     if w.w0 != 5 {
         return;
     }
@@ -42,7 +42,7 @@ fn byte(w: Words, k: usize) -> u8 {
 }
 
 // Kinds 9, 10 and 13.
-pub fn put(row: &mut [u8], w: Words) {
+pub(crate) fn put(row: &mut [u8], w: Words) {
     let start = w.w1 as usize;
     let n = lines::at_most(w.w2 as usize, 8);
     let mut k: usize = 0;
@@ -56,7 +56,7 @@ fn mixed(sum: u32, byte: u8) -> u32 {
     (31 * (sum % 65521) + byte as u32 + 1) % 65521
 }
 
-pub fn sum(bytes: &[u8]) -> u16 {
+pub(crate) fn sum(bytes: &[u8]) -> u16 {
     let mut sum: u32 = 0;
     let mut i: usize = 0;
     while i < bytes.len() {

@@ -95,7 +95,13 @@ fn opened(card: Card, w: Words, chain: &[u8], store: &[u8], marks: &[u8]) -> Car
     card
 }
 
-pub fn record(card: Card, w: Words, chain: &[u8], store: &mut [u8], marks: &mut [u8]) -> Card {
+pub(crate) fn record(
+    card: Card,
+    w: Words,
+    chain: &[u8],
+    store: &mut [u8],
+    marks: &mut [u8],
+) -> Card {
     if w.w0 == 3 {
         return accesses(card, w, chain, store, marks);
     }

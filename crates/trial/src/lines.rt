@@ -3,7 +3,7 @@ ghost use Prim.Native.Nat.{_≤_, min};
 ghost use mathlib.Core.Path.{_≡_};
 
 // The smaller of two numbers.
-pub fn at_most(n: usize, most: usize) -> usize
+pub(crate) fn at_most(n: usize, most: usize) -> usize
     ensures { λ r. ⌜ (r ≡ min n most) × (r ≤ most) ⌝ }
 {
     if n < most {
@@ -48,7 +48,7 @@ fn number_or_zero(numbers: &[u16], number: u8) -> u16 {
 }
 
 // A pattern of at most 128 bytes, with the numbers in turn.
-pub fn line(pattern: &[u8], numbers: &[u16]) {
+pub(crate) fn line(pattern: &[u8], numbers: &[u16]) {
     let n = at_most(pattern.len(), 128);
     let mut out = [0u8; 128];
     let mut number: u8 = 0;
@@ -71,7 +71,7 @@ fn half(byte: u8, i: usize) -> u8 {
 }
 
 // A start, at most 1,024 bytes, a newline.
-pub fn bytes_line(start: &[u8], bytes: &[u8]) {
+pub(crate) fn bytes_line(start: &[u8], bytes: &[u8]) {
     let n = 2 * at_most(bytes.len(), 1024);
     let mut out = [0u8; 2048];
     let mut i: usize = 0;

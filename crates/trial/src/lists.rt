@@ -6,7 +6,7 @@ use crate::words::low;
 use answers::Outcome;
 use tuples::Entry;
 
-pub fn entry(w: Words) -> Entry {
+pub(crate) fn entry(w: Words) -> Entry {
     Entry {
         code: low(w.w2),
         start: w.w3,
@@ -62,7 +62,7 @@ fn written_lines(outcome: Outcome, chain: &[u8]) {
     lines::bytes_line(b"T ", chain);
 }
 
-pub fn record(w: Words, last: Entry, bodies: &[u8], chain: &mut [u8]) {
+pub(crate) fn record(w: Words, last: Entry, bodies: &[u8], chain: &mut [u8]) {
     if w.w0 == 6 {
         read(w, chain);
         return;

@@ -12,7 +12,7 @@ pub struct Words {
     pub w7: u16,
 }
 
-pub fn low(word: u16) -> u8 {
+pub(crate) fn low(word: u16) -> u8 {
     (word % 256) as u8
 }
 
@@ -31,7 +31,7 @@ fn kind_at(input: &[u8], place: u32, end: u32) -> u16 {
 }
 
 // The record at a place; at the end of the input, one of kind 12.
-pub fn words_at(input: &[u8], place: u32, end: u32) -> Words {
+pub(crate) fn words_at(input: &[u8], place: u32, end: u32) -> Words {
     Words {
         w0: kind_at(input, place, end),
         w1: word_at(input, place, 2),
