@@ -1,27 +1,23 @@
 -- A card that accepts a Command write is well made, with a store and marks of its size: all that a command needs.
-use Prim.Native.Nat.{ℕ, _*_, _/_, _≤_, _<_}
+use Prim.Native.Nat.{ℕ, _*_}
 use mathlib.Core.Bool.{Bool, true, false, true≢false}
-use mathlib.Core.Path.{_≡_, refl, sym, ap, _∙_}
-use mathlib.Core.List.{List, [], _∷_}
+use mathlib.Core.Path.{_≡_, refl, ap, _∙_}
 use native.Mathlib.Nat.{div-le-self}
 use native.Mathlib.Omega.{arith}
 use lib.Dec.{eqb}
-use lib.ListN.{length, getD}
+use lib.ListN.{length}
 use borrow.Author.Tests.{eqb-true}
 use Rattle.ground.specs.Choice.{pick}
 use Rattle.answers.specs.declared.Refusal.{Refusal}
-use Rattle.geometry.specs.Limits.{fits, totalOf, currentFor}
 use Rattle.ground.proofs.Every.{each}
 use Rattle.geometry.proofs.Limits.{fits-facts, total-fits, current-facts}
 use Rattle.maps.specs.declared.Register.{Register}
 use Rattle.registers.specs.State.{Machine, sresetIn}
-use Rattle.registers.specs.WellMade.{totalIn, indexFits, sresetFits, statusFits, heldIn, holdFits, wordsFit, runFits, wellMade}
-use Rattle.commands.specs.declared.Way.the-variants.{In}
+use Rattle.registers.specs.WellMade.{totalIn, heldIn, wellMade}
 use Rattle.card.specs.declared.Meaning.{Meaning}
 use Rattle.card.specs.declared.Meaning.the-variants.{TupleByte, ReadOption, WriteOption, ReadRegister, WriteRegister, ReadData, WriteData}
-use Rattle.card.specs.Access.{Access, decided, meaning}
+use Rattle.card.specs.Access.{Access, meaning}
 use Rattle.account.specs.Claim.{Typed}
-use Rattle.account.proofs.Rest.{Ground}
 use Rattle.account.proofs.Commands.{Given}
 
 abbrev pub refuses : Meaning → Bool

@@ -1,34 +1,26 @@
 -- A sector command begins: the first address is decided, and the account of the rest is the account of the command.
-use Prim.Native.Nat.{ℕ, zero, suc, _+_, _-_, _*_, _/_, _%_, _≤_, _<_}
-use mathlib.Core.Bool.{Bool, true, false}
-use mathlib.Core.Path.{_≡_, refl, sym, ap, _∙_, subst}
-use mathlib.Core.List.{List, [], _∷_, _++_}
+use Prim.Native.Nat.{ℕ, zero, suc, _-_, _%_, _<_}
+use mathlib.Core.Bool.{true}
+use mathlib.Core.Path.{_≡_, refl, _∙_}
+use mathlib.Core.List.{List}
 use native.Mathlib.Omega.{arith}
-use lib.Dec.{ltb, eqb}
 use lib.ListN.{length}
 use borrow.Author.Tests.{lt-ltb, ne-eqb}
-use Rattle.ground.specs.Choice.{pick}
 use Rattle.geometry.specs.declared.Located.{Located}
-use Rattle.geometry.specs.declared.Spot.{Spot}
-use Rattle.geometry.specs.Limits.{totalOf}
 use Rattle.geometry.proofs.Kept.{Bytes}
-use Rattle.registers.specs.declared.Phase.the-variants.{Idle}
 use Rattle.registers.specs.declared.State.{State}
-use Rattle.registers.specs.declared.Core.{Core}
-use Rattle.registers.specs.State.{Machine, machine, withCore}
+use Rattle.registers.specs.State.{Machine, withCore}
 use Rattle.registers.specs.WellMade.{locatedIn}
-use Rattle.commands.specs.declared.End.{End}
-use Rattle.commands.specs.Before.{addressTest, readTest, storeTest, sectorStored}
-use Rattle.commands.specs.Steps.{readSector, askSector}
-use Rattle.commands.specs.Runs.{verifyFrom, eraseFrom, Erased}
-use Rattle.commands.specs.declared.Way.the-variants.{In, Out}
-use Rattle.account.specs.Plain.{Plain, ends, NotFound, Account, silent}
-use Rattle.account.specs.Course.{Course, courseOf}
+use Rattle.transfers.specs.Before.{addressTest, readTest, storeTest, sectorStored}
+use Rattle.transfers.specs.Steps.{readSector, askSector}
+use Rattle.commands.specs.Runs.{verifyFrom, eraseFrom}
+use Rattle.transfers.specs.declared.Way.the-variants.{In, Out}
+use Rattle.account.specs.Plain.{silent}
+use Rattle.account.specs.Course.{courseOf}
 use Rattle.account.specs.Runs.{readSectors, writeSectors, verifySectors, eraseSectors}
 use Rattle.account.specs.Table.{asked, fromFirst}
 use Rattle.account.specs.Host.{plainOf, plainIn, None}
-use Rattle.account.proofs.Seats.{courseIn, Shaped, Seated, Where, pastEnd, seat-room, seat-address}
-use Rattle.account.proofs.Stored.{Lent}
+use Rattle.account.proofs.Seats.{courseIn, Shaped, Seated, Where, seat-room, seat-address}
 use Rattle.account.proofs.Verifying.{verify-is}
 use Rattle.account.proofs.Erasing.{erase-is, erasedPlain}
 use Rattle.account.proofs.Rest.{restAt, rest, Ground, Between}

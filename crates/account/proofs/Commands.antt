@@ -1,47 +1,39 @@
 -- Every command begins as its account says.
-use Prim.Native.Nat.{ℕ, zero, suc, _+_, _-_, _*_, _/_, _%_, _≤_, _<_}
+use Prim.Native.Nat.{ℕ, _+_, _-_, _*_, _%_, _≤_}
 use mathlib.Core.Bool.{Bool, true, false, _||_}
-use mathlib.Core.Path.{_≡_, refl, sym, ap, _∙_, subst}
-use mathlib.Core.List.{List, [], _∷_, _++_}
-use native.Mathlib.Omega.{arith}
+use mathlib.Core.Path.{_≡_, refl, sym, ap}
+use mathlib.Core.List.{List}
 use lib.Dec.{ltb, eqb}
-use lib.ListN.{length, take, drop}
+use lib.ListN.{length}
 use Rattle.ground.specs.Choice.{pick}
 use Rattle.geometry.specs.declared.Geometry.{Geometry}
-use Rattle.geometry.specs.declared.Located.{Located}
 use Rattle.geometry.specs.declared.Sought.{Sought}
 use Rattle.geometry.specs.declared.Reshaped.{Reshaped}
 use Rattle.geometry.specs.Limits.{totalOf, currentFor}
 use Rattle.geometry.specs.Address.{locate, seek, byLba, lbaOf, headOf, cylinderOf}
 use Rattle.geometry.specs.Shape.{reshaped}
 use Rattle.geometry.specs.Codes.{currentAfter}
-use Rattle.geometry.proofs.Shapes.{after-current}
-use Rattle.identify.specs.Words.{identifyBytes}
-use Rattle.identify.proofs.Made.{identify-length}
-use Rattle.registers.specs.declared.Phase.the-variants.{Idle, DataIn, DataOut}
+use Rattle.registers.specs.declared.Phase.the-variants.{Idle}
 use Rattle.registers.specs.declared.State.{State}
 use Rattle.registers.specs.declared.Core.{Core}
 use Rattle.registers.specs.State.{Machine, machine, core, withCore}
 use Rattle.registers.specs.WellMade.{locatedIn, totalIn}
-use Rattle.commands.specs.declared.Way.{Way}
-use Rattle.commands.specs.declared.Way.the-variants.{In, Out}
-use Rattle.commands.specs.Ends.{ended}
-use Rattle.commands.specs.Steps.{withState, readSector, askSector}
+use Rattle.transfers.specs.declared.Way.{Way}
+use Rattle.transfers.specs.declared.Way.the-variants.{In, Out}
+use Rattle.transfers.specs.Steps.{readSector, askSector}
 use Rattle.commands.specs.Runs.{verifyFrom, eraseFrom}
-use Rattle.commands.specs.Table.{started, countOf, factsOf, geometrySet, soughtEnd, obeyed, withErased}
-use Rattle.account.specs.Plain.{Plain, sectorsOf, withCurrent, starts, Ending, Well, NotFound, Aborted, ends, Account, silent, moving}
+use Rattle.commands.specs.Table.{countOf, geometrySet, soughtEnd}
+use Rattle.account.specs.Plain.{sectorsOf, withCurrent, Well, NotFound, Aborted, ends, Account, silent}
 use Rattle.account.specs.Course.{courseOf}
 use Rattle.account.specs.Runs.{readSectors, writeSectors, verifySectors, eraseSectors}
-use Rattle.account.specs.Words.{identifyData}
-use Rattle.account.specs.Table.{asked, total, first, fromFirst, reads, writes, verifies, erases, shaped, setsGeometry, seeks, account}
-use Rattle.account.specs.Host.{plainOf, plainIn, Notes, None, blank}
+use Rattle.account.specs.Table.{asked, first, fromFirst, reads, writes, verifies, erases, shaped, setsGeometry, seeks, account}
+use Rattle.account.specs.Host.{plainOf, plainIn, None, blank}
 use Rattle.account.specs.Claim.{Bytes}
 use Rattle.account.proofs.Seats.{Shaped}
-use Rattle.account.proofs.Tried.{endingOf, ended-ends}
+use Rattle.account.proofs.Tried.{endingOf}
 use Rattle.account.proofs.Stored.{Lent}
-use Rattle.account.proofs.Settled.{Settled, verify-settled, erase-settled}
-use Rattle.account.proofs.Identifying.{identify-is, identify-bytes}
-use Rattle.account.proofs.Rest.{ByteWise, restAt, rest, doneIn, doneOut, Ground, Rel, Between}
+use Rattle.account.proofs.Settled.{Settled}
+use Rattle.account.proofs.Rest.{ByteWise, restAt, rest, Ground, Rel, Between}
 use Rattle.account.proofs.Begins.{asked-elim, Eight, read-begins, read-begins-held, write-begins, write-begins-held, verify-begins, erase-begins}
 
 -- what a card must be to be given a command

@@ -2,7 +2,7 @@
 use Prim.Native.Nat.{ℕ}
 use mathlib.Core.Bool.{Bool, true, false, false≢true}
 use mathlib.Core.Path.{_≡_, refl, sym, ap, _∙_, subst}
-use mathlib.Core.List.{List, [], _∷_}
+use mathlib.Core.List.{List, []}
 use Rattle.geometry.specs.declared.Located.{Located}
 use Rattle.geometry.specs.Shape.{reshaped}
 use Rattle.maps.specs.declared.Register.the-variants.{StatusCommand}
@@ -12,22 +12,22 @@ use Rattle.registers.specs.declared.Phase.the-variants.{Idle}
 use Rattle.registers.specs.WellMade.{heldIn, totalIn}
 use Rattle.commands.specs.declared.Command.{Command}
 use Rattle.commands.specs.declared.Command.the-variants.{Read, Write, Verify, Erase, Identify, ReadBuffer, WriteBuffer, SetGeometry, Diagnose, Recalibrate, Seek, Sense, Other}
-use Rattle.commands.specs.Steps.{withState}
+use Rattle.transfers.specs.Steps.{withState}
 use Rattle.commands.specs.Table.{commandOf, obeyed, started, countOf, quiet, commandGiven}
 use Rattle.card.specs.declared.Meaning.the-variants.{WriteRegister}
 use Rattle.card.specs.Access.{Access, meaning}
-use Rattle.card.specs.Step.{Stepped, step}
+use Rattle.card.specs.Step.{step}
 use Rattle.account.specs.Plain.{Plain, Ending, Well, NotFound, Unreadable, WriteFault, Aborted, ends, starts, Account, silent}
 use Rattle.account.specs.Rows.{Row, Reads, Writes, Verifies, Erases, Identifies, ReadsBuffer, WritesBuffer, SetsGeometry, Diagnoses, Recalibrates, Seeks, Senses, Others, rowOf}
-use Rattle.account.specs.Course.{Course, courseOf}
-use Rattle.account.specs.Runs.{Run, readRun, runEnds, readSectors}
-use Rattle.account.specs.Table.{asked, first, fromFirst, reads, account}
+use Rattle.account.specs.Course.{courseOf}
+use Rattle.account.specs.Runs.{readRun, readSectors}
+use Rattle.account.specs.Table.{asked, first, fromFirst, account}
 use Rattle.account.specs.Host.{plainOf, blank, wayOf, asks, Moves, Hosted, hosted}
-use Rattle.account.specs.Claim.{Typed, Agrees}
+use Rattle.account.specs.Claim.{Typed}
 use Rattle.account.proofs.SameRow.{rowFor, same-row}
 use Rattle.account.proofs.Settled.{verify-settled, erase-idle}
 use Rattle.account.proofs.Commands.{set-idle}
-use Rattle.account.proofs.Accepted.{given, neither}
+use Rattle.account.proofs.Accepted.{neither}
 use Rattle.account.proofs.Theorem.{command-given, as-the-account}
 
 -- a Command write that the theorem speaks of

@@ -1,25 +1,22 @@
 -- Erase: sector after sector in the machine, one run of indices in the account.
-use Prim.Native.Nat.{ℕ, zero, suc, _+_, _-_, _*_, _/_, _%_, _≤_, _<_}
-use mathlib.Core.Bool.{Bool, true, false}
-use mathlib.Core.Path.{_≡_, refl, sym, ap, _∙_, subst}
-use mathlib.Core.List.{List, [], _∷_, _++_}
+use Prim.Native.Nat.{ℕ, zero, suc, _+_, _-_}
+use mathlib.Core.Bool.{true}
+use mathlib.Core.Path.{_≡_, refl}
+use mathlib.Core.List.{List}
 use native.Mathlib.Omega.{arith}
-use lib.ListN.{length, set, replicate}
+use lib.ListN.{set, replicate}
 use Rattle.geometry.specs.Limits.{totalOf}
-use Rattle.sectors.specs.Sectors.{Kept, kept, stored}
 use Rattle.registers.specs.declared.State.{State}
-use Rattle.commands.specs.declared.End.{End}
-use Rattle.commands.specs.declared.Tested.{Tested}
-use Rattle.commands.specs.declared.Tested.the-variants.{Passes, Fails}
-use Rattle.commands.specs.Before.{storeTest, StoreTested, storedBy, sectorStored}
-use Rattle.commands.specs.Steps.{passed}
+use Rattle.transfers.specs.declared.Tested.{Tested}
+use Rattle.transfers.specs.Before.{storedBy, sectorStored}
+use Rattle.transfers.specs.Steps.{passed}
 use Rattle.commands.specs.Runs.{goesOn, eraseFrom, Erased, erased, blank}
-use Rattle.account.specs.Plain.{Plain, Ending, Well, NotFound, Unreadable, WriteFault, Aborted}
-use Rattle.account.specs.Course.{Course, named}
-use Rattle.account.specs.Runs.{Run, tried, stopped, oneMore, runFrom, tests, unwritable, runEnds, putSector, blanked, cleared, eraseSectors, eraseDone}
+use Rattle.account.specs.Plain.{Plain, Ending, Well, WriteFault}
+use Rattle.account.specs.Course.{Course}
+use Rattle.account.specs.Runs.{tried, stopped, runFrom, tests, unwritable, putSector, blanked, cleared, eraseSectors, eraseDone}
 use Rattle.account.specs.Host.{plainIn}
-use Rattle.account.proofs.Seats.{Shaped, Seated, Where, courseIn, onward, passed-on, seat-next, room-total}
-use Rattle.account.proofs.Tried.{endingOf, bad, stops-run, stops-ends, store-tested}
+use Rattle.account.proofs.Seats.{Shaped, Seated, Where, onward, passed-on, seat-next, room-total}
+use Rattle.account.proofs.Tried.{stops-run, stops-ends, store-tested}
 use Rattle.account.proofs.Stored.{Lent, stored-is, stored-lent, run-later}
 use Rattle.account.proofs.Verifying.{where-good, seated-last}
 

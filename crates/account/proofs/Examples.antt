@@ -1,12 +1,11 @@
 -- Two hosts that meet all of the theorem's hypotheses, by computing: bytes high half first through two maps, and a write that ends at mark 2.
 use Prim.Native.Nat.{ℕ, zero, suc}
-use mathlib.Core.Bool.{Bool, true, false}
+use mathlib.Core.Bool.{true, false}
 use mathlib.Core.Path.{_≡_, refl}
 use mathlib.Core.List.{List, [], _∷_, _++_}
 use lib.ListN.{getD, replicate}
 use Rattle.geometry.specs.declared.Geometry.{Geometry}
 use Rattle.registers.specs.State.{Machine}
-use Rattle.card.specs.declared.Answer.{Answer}
 use Rattle.card.specs.Doors.{machineOf}
 use Rattle.ground.specs.Choice.{every}
 use Rattle.geometry.specs.Limits.{fits, totalOf, currentFor}
@@ -19,25 +18,24 @@ use Rattle.maps.specs.Maps.{standsAt}
 use Rattle.sectors.specs.Marks.{readable, writable, marksFit}
 use Rattle.sectors.specs.Sectors.{sectorOf, withSector, bufferRead, stored}
 use Rattle.registers.specs.WellMade.{indexFits, sresetFits, atRest, statusFits, heldIn, holdFits, wordsFit, sectorsFit, loadFits, runFits, wellMade}
-use Rattle.geometry.specs.Codes.{found}
 use Rattle.registers.specs.Resets.{turnOf, optionTurned, bufferTurned, controlTurned}
 use Rattle.registers.specs.Values.{valueRead, afterRead, registerSet}
-use Rattle.commands.specs.Before.{addressTest, readTest, storeTest, sectorStored}
-use Rattle.commands.specs.Steps.{passed, readSector, nextRead, askSector, nextAsked}
+use Rattle.transfers.specs.Before.{addressTest, readTest, storeTest, sectorStored}
+use Rattle.transfers.specs.Steps.{passed, readSector, nextRead, askSector, nextAsked}
 use Rattle.port.specs.Halves.{takeOf}
 use Rattle.port.specs.Data.{wordRead, dataRead, wordWritten, dataWritten}
 use Rattle.commands.specs.Table.{commandOf, countOf, commandGiven}
 use Rattle.card.specs.Access.{Access, heldAway, decided, meaning}
 use Rattle.card.specs.Perform.{optionWritten, plainCore, registerWritten, perform}
-use Rattle.card.specs.Step.{Stepped, step, Played, play}
+use Rattle.card.specs.Step.{step, play}
 use Rattle.card.specs.Opening.{opened}
 use Rattle.registers.specs.PowerOn.{zeros}
-use Rattle.commands.specs.declared.Way.the-variants.{Out}
+use Rattle.transfers.specs.declared.Way.the-variants.{Out}
 use Rattle.maps.specs.declared.Register.the-variants.{StatusCommand}
 use Rattle.card.specs.declared.Meaning.the-variants.{WriteRegister}
 use Rattle.account.specs.Rows.{rowOf}
 use Rattle.account.specs.Table.{account}
-use Rattle.account.specs.Host.{plainOf, wayOf, blank, note, Notes, Hosted, hosted}
+use Rattle.account.specs.Host.{plainOf, wayOf, blank, note, hosted}
 use Rattle.account.specs.Claim.{Agrees}
 use Rattle.account.proofs.Theorem.{as-the-account}
 use Rattle.account.proofs.Hypotheses.{moves, moves-true, bytes, typed, typed-true}

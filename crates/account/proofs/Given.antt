@@ -13,9 +13,9 @@ use Rattle.registers.specs.State.{Machine, core}
 use Rattle.registers.specs.WellMade.{totalIn}
 use Rattle.commands.specs.declared.Command.{Command}
 use Rattle.commands.specs.declared.Command.the-variants.{Read, Write, Verify, Erase, Identify, ReadBuffer, WriteBuffer, SetGeometry, Diagnose, Recalibrate, Seek, Sense, Other}
-use Rattle.commands.specs.declared.End.{End}
-use Rattle.commands.specs.declared.Way.the-variants.{In, Out}
-use Rattle.commands.specs.Steps.{withState}
+use Rattle.transfers.specs.declared.End.{End}
+use Rattle.transfers.specs.declared.Way.the-variants.{In, Out}
+use Rattle.transfers.specs.Steps.{withState}
 use Rattle.commands.specs.Runs.{verifyFrom, eraseFrom}
 use Rattle.commands.specs.Table.{commandOf, started, countOf, factsOf, geometrySet, soughtEnd, obeyed}
 use Rattle.account.specs.Plain.{withBuffer, starts, ends, Ending, Well, silent, moving}

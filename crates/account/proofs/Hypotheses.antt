@@ -1,17 +1,17 @@
 -- The theorem's hypotheses as tests that can be computed.
-use Prim.Native.Nat.{ℕ, zero, suc, _<_}
-use mathlib.Core.Bool.{Bool, true, false, _&&_, not}
+use Prim.Native.Nat.{ℕ, zero, suc}
+use mathlib.Core.Bool.{Bool, true, _&&_, not}
 use mathlib.Core.Path.{_≡_}
 use mathlib.Core.List.{List, [], _∷_}
 use native.Mathlib.Omega.{arith}
 use lib.Dec.{eqb, ltb}
-use lib.ListN.{length, getD}
+use lib.ListN.{length}
 use borrow.Author.Tests.{not-true, ltb-true, eqb-true}
 use Rattle.ground.specs.Choice.{every}
 use Rattle.ground.proofs.Every.{each, and-left, and-right}
 use Rattle.registers.specs.State.{Machine}
 use Rattle.card.specs.Access.{Access, meaning}
-use Rattle.card.specs.Step.{Stepped, step}
+use Rattle.card.specs.Step.{step}
 use Rattle.account.specs.Host.{calm, asks, Moves}
 use Rattle.account.specs.Claim.{Bytes, Typed}
 

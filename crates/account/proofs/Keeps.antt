@@ -1,11 +1,9 @@
 -- Every access that is no reset and no command keeps the account, whatever it means.
 use Prim.Native.Nat.{ℕ}
 use mathlib.Core.Bool.{Bool, true, false, not, false≢true, true≢false}
-use mathlib.Core.Path.{_≡_, refl, sym, ap, _∙_, subst}
-use mathlib.Core.List.{List, [], _∷_, _++_, append-nil}
-use Rattle.ground.specs.Choice.{pick}
+use mathlib.Core.Path.{_≡_, refl}
+use mathlib.Core.List.{List, _++_, append-nil}
 use Rattle.ground.proofs.Picks.{no}
-use Rattle.answers.specs.declared.Outcome.{Outcome}
 use Rattle.maps.specs.declared.Port.{Port}
 use Rattle.maps.specs.declared.Register.{Register}
 use Rattle.maps.specs.declared.Register.the-variants.{ErrorFeature, SectorCount, SectorNumber, CylinderLow, CylinderHigh, DriveHead, StatusCommand, AlternateControl, DriveAddress}
@@ -15,15 +13,15 @@ use Rattle.registers.specs.declared.Core.{Core}
 use Rattle.registers.specs.State.{Machine, machine, core, coreOf, withCore, runs, sresetIn}
 use Rattle.registers.specs.Resets.{turnOf, optionTurned, bufferTurned, controlTurned, bitTwo, bitOne}
 use Rattle.registers.specs.Values.{afterRead}
-use Rattle.port.specs.Data.{Effect, accepted, heldValue, dataRead, dataWritten, phaseRead, phaseWritten}
-use Rattle.commands.specs.declared.Way.{Way}
-use Rattle.commands.specs.declared.Way.the-variants.{In, Out}
+use Rattle.port.specs.Data.{dataRead, dataWritten, phaseRead, phaseWritten}
+use Rattle.transfers.specs.declared.Way.{Way}
+use Rattle.transfers.specs.declared.Way.the-variants.{In, Out}
 use Rattle.card.specs.declared.Meaning.{Meaning}
 use Rattle.card.specs.declared.Meaning.the-variants.{TupleByte, ReadOption, WriteOption, ReadRegister, WriteRegister, ReadData, WriteData}
 use Rattle.card.specs.Perform.{optionWritten, plainCore, plainWritten, registerWritten, perform}
 use Rattle.account.specs.Plain.{Account, moving}
 use Rattle.account.specs.Host.{plainOf, Waiting, None, Notes, note, noteRead, noteWritten, calm, calmRegister, asks}
-use Rattle.account.proofs.Rest.{restAt, rest, outcome, Ground, Held, Rel}
+use Rattle.account.proofs.Rest.{restAt, outcome, Held, Rel}
 use Rattle.account.proofs.ReadKeeps.{read-keeps}
 use Rattle.account.proofs.WriteKeeps.{write-keeps}
 

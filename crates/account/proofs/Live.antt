@@ -1,12 +1,10 @@
 -- The theorem is not empty: after every accepted command there is a list of words at whose end the card stops asking.
-use Prim.Native.Nat.{ℕ, zero, suc, _+_, _-_, _*_, _≤_, _<_}
-use mathlib.Core.Bool.{Bool, true, false, true≢false}
+use Prim.Native.Nat.{ℕ, zero, suc, _-_, _≤_}
+use mathlib.Core.Bool.{Bool, true, false}
 use mathlib.Core.Path.{_≡_, refl, sym, ap, _∙_, subst}
-use mathlib.Core.List.{List, [], _∷_, _++_}
+use mathlib.Core.List.{List, [], _∷_}
 use native.Mathlib.Omega.{arith}
 use native.Mathlib.Nat.{le-refl}
-use Rattle.ground.specs.Choice.{pick}
-use Rattle.answers.specs.declared.Outcome.{Outcome}
 use Rattle.maps.specs.declared.Port.{Port}
 use Rattle.maps.specs.declared.Register.the-variants.{StatusCommand}
 use Rattle.registers.specs.declared.Half.{Half}
@@ -17,23 +15,23 @@ use Rattle.registers.specs.State.{Machine, runs, sresetIn, indexIn, withBuffer}
 use Rattle.registers.specs.WellMade.{heldIn}
 use Rattle.port.specs.declared.Part.{Part}
 use Rattle.port.specs.declared.Take.{Take}
-use Rattle.commands.specs.declared.Way.{Way}
-use Rattle.commands.specs.declared.Way.the-variants.{In, Out}
+use Rattle.transfers.specs.declared.Way.{Way}
+use Rattle.transfers.specs.declared.Way.the-variants.{In, Out}
 use Rattle.port.specs.Halves.{takeOf, partWritten}
-use Rattle.port.specs.Data.{Effect, accepted, phaseRead, phaseWritten, takenRead, takenWritten, wordRead, wordWritten}
-use Rattle.commands.specs.Steps.{withState}
+use Rattle.port.specs.Data.{takenRead, takenWritten}
+use Rattle.transfers.specs.Steps.{withState}
 use Rattle.commands.specs.Table.{commandGiven, quiet}
 use Rattle.card.specs.declared.Meaning.{Meaning}
 use Rattle.card.specs.declared.Meaning.the-variants.{ReadData, WriteData, WriteRegister}
 use Rattle.card.specs.Access.{Access, meaning}
 use Rattle.card.specs.Perform.{perform}
-use Rattle.card.specs.Step.{Stepped, step}
+use Rattle.card.specs.Step.{step}
 use Rattle.kept.specs.Sound.{Sound}
 use Rattle.kept.proofs.Step.{sound-stepped}
 use Rattle.account.specs.Plain.{Plain, Account}
 use Rattle.account.specs.Rows.{rowOf}
 use Rattle.account.specs.Table.{account}
-use Rattle.account.specs.Host.{plainOf, Waiting, None, LowByte, HighByte, Notes, blank, note, noteRead, noteWritten, wayOf, calm, asks, Moves}
+use Rattle.account.specs.Host.{plainOf, Waiting, None, Notes, blank, note, wayOf, calm, asks, Moves}
 use Rattle.account.specs.Claim.{Typed}
 use Rattle.account.specs.Live.{wordOf, WordsOnly}
 use Rattle.account.proofs.Rest.{Rel, Running, Held, Pending, bare}
@@ -42,7 +40,7 @@ use Rattle.account.proofs.Given.{begins-row}
 use Rattle.account.proofs.Accepted.{given, neither, lent-facts}
 use Rattle.account.proofs.Theorem.{command-given}
 use Rattle.account.proofs.WordMeans.{moving, word-means, width-two}
-use Rattle.account.proofs.Sizes.{size, sizeOf, leftIn, left-some, read-less, write-less}
+use Rattle.account.proofs.Sizes.{size, sizeOf, left-some, read-less, write-less}
 
 -- a list of words that a host may use, up to where the card stops asking
 abbrev pub Ends : Machine → Type 0

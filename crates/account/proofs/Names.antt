@@ -1,7 +1,7 @@
 -- How the registers name a sector: a good address is the name of its index, and the next address is the name of the next index.
 use Prim.Native.Nat.{ℕ, _+_, _*_, _-_, _/_, _%_, _≤_, _<_}
 use mathlib.Core.Bool.{Bool, true, false}
-use mathlib.Core.Path.{_≡_, refl, sym, ap, _∙_}
+use mathlib.Core.Path.{_≡_, sym, ap, _∙_}
 use native.Mathlib.Nat.{mul-add-div-right, mul-add-mod-self-right, div-eq-of-lt, mod-eq-of-lt, add-mul, div-le-self}
 use native.Mathlib.Omega.{arith}
 use lib.Dec.{ltb}
@@ -12,13 +12,13 @@ use Rattle.geometry.specs.declared.Geometry.{Geometry}
 use Rattle.geometry.specs.declared.Address.{Address}
 use Rattle.geometry.specs.declared.Spot.{Spot}
 use Rattle.geometry.specs.declared.Located.{Located}
-use Rattle.geometry.specs.Limits.{currentFor, capacityOf}
+use Rattle.geometry.specs.Limits.{currentFor}
 use Rattle.geometry.specs.Address.{byLba, headOf, cylinderOf, lbaOf, chsIndex, locateLba, locateChs, locate}
 use Rattle.geometry.specs.Next.{atLba, atChs, nextChs, nextOf}
 use Rattle.geometry.proofs.Limits.{current-facts}
 use Rattle.geometry.proofs.Inside.{Chs, chs-facts, lba-facts}
 use Rattle.geometry.proofs.Kept.{Bytes}
-use Rattle.account.specs.Course.{Course, lbaNamed, chsNamed, named}
+use Rattle.account.specs.Course.{lbaNamed, chsNamed}
 
 quotient : (q r s : ℕ) → r < s → (q * s + r) / s ≡ q
 quotient q r s h =

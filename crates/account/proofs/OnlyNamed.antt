@@ -1,25 +1,22 @@
 -- A write or an erase changes only sectors that it names: those from the first index on, as many as Count asks for.
 use Prim.Native.Nat.{ℕ, zero, suc, _+_, _-_, _*_, _≤_, _<_}
-use mathlib.Core.Bool.{Bool, true, false}
 use mathlib.Core.Path.{_≡_, refl, sym, ap, _∙_, subst}
-use mathlib.Core.List.{List, [], _∷_, _++_}
+use mathlib.Core.List.{List, _++_}
 use native.Mathlib.Omega.{arith}
-use lib.ListN.{length, getD, replicate, length-append}
+use lib.ListN.{length, replicate, length-append}
 use Rattle.geometry.specs.declared.Located.{Located}
 use Rattle.geometry.specs.Limits.{totalOf}
 use Rattle.maps.specs.declared.Register.the-variants.{StatusCommand}
 use Rattle.registers.specs.State.{Machine}
-use Rattle.registers.specs.WellMade.{locatedIn}
-use Rattle.commands.specs.declared.Way.the-variants.{In}
+use Rattle.transfers.specs.declared.Way.the-variants.{In}
 use Rattle.card.specs.Access.{Access}
-use Rattle.card.specs.Step.{Stepped, step}
-use Rattle.account.specs.Plain.{Plain, sectorsOf, starts, Ending, WriteFault, ends, Account, silent}
+use Rattle.card.specs.Step.{step}
+use Rattle.account.specs.Plain.{Plain, starts, WriteFault, Account, silent}
 use Rattle.account.specs.Rows.{Row, Writes, Erases, rowOf}
-use Rattle.account.specs.Course.{Course, courseOf}
+use Rattle.account.specs.Course.{courseOf}
 use Rattle.account.specs.Runs.{Run, tests, unwritable, writeRun, writeSectors, eraseSectors}
 use Rattle.account.specs.Table.{asked, first, fromFirst, account}
-use Rattle.account.specs.Host.{plainOf, Moves, Hosted}
-use Rattle.account.specs.Claim.{Agrees}
+use Rattle.account.specs.Host.{plainOf, Moves}
 use Rattle.account.proofs.Seats.{courseIn, seat-room, room-total}
 use Rattle.account.proofs.Rest.{Ground}
 use Rattle.account.proofs.Commands.{first-is}

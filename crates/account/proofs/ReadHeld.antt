@@ -1,11 +1,11 @@
 -- Reading: what holds between two accesses is kept from sector to sector.
-use Prim.Native.Nat.{ℕ, zero, suc, _+_, _-_, _*_, _/_, _%_, _≤_, _<_}
+use Prim.Native.Nat.{ℕ, zero, suc, _+_, _-_, _*_, _<_}
 use mathlib.Core.Bool.{Bool, true, false}
-use mathlib.Core.Path.{_≡_, refl, sym, ap, _∙_, subst}
-use mathlib.Core.List.{List, [], _∷_, _++_}
+use mathlib.Core.Path.{_≡_, refl}
+use mathlib.Core.List.{List, [], _∷_}
 use native.Mathlib.Omega.{arith}
-use lib.Dec.{ltb, eqb}
-use lib.ListN.{length, take, drop, getD, length-drop}
+use lib.Dec.{ltb}
+use lib.ListN.{length, take, drop, length-drop}
 use lib.Seq.{getD-drop, length-take-le}
 use borrow.Author.Tests.{ltb-true, ne-eqb}
 use Rattle.ground.specs.Choice.{pick}
@@ -14,14 +14,14 @@ use Rattle.geometry.specs.Limits.{totalOf}
 use Rattle.registers.specs.declared.Load.{Load}
 use Rattle.registers.specs.declared.Load.the-variants.{Sectors, Buffer}
 use Rattle.registers.specs.declared.Transfer.{Transfer}
-use Rattle.registers.specs.declared.Phase.the-variants.{Idle, DataIn, DataOut}
+use Rattle.registers.specs.declared.Phase.the-variants.{DataIn}
 use Rattle.registers.specs.State.{Machine}
 use Rattle.registers.specs.WellMade.{locatedIn}
-use Rattle.commands.specs.declared.Tested.{Tested}
-use Rattle.commands.specs.Steps.{withState, passed, readTested, readSector, nextRead, loadRead}
+use Rattle.transfers.specs.declared.Tested.{Tested}
+use Rattle.transfers.specs.Steps.{withState, passed, readTested, readSector, nextRead, loadRead}
 use Rattle.port.specs.Halves.{nextWord}
 use Rattle.port.specs.Data.{withPhase}
-use Rattle.commands.specs.declared.Way.the-variants.{In, Out}
+use Rattle.transfers.specs.declared.Way.the-variants.{In}
 use Rattle.account.specs.Plain.{Ending}
 use Rattle.account.specs.Course.{Course}
 use Rattle.account.specs.Runs.{sectorAt}

@@ -1,26 +1,21 @@
 -- Reading: each read of the data port keeps the account.
-use Prim.Native.Nat.{ℕ, zero, suc, _+_, _-_, _*_, _/_, _%_, _≤_, _<_}
-use mathlib.Core.Bool.{Bool, true, false}
-use mathlib.Core.Path.{_≡_, refl, sym, ap, _∙_, subst}
+use Prim.Native.Nat.{ℕ, _+_, _-_, _*_, _/_, _%_, _<_}
+use mathlib.Core.Path.{_≡_, refl}
 use mathlib.Core.List.{List, [], _∷_, _++_}
 use native.Mathlib.Omega.{arith}
-use lib.Dec.{ltb}
-use lib.ListN.{length, getD}
-use Rattle.ground.specs.Choice.{pick}
+use lib.ListN.{getD}
 use Rattle.maps.specs.declared.Port.{Port}
 use Rattle.registers.specs.declared.Half.{Half}
 use Rattle.registers.specs.declared.Transfer.{Transfer}
-use Rattle.registers.specs.declared.Phase.{Phase}
-use Rattle.registers.specs.declared.Phase.the-variants.{Idle, DataIn, DataOut}
+use Rattle.registers.specs.declared.Phase.the-variants.{DataIn}
 use Rattle.registers.specs.State.{Machine}
-use Rattle.commands.specs.Steps.{withState, loadRead}
 use Rattle.port.specs.Halves.{takeOf, halved}
 use Rattle.port.specs.declared.Part.{Part}
 use Rattle.port.specs.Data.{withPhase, wordRead, takenRead, phaseRead}
-use Rattle.commands.specs.declared.Way.the-variants.{In, Out}
+use Rattle.transfers.specs.declared.Way.the-variants.{In}
 use Rattle.account.specs.Plain.{Account, moving}
 use Rattle.account.specs.Host.{plainOf, Waiting, None, LowByte, HighByte, Notes, noteRead}
-use Rattle.account.proofs.Rest.{bare, restAt, rest, Ground, Running, Pending, Rel, account-word}
+use Rattle.account.proofs.Rest.{restAt, rest, Ground, Running, Pending, Rel, account-word}
 use Rattle.account.proofs.Reading.{word-rest}
 use Rattle.account.proofs.ReadHeld.{word-held}
 

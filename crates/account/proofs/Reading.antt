@@ -1,36 +1,30 @@
 -- Reading: from sector to sector the account of the rest is kept.
-use Prim.Native.Nat.{ℕ, zero, suc, _+_, _-_, _*_, _/_, _%_, _≤_, _<_}
+use Prim.Native.Nat.{ℕ, zero, suc, _+_, _-_, _*_, _/_, _<_}
 use mathlib.Core.Bool.{Bool, true, false}
-use mathlib.Core.Path.{_≡_, refl, sym, ap, _∙_, subst}
+use mathlib.Core.Path.{_≡_, refl, ap, _∙_}
 use mathlib.Core.List.{List, [], _∷_, _++_}
 use native.Mathlib.Omega.{arith}
-use lib.Dec.{ltb, eqb}
-use lib.ListN.{length, take, drop, set, getD, drop-of-length-le, length-drop}
-use lib.Seq.{drop-cons, getD-drop, length-take-le}
+use lib.Dec.{ltb}
+use lib.ListN.{length, drop, getD, drop-of-length-le}
+use lib.Seq.{drop-cons}
 use borrow.Author.Tests.{ltb-true, ltb-false, lt-ltb, ne-eqb}
 use Rattle.ground.specs.Choice.{pick}
 use Rattle.geometry.specs.declared.Located.{Located}
-use Rattle.geometry.specs.Codes.{indexOf}
 use Rattle.geometry.specs.Limits.{totalOf}
 use Rattle.sectors.specs.Sectors.{sectorOf, bufferRead}
 use Rattle.registers.specs.declared.Load.{Load}
 use Rattle.registers.specs.declared.Load.the-variants.{Sectors, Buffer}
 use Rattle.registers.specs.declared.Transfer.{Transfer}
-use Rattle.registers.specs.declared.Phase.{Phase}
-use Rattle.registers.specs.declared.Phase.the-variants.{Idle, DataIn, DataOut}
-use Rattle.registers.specs.declared.State.{State}
+use Rattle.registers.specs.declared.Phase.the-variants.{DataIn}
 use Rattle.registers.specs.State.{Machine}
 use Rattle.registers.specs.WellMade.{locatedIn}
-use Rattle.commands.specs.declared.End.{End}
-use Rattle.commands.specs.declared.Tested.{Tested}
-use Rattle.commands.specs.Before.{readTest}
-use Rattle.commands.specs.Steps.{withState, passed, readTested, readSector, nextRead, loadRead}
+use Rattle.transfers.specs.declared.Tested.{Tested}
+use Rattle.transfers.specs.Steps.{withState, passed, readTested, readSector, nextRead, loadRead}
 use Rattle.port.specs.Halves.{nextWord}
-use Rattle.port.specs.Data.{withPhase, wordRead}
-use Rattle.commands.specs.declared.Way.the-variants.{In, Out}
-use Rattle.account.specs.Plain.{Plain, Ending, Well, Unreadable, Account, silent, moving, withBuffer}
-use Rattle.account.specs.Course.{Course, named}
-use Rattle.account.specs.Runs.{Run, tried, stopped, runFrom, tests, unreadable, sectorsFrom, lastSector, sectorAt, readDone, readSectors}
+use Rattle.port.specs.Data.{withPhase}
+use Rattle.account.specs.Plain.{Plain, Ending, Unreadable, moving, withBuffer}
+use Rattle.account.specs.Course.{Course}
+use Rattle.account.specs.Runs.{tried, runFrom, tests, unreadable, sectorsFrom, lastSector, sectorAt, readDone, readSectors}
 use Rattle.account.specs.Host.{plainOf}
 use Rattle.account.proofs.Seats.{Shaped, Seated, Where, courseIn, onward, passed-on, seat-next, room-total}
 use Rattle.account.proofs.Tried.{stops-run, stops-ends, read-tested}

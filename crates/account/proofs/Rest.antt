@@ -1,7 +1,7 @@
 -- The plain account of the rest: what a card in the middle of a transfer still has to move, and how it will end. Each access keeps it.
-use Prim.Native.Nat.{ℕ, zero, suc, _+_, _-_, _*_, _%_, _≤_, _<_}
+use Prim.Native.Nat.{ℕ, suc, _+_, _-_, _*_, _%_, _≤_, _<_}
 use mathlib.Core.Bool.{Bool, true, false}
-use mathlib.Core.Path.{_≡_, refl, sym, ap, _∙_}
+use mathlib.Core.Path.{_≡_, refl, ap, _∙_}
 use mathlib.Core.List.{List, [], _∷_, _++_, append-assoc}
 use native.Mathlib.Omega.{arith}
 use lib.ListN.{length, take, drop, set, getD}
@@ -18,14 +18,14 @@ use Rattle.registers.specs.declared.Phase.the-variants.{Idle, DataIn, DataOut}
 use Rattle.registers.specs.declared.State.{State}
 use Rattle.registers.specs.State.{Machine, sresetIn}
 use Rattle.registers.specs.WellMade.{locatedIn}
-use Rattle.commands.specs.declared.Way.{Way}
-use Rattle.commands.specs.declared.Way.the-variants.{In, Out}
+use Rattle.transfers.specs.declared.Way.{Way}
+use Rattle.transfers.specs.declared.Way.the-variants.{In, Out}
 use Rattle.account.specs.Plain.{Plain, withBuffer, withStore, withStatus, Ending, Well, NotFound, Unreadable, WriteFault, Aborted, ends, Account, silent, moving}
 use Rattle.account.specs.Course.{Course, courseOf, named}
 use Rattle.account.specs.Runs.{Run, stopped, runEnds, unwritable, putSector, readSectors, writeSectors}
 use Rattle.account.specs.Host.{plainOf, plainIn, Waiting, None, LowByte, HighByte, Notes}
 use Rattle.account.specs.Claim.{Bytes}
-use Rattle.account.proofs.Seats.{courseIn, Shaped, Seated}
+use Rattle.account.proofs.Seats.{Shaped, Seated}
 use Rattle.account.proofs.Stored.{Lent}
 
 -- the account's card with another buffer

@@ -1,23 +1,22 @@
 -- The theorem is about what runs: a list of calls of `Card::access`, each as the code promises, ends as the account says.
 use Prim.Native.Nat.{ℕ}
 use mathlib.Core.Bool.{false}
-use mathlib.Core.Path.{_≡_, refl, sym, ap, _∙_, subst}
+use mathlib.Core.Path.{_≡_, sym, ap, _∙_}
 use mathlib.Core.List.{List, [], _∷_}
 use Rattle.maps.specs.declared.Register.the-variants.{StatusCommand}
 use Rattle.registers.specs.State.{Machine}
 use Rattle.registers.specs.WellMade.{heldIn}
-use Rattle.commands.specs.declared.Way.{Way}
+use Rattle.transfers.specs.declared.Way.{Way}
 use Rattle.card.specs.declared.Card.{Card}
-use Rattle.card.specs.declared.Answer.{Answer}
 use Rattle.card.specs.declared.Meaning.the-variants.{WriteRegister}
 use Rattle.card.specs.Access.{Access, meaning}
 use Rattle.card.specs.Step.{Stepped, step}
 use Rattle.card.specs.Doors.{machineOf}
 use Rattle.account.specs.Rows.{rowOf}
 use Rattle.account.specs.Table.{account}
-use Rattle.account.specs.Host.{plainOf, Notes, blank, note, wayOf, Moves, Hosted, hosted}
-use Rattle.account.specs.Claim.{Typed, Agrees}
-use Rattle.account.specs.Running.{Promised, Called}
+use Rattle.account.specs.Host.{plainOf, Notes, blank, note, wayOf, Moves, hosted}
+use Rattle.account.specs.Claim.{Typed}
+use Rattle.account.specs.Running.{Called}
 use Rattle.account.proofs.Theorem.{as-the-account}
 
 called-is : (l : List Access) (c : Card) (store marks : List ℕ) (k : Machine) (way : Way) (q : Notes) → Called c store marks l k → hosted way (machineOf c store marks) q l .machine ≡ k

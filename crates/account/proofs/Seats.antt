@@ -1,17 +1,16 @@
 -- A run's registers: at index i with n sectors left; and how they go on to the next index.
-use Prim.Native.Nat.{ℕ, zero, suc, _+_, _-_, _*_, _/_, _%_, _≤_, _<_}
-use mathlib.Core.Bool.{Bool, true, false, true≢false}
-use mathlib.Core.Path.{_≡_, refl, sym, ap, _∙_, subst}
-use mathlib.Core.List.{List, [], _∷_}
+use Prim.Native.Nat.{ℕ, suc, _+_, _-_, _%_, _≤_, _<_}
+use mathlib.Core.Bool.{Bool, true, false}
+use mathlib.Core.Path.{_≡_, refl, sym, ap, subst}
+use mathlib.Core.List.{List, []}
 use native.Mathlib.Omega.{arith}
-use lib.Dec.{ltb, eqb}
+use lib.Dec.{ltb}
 use borrow.Author.Tests.{ne-eqb}
 use Rattle.ground.specs.Choice.{pick}
 use Rattle.geometry.specs.declared.Geometry.{Geometry}
-use Rattle.geometry.specs.declared.Address.{Address}
 use Rattle.geometry.specs.declared.Located.{Located}
-use Rattle.geometry.specs.Limits.{fits, totalOf, currentFor}
-use Rattle.geometry.specs.Address.{byLba, roomOf, locate}
+use Rattle.geometry.specs.Limits.{totalOf, currentFor}
+use Rattle.geometry.specs.Address.{byLba, roomOf}
 use Rattle.geometry.specs.Next.{nextOf}
 use Rattle.geometry.proofs.Limits.{current-room}
 use Rattle.geometry.proofs.Inside.{inside-room}
@@ -21,8 +20,8 @@ use Rattle.registers.specs.declared.Made.{Made}
 use Rattle.registers.specs.declared.State.{State}
 use Rattle.registers.specs.State.{withCount, withAddress}
 use Rattle.registers.specs.WellMade.{locatedIn}
-use Rattle.commands.specs.Steps.{passed}
-use Rattle.account.specs.Plain.{Plain, sectorsOf, withPlace}
+use Rattle.transfers.specs.Steps.{passed}
+use Rattle.account.specs.Plain.{sectorsOf, withPlace}
 use Rattle.account.specs.Course.{Course, courseOf, named}
 use Rattle.account.specs.Host.{plainIn}
 use Rattle.account.proofs.Names.{named-self, next-named}

@@ -1,24 +1,23 @@
 -- Verify and Erase end at once: no transfer runs after them, and what holds between two accesses holds.
-use Prim.Native.Nat.{ℕ, zero, suc, _+_, _-_, _*_, _/_, _%_, _≤_, _<_}
+use Prim.Native.Nat.{ℕ, zero, suc, _-_, _/_, _%_, _≤_}
 use mathlib.Core.Bool.{Bool, true, false}
-use mathlib.Core.Path.{_≡_, refl, sym, ap, _∙_, subst}
-use mathlib.Core.List.{List, [], _∷_, _++_}
+use mathlib.Core.Path.{_≡_, refl, _∙_}
+use mathlib.Core.List.{List}
 use native.Mathlib.Omega.{arith}
 use lib.Dec.{ltb, eqb}
-use lib.ListN.{length, set, replicate}
+use lib.ListN.{length, replicate}
 use borrow.Author.Tests.{ltb-true, le-ltb, ltb-false}
 use Rattle.ground.specs.Choice.{pick}
-use Rattle.sectors.specs.Sectors.{Kept, kept, stored}
-use Rattle.registers.specs.declared.Phase.{Phase}
+use Rattle.sectors.specs.Sectors.{kept, stored}
 use Rattle.registers.specs.declared.Phase.the-variants.{Idle}
 use Rattle.registers.specs.declared.State.{State}
 use Rattle.registers.specs.declared.Core.{Core}
 use Rattle.registers.specs.State.{withCount, withAddress}
 use Rattle.geometry.specs.Next.{nextOf}
-use Rattle.commands.specs.declared.Tested.{Tested}
-use Rattle.commands.specs.declared.Tested.the-variants.{Passes, Fails}
-use Rattle.commands.specs.Before.{readTest, storeTest, StoreTested, storedBy, sectorStored}
-use Rattle.commands.specs.Steps.{passed}
+use Rattle.transfers.specs.declared.Tested.{Tested}
+use Rattle.transfers.specs.declared.Tested.the-variants.{Passes, Fails}
+use Rattle.transfers.specs.Before.{readTest, storeTest, storedBy, sectorStored}
+use Rattle.transfers.specs.Steps.{passed}
 use Rattle.commands.specs.Runs.{goesOn, verifyFrom, eraseFrom, Erased, erased, blank}
 use Rattle.account.proofs.Stored.{Lent, stored-is, stored-lent}
 

@@ -1,8 +1,7 @@
 -- How many words a card still asks for: each word makes it less.
-use Prim.Native.Nat.{ℕ, zero, suc, _+_, _-_, _*_, _≤_, _<_}
+use Prim.Native.Nat.{ℕ, suc, _-_, _*_, _≤_, _<_}
 use mathlib.Core.Bool.{Bool, true, false}
-use mathlib.Core.Path.{_≡_, refl, sym, ap, _∙_}
-use mathlib.Core.List.{List}
+use mathlib.Core.Path.{_≡_, refl}
 use native.Mathlib.Omega.{arith}
 use lib.Dec.{ltb, eqb}
 use borrow.Author.Tests.{ltb-true, ltb-false}
@@ -13,16 +12,16 @@ use Rattle.registers.specs.declared.Transfer.{Transfer}
 use Rattle.registers.specs.declared.Phase.{Phase}
 use Rattle.registers.specs.declared.Phase.the-variants.{Idle, DataIn, DataOut}
 use Rattle.registers.specs.declared.State.{State}
-use Rattle.registers.specs.State.{Machine, withBuffer}
-use Rattle.commands.specs.declared.Tested.{Tested}
-use Rattle.commands.specs.declared.Tested.the-variants.{Passes, Fails}
-use Rattle.commands.specs.Before.{addressTest, readTest, sectorStored}
-use Rattle.commands.specs.Steps.{withState, passed, readTested, readSector, nextRead, loadRead, askTested, askSector, nextAsked, coreWritten, loadWritten}
+use Rattle.registers.specs.State.{Machine}
+use Rattle.transfers.specs.declared.Tested.{Tested}
+use Rattle.transfers.specs.declared.Tested.the-variants.{Passes, Fails}
+use Rattle.transfers.specs.Before.{addressTest, readTest, sectorStored}
+use Rattle.transfers.specs.Steps.{withState, passed, readTested, readSector, nextRead, loadRead, askTested, askSector, nextAsked, coreWritten, loadWritten}
 use Rattle.registers.specs.declared.Core.{Core}
 use Rattle.port.specs.Halves.{nextWord}
 use Rattle.port.specs.Data.{withPhase, wordRead, wordWritten}
 use Rattle.account.specs.Plain.{Plain}
-use Rattle.account.proofs.Rest.{Loaded, bare}
+use Rattle.account.proofs.Rest.{Loaded}
 
 -- sectors left, the buffer being one
 abbrev pub leftIn : Load → ℕ

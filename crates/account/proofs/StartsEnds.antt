@@ -9,11 +9,11 @@ use Rattle.registers.specs.declared.Load.the-variants.{Buffer}
 use Rattle.registers.specs.declared.Phase.the-variants.{DataIn, DataOut}
 use Rattle.registers.specs.declared.State.{State}
 use Rattle.registers.specs.State.{machine, withError}
-use Rattle.commands.specs.declared.End.{End}
-use Rattle.commands.specs.declared.Way.{Way}
-use Rattle.commands.specs.declared.Way.the-variants.{In, Out}
-use Rattle.commands.specs.Ends.{ended}
-use Rattle.commands.specs.Steps.{fresh, begun}
+use Rattle.transfers.specs.declared.End.{End}
+use Rattle.transfers.specs.declared.Way.{Way}
+use Rattle.transfers.specs.declared.Way.the-variants.{In, Out}
+use Rattle.transfers.specs.Ends.{ended}
+use Rattle.transfers.specs.Steps.{fresh, begun}
 use Rattle.commands.specs.Table.{started, diagnosed}
 use Rattle.account.specs.Plain.{Plain, withBuffer, withStatus, starts, Ending, Well, ends, silent, moving}
 use Rattle.account.specs.Table.{diagnoses, senses}

@@ -1,17 +1,16 @@
 -- A stored sector: the machine's store and marks are the account's, their lengths stay, and the tests of later sectors see nothing of it.
-use Prim.Native.Nat.{ℕ, zero, suc, _+_, _-_, _*_, _/_, _%_, _≤_, _<_}
+use Prim.Native.Nat.{ℕ, zero, suc, _+_, _-_, _*_, _/_, _<_}
 use mathlib.Core.Bool.{Bool}
-use mathlib.Core.Path.{_≡_, refl, sym, ap, _∙_}
-use mathlib.Core.List.{List, [], _∷_, _++_}
+use mathlib.Core.Path.{_≡_, refl, _∙_}
+use mathlib.Core.List.{List}
 use native.Mathlib.Omega.{arith}
-use lib.ListN.{length, take, drop, set, getD, length-append, length-take, length-drop, length-set}
+use lib.ListN.{length, set, length-append, length-take, length-drop, length-set}
 use lib.Seq.{getD-set-other}
 use borrow.Author.Tests.{lt-ltb}
-use Rattle.ground.specs.Choice.{pick}
-use Rattle.sectors.specs.Sectors.{Kept, kept, stored, withSector}
-use Rattle.account.specs.Plain.{Ending, Well, NotFound, Unreadable, WriteFault, Aborted}
+use Rattle.sectors.specs.Sectors.{kept, stored, withSector}
+use Rattle.account.specs.Plain.{Ending}
 use Rattle.account.specs.Course.{Course}
-use Rattle.account.specs.Runs.{Run, tried, runFrom, tests, putSector}
+use Rattle.account.specs.Runs.{runFrom, tests, putSector}
 
 -- a store and marks of n sectors
 abbrev pub Lent : ℕ → List ℕ → List ℕ → Type 0

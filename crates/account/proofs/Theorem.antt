@@ -2,23 +2,23 @@
 use Prim.Native.Nat.{ℕ}
 use mathlib.Core.Bool.{Bool, true, false}
 use mathlib.Core.Path.{_≡_, refl, sym, ap, _∙_, subst}
-use mathlib.Core.List.{List, [], _∷_, _++_, append-nil}
+use mathlib.Core.List.{List, [], _∷_, append-nil}
 use Rattle.ground.specs.Choice.{pick}
 use Rattle.maps.specs.declared.Register.the-variants.{StatusCommand}
 use Rattle.registers.specs.State.{Machine, sresetIn}
 use Rattle.registers.specs.WellMade.{heldIn}
-use Rattle.commands.specs.declared.Way.{Way}
-use Rattle.commands.specs.Steps.{withState}
+use Rattle.transfers.specs.declared.Way.{Way}
+use Rattle.transfers.specs.Steps.{withState}
 use Rattle.commands.specs.Table.{quiet, commandGiven}
 use Rattle.card.specs.declared.Meaning.{Meaning}
 use Rattle.card.specs.declared.Meaning.the-variants.{WriteRegister}
 use Rattle.card.specs.Access.{Access, meaning}
 use Rattle.card.specs.Perform.{registerWritten, perform}
-use Rattle.card.specs.Step.{Stepped, step, Played, play}
+use Rattle.card.specs.Step.{step, play}
 use Rattle.account.specs.Plain.{Account}
 use Rattle.account.specs.Rows.{rowOf}
 use Rattle.account.specs.Table.{account}
-use Rattle.account.specs.Host.{plainOf, Notes, blank, note, wayOf, calm, asks, Moves, Hosted, hosted}
+use Rattle.account.specs.Host.{plainOf, Notes, blank, note, wayOf, Moves, hosted}
 use Rattle.account.specs.Claim.{Typed, Agrees}
 use Rattle.account.proofs.Rest.{Rel}
 use Rattle.account.proofs.Keeps.{keeps, closes, none-waits}

@@ -1,5 +1,5 @@
 -- The machine's tests before a sector are the account's tests of its index, and its ends are the account's ends.
-use Prim.Native.Nat.{ℕ, suc, _%_, _<_}
+use Prim.Native.Nat.{ℕ, _%_, _<_}
 use mathlib.Core.Bool.{Bool, true, false, not, _||_, false≢true, true≢false}
 use mathlib.Core.Path.{_≡_, refl, sym, ap, _∙_, subst}
 use mathlib.Core.List.{List}
@@ -10,11 +10,11 @@ use Rattle.ground.specs.Choice.{pick}
 use Rattle.geometry.specs.declared.Located.{Located}
 use Rattle.sectors.specs.Marks.{readable, writable}
 use Rattle.registers.specs.declared.State.{State}
-use Rattle.commands.specs.declared.End.{End}
-use Rattle.commands.specs.declared.Tested.{Tested}
-use Rattle.commands.specs.declared.Tested.the-variants.{Passes, Fails}
-use Rattle.commands.specs.Ends.{ended}
-use Rattle.commands.specs.Before.{addressTest, testedOf, markTested, readTest, storeTest}
+use Rattle.transfers.specs.declared.End.{End}
+use Rattle.transfers.specs.declared.Tested.{Tested}
+use Rattle.transfers.specs.declared.Tested.the-variants.{Passes, Fails}
+use Rattle.transfers.specs.Ends.{ended}
+use Rattle.transfers.specs.Before.{addressTest, testedOf, markTested, readTest, storeTest}
 use Rattle.account.specs.Plain.{Plain, Ending, Well, NotFound, Unreadable, WriteFault, Aborted, ends, withPlace}
 use Rattle.account.specs.Course.{Course, named}
 use Rattle.account.specs.Runs.{Run, tried, stopped, tests, unreadable, unwritable, runEnds}

@@ -8,8 +8,8 @@ use borrow.Author.Tests.{lt-ltb}
 use Rattle.geometry.specs.declared.Located.{Located}
 use Rattle.registers.specs.declared.State.{State}
 use Rattle.registers.specs.WellMade.{locatedIn}
-use Rattle.commands.specs.declared.Tested.{Tested}
-use Rattle.commands.specs.Steps.{passed}
+use Rattle.transfers.specs.declared.Tested.{Tested}
+use Rattle.transfers.specs.Steps.{passed}
 use Rattle.commands.specs.Runs.{goesOn, verifyFrom}
 use Rattle.account.specs.Plain.{Ending, Well, Unreadable}
 use Rattle.account.specs.Course.{Course, named}

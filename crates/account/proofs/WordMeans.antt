@@ -1,14 +1,11 @@
 -- A word at the data address of the map that is set means data.
-use Prim.Native.Nat.{ℕ, zero, suc, _%_, _*_, _≤_}
+use Prim.Native.Nat.{ℕ, zero, suc, _≤_}
 use mathlib.Core.Bool.{Bool, true, false}
 use mathlib.Core.Path.{_≡_, refl, sym, ap, _∙_}
-use mathlib.Core.List.{List, [], _∷_}
 use native.Mathlib.Omega.{arith}
 use lib.Dec.{eqb}
-use lib.ListN.{length}
 use borrow.Author.Tests.{eq-eqb, leb-true}
 use Rattle.ground.specs.Choice.{pick}
-use Rattle.geometry.specs.Limits.{fits, currentFor, totalOf}
 use Rattle.ground.proofs.Every.{each}
 use Rattle.maps.specs.declared.Mode.{Mode}
 use Rattle.maps.specs.declared.Mode.the-variants.{PcCard, TrueIde}
@@ -19,7 +16,7 @@ use Rattle.maps.specs.Places.{misfits, evenData, portAt, placeAt, registerAt}
 use Rattle.maps.specs.Maps.{standsAt}
 use Rattle.registers.specs.declared.State.{State}
 use Rattle.registers.specs.State.{Machine, sresetIn, indexIn}
-use Rattle.registers.specs.WellMade.{totalIn, indexFits, sresetFits, statusFits, heldIn, holdFits, wordsFit, runFits, wellMade}
+use Rattle.registers.specs.WellMade.{indexFits, wellMade}
 use Rattle.card.specs.declared.Meaning.{Meaning}
 use Rattle.card.specs.declared.Meaning.the-variants.{ReadData, WriteData}
 use Rattle.card.specs.Access.{Access, standing, heldAway, decided, meaning}

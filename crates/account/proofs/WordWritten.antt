@@ -1,11 +1,11 @@
 -- Writing: the last byte of a sector has come, and a word has come.
-use Prim.Native.Nat.{ℕ, zero, suc, _+_, _-_, _*_, _/_, _%_, _≤_, _<_}
+use Prim.Native.Nat.{ℕ, zero, suc, _+_, _-_, _*_, _<_}
 use mathlib.Core.Bool.{Bool, true, false}
-use mathlib.Core.Path.{_≡_, refl, sym, ap, _∙_, subst}
+use mathlib.Core.Path.{_≡_, refl, sym, _∙_}
 use mathlib.Core.List.{List, [], _∷_, _++_, append-assoc}
 use native.Mathlib.Omega.{arith}
 use lib.Dec.{ltb}
-use lib.ListN.{length, take, drop, set, getD, length-set}
+use lib.ListN.{length, take, set, getD, length-set}
 use lib.Seq.{take-all, take-suc-set, take-suc, take-set-le, getD-set-same, getD-set-other}
 use borrow.Author.Tests.{ltb-true, ltb-false}
 use Rattle.ground.specs.Choice.{pick}
@@ -15,24 +15,24 @@ use Rattle.sectors.specs.Marks.{writable}
 use Rattle.registers.specs.declared.Load.{Load}
 use Rattle.registers.specs.declared.Load.the-variants.{Sectors, Buffer}
 use Rattle.registers.specs.declared.Transfer.{Transfer}
-use Rattle.registers.specs.declared.Phase.the-variants.{Idle, DataIn, DataOut}
+use Rattle.registers.specs.declared.Phase.the-variants.{DataOut}
 use Rattle.registers.specs.declared.State.{State}
 use Rattle.registers.specs.State.{Machine, withBuffer}
 use Rattle.registers.specs.WellMade.{locatedIn}
-use Rattle.commands.specs.declared.End.{End}
-use Rattle.commands.specs.declared.Tested.the-variants.{Passes, Fails}
-use Rattle.commands.specs.Before.{addressTest, storeTest, sectorStored}
-use Rattle.commands.specs.Steps.{withState, loadWritten}
+use Rattle.transfers.specs.declared.End.{End}
+use Rattle.transfers.specs.declared.Tested.the-variants.{Passes, Fails}
+use Rattle.transfers.specs.Before.{addressTest, storeTest, sectorStored}
+use Rattle.transfers.specs.Steps.{withState, loadWritten}
 use Rattle.port.specs.Halves.{nextWord}
 use Rattle.port.specs.Data.{withPhase}
-use Rattle.account.specs.Plain.{Account, moving}
+use Rattle.account.specs.Plain.{moving}
 use Rattle.account.specs.Runs.{unwritable}
 use Rattle.account.specs.Host.{plainOf}
 use Rattle.account.proofs.Seats.{Shaped, courseIn, seat-room, room-total}
 use Rattle.account.proofs.Tried.{unwrite-opposite}
 use Rattle.account.proofs.Stored.{Lent}
 use Rattle.account.proofs.Reading.{pred}
-use Rattle.account.proofs.Rest.{bare, here, doneOut, restAt, rest, overBuffer, Loaded}
+use Rattle.account.proofs.Rest.{bare, here, doneOut, restAt, rest, Loaded}
 use Rattle.account.proofs.Writing.{done-over, marked-rest}
 
 -- the tests at the last byte, of a valid address

@@ -1,10 +1,10 @@
 -- Writing: what holds between two accesses is kept from sector to sector.
-use Prim.Native.Nat.{ℕ, zero, suc, _+_, _-_, _*_, _/_, _%_, _≤_, _<_}
+use Prim.Native.Nat.{ℕ, zero, suc, _+_, _-_, _<_}
 use mathlib.Core.Bool.{Bool, true, false}
-use mathlib.Core.Path.{_≡_, refl, sym, ap, _∙_, subst}
-use mathlib.Core.List.{List, [], _∷_, _++_}
+use mathlib.Core.Path.{_≡_, refl, sym, subst}
+use mathlib.Core.List.{List}
 use native.Mathlib.Omega.{arith}
-use lib.Dec.{ltb, eqb}
+use lib.Dec.{ltb}
 use lib.ListN.{length, set, getD}
 use borrow.Author.Tests.{ltb-true, ne-eqb}
 use Rattle.ground.specs.Choice.{pick}
@@ -14,17 +14,17 @@ use Rattle.sectors.specs.Marks.{writable}
 use Rattle.registers.specs.declared.Load.{Load}
 use Rattle.registers.specs.declared.Load.the-variants.{Sectors, Buffer}
 use Rattle.registers.specs.declared.Transfer.{Transfer}
-use Rattle.registers.specs.declared.Phase.the-variants.{Idle, DataIn, DataOut}
+use Rattle.registers.specs.declared.Phase.the-variants.{DataOut}
 use Rattle.registers.specs.declared.State.{State}
 use Rattle.registers.specs.State.{Machine, machine, withBuffer}
 use Rattle.registers.specs.WellMade.{locatedIn}
-use Rattle.commands.specs.declared.End.{End}
-use Rattle.commands.specs.declared.Tested.the-variants.{Passes, Fails}
-use Rattle.commands.specs.Before.{addressTest, testedOf, storedBy, sectorStored}
-use Rattle.commands.specs.Steps.{idle, withState, passed, askTested, askSector, nextAsked, writtenBy, loadWritten}
+use Rattle.transfers.specs.declared.End.{End}
+use Rattle.transfers.specs.declared.Tested.the-variants.{Passes, Fails}
+use Rattle.transfers.specs.Before.{addressTest, testedOf, storedBy, sectorStored}
+use Rattle.transfers.specs.Steps.{idle, withState, passed, askTested, askSector, nextAsked, writtenBy, loadWritten}
 use Rattle.port.specs.Halves.{nextWord}
 use Rattle.port.specs.Data.{withPhase}
-use Rattle.commands.specs.declared.Way.the-variants.{In, Out}
+use Rattle.transfers.specs.declared.Way.the-variants.{Out}
 use Rattle.account.specs.Course.{Course}
 use Rattle.account.specs.Runs.{putSector}
 use Rattle.account.specs.Host.{plainOf, None, Waiting}

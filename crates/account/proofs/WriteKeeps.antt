@@ -1,24 +1,21 @@
 -- Writing: each write of the data port keeps the account.
-use Prim.Native.Nat.{ℕ, zero, suc, _+_, _-_, _*_, _/_, _%_, _≤_, _<_}
-use mathlib.Core.Bool.{Bool, true, false}
-use mathlib.Core.Path.{_≡_, refl, sym, ap, _∙_, subst}
+use Prim.Native.Nat.{ℕ, _+_, _-_, _*_, _/_, _%_, _<_}
+use mathlib.Core.Path.{_≡_, refl, _∙_}
 use mathlib.Core.List.{List, [], _∷_, _++_}
 use native.Mathlib.Omega.{arith}
-use lib.Dec.{ltb}
 use lib.ListN.{length, take, set, getD, length-set}
-use Rattle.ground.specs.Choice.{pick}
 use Rattle.maps.specs.declared.Port.{Port}
 use Rattle.registers.specs.declared.Half.{Half}
 use Rattle.registers.specs.declared.Transfer.{Transfer}
-use Rattle.registers.specs.declared.Phase.the-variants.{Idle, DataIn, DataOut}
+use Rattle.registers.specs.declared.Phase.the-variants.{DataOut}
 use Rattle.registers.specs.State.{Machine, withBuffer}
 use Rattle.port.specs.declared.Part.{Part}
 use Rattle.port.specs.Halves.{takeOf, halved}
 use Rattle.port.specs.Data.{withPhase, wordWritten, takenWritten, phaseWritten}
-use Rattle.commands.specs.declared.Way.the-variants.{In, Out}
+use Rattle.transfers.specs.declared.Way.the-variants.{Out}
 use Rattle.account.specs.Plain.{Account, moving}
 use Rattle.account.specs.Host.{plainOf, Waiting, None, LowByte, HighByte, Notes, noteWritten}
-use Rattle.account.proofs.Rest.{bare, restAt, rest, Ground, Running, Pending, Rel, account-word}
+use Rattle.account.proofs.Rest.{restAt, rest, Ground, Running, Pending, Rel, account-word}
 use Rattle.account.proofs.Writing.{done-over}
 use Rattle.account.proofs.WordWritten.{word-written-rest, set-whole, set-high, set-low, low-kept, high-kept, low-stands, high-stands}
 use Rattle.account.proofs.WriteHeld.{word-written-held}

@@ -1,43 +1,35 @@
 -- Writing: from sector to sector the account of the rest is kept.
-use Prim.Native.Nat.{ℕ, zero, suc, _+_, _-_, _*_, _/_, _%_, _≤_, _<_}
+use Prim.Native.Nat.{ℕ, zero, suc, _+_, _-_, _<_}
 use mathlib.Core.Bool.{Bool, true, false, not, true≢false, false≢true}
 use mathlib.Core.Path.{_≡_, refl, sym, ap, _∙_, subst}
-use mathlib.Core.List.{List, [], _∷_, _++_, append-assoc}
+use mathlib.Core.List.{List}
 use native.Mathlib.Omega.{arith}
-use lib.Dec.{ltb, eqb}
-use lib.ListN.{length, take, drop, set, getD}
-use lib.Seq.{take-all}
-use borrow.Author.Tests.{ltb-true, ltb-false, lt-ltb, ne-eqb}
+use lib.Dec.{ltb}
+use lib.ListN.{take, drop, set, getD}
+use borrow.Author.Tests.{ltb-true, lt-ltb, ne-eqb}
 use Rattle.ground.specs.Choice.{pick}
 use Rattle.geometry.specs.declared.Located.{Located}
 use Rattle.geometry.specs.Limits.{totalOf}
-use Rattle.sectors.specs.Marks.{writable}
-use Rattle.sectors.specs.Sectors.{Kept, kept, stored}
 use Rattle.registers.specs.declared.Load.{Load}
 use Rattle.registers.specs.declared.Load.the-variants.{Sectors, Buffer}
-use Rattle.registers.specs.declared.Transfer.{Transfer}
-use Rattle.registers.specs.declared.Phase.the-variants.{Idle, DataIn, DataOut}
 use Rattle.registers.specs.declared.State.{State}
-use Rattle.registers.specs.State.{Machine, machine, withBuffer}
+use Rattle.registers.specs.State.{Machine, machine}
 use Rattle.registers.specs.WellMade.{locatedIn}
-use Rattle.commands.specs.declared.End.{End}
-use Rattle.commands.specs.declared.Tested.{Tested}
-use Rattle.commands.specs.declared.Tested.the-variants.{Passes, Fails}
-use Rattle.commands.specs.Before.{addressTest, testedOf, storeTest, StoreTested, storedBy, sectorStored}
-use Rattle.commands.specs.Steps.{withState, passed, askTested, askSector, nextAsked, coreWritten, writtenBy, loadWritten}
-use Rattle.port.specs.Halves.{nextWord}
-use Rattle.port.specs.Data.{withPhase}
-use Rattle.account.specs.Plain.{Plain, Ending, Well, NotFound, Unreadable, WriteFault, Aborted, withStatus, withStore, Account, silent, moving}
+use Rattle.transfers.specs.declared.End.{End}
+use Rattle.transfers.specs.declared.Tested.the-variants.{Passes, Fails}
+use Rattle.transfers.specs.Before.{addressTest, testedOf, storedBy}
+use Rattle.transfers.specs.Steps.{passed, askTested, askSector, nextAsked, writtenBy}
+use Rattle.account.specs.Plain.{Plain, Ending, Well, NotFound, Unreadable, WriteFault, Aborted, withStatus, withStore, moving}
 use Rattle.account.proofs.Rest.{overBuffer}
-use Rattle.account.specs.Course.{Course, named}
-use Rattle.account.specs.Runs.{Run, tried, stopped, oneMore, runFrom, tests, unwritable, runEnds, firstOf, lastOf, replaced, cleared, movedBy, putSector, writeDone, writeSectors}
+use Rattle.account.specs.Course.{Course}
+use Rattle.account.specs.Runs.{tried, runFrom, tests, unwritable, firstOf, lastOf, replaced, cleared, movedBy, putSector, writeDone, writeSectors}
 use Rattle.account.specs.Host.{plainOf, plainIn}
-use Rattle.account.proofs.Seats.{Shaped, Seated, Where, pastEnd, courseIn, onward, passed-on, seat-next, seat-room}
-use Rattle.account.proofs.Tried.{stops-run, stops-ends, unwrite-opposite}
+use Rattle.account.proofs.Seats.{Shaped, Seated, Where, pastEnd, onward, passed-on, seat-next}
+use Rattle.account.proofs.Tried.{stops-ends}
 use Rattle.account.proofs.Stored.{Lent, stored-is, run-later}
-use Rattle.account.proofs.Verifying.{where-good, seated-last}
+use Rattle.account.proofs.Verifying.{seated-last}
 use Rattle.account.proofs.Reading.{pred}
-use Rattle.account.proofs.Rest.{here, doneOut, storedThen, restAt, rest, run-status, Loaded}
+use Rattle.account.proofs.Rest.{doneOut, storedThen, restAt, rest, run-status}
 
 -- ---- the account of a sector, and of the rest
 

@@ -10,12 +10,12 @@ use Rattle.maps.specs.declared.Register.the-variants.{ErrorFeature, SectorCount
 use Rattle.registers.specs.declared.State.{State}
 use Rattle.registers.specs.State.{Machine, runs, sresetIn}
 use Rattle.registers.specs.Resets.{bitTwo}
-use Rattle.commands.specs.declared.Way.{Way}
-use Rattle.commands.specs.declared.Way.the-variants.{In, Out}
+use Rattle.transfers.specs.declared.Way.{Way}
+use Rattle.transfers.specs.declared.Way.the-variants.{In, Out}
 use Rattle.card.specs.declared.Meaning.{Meaning}
 use Rattle.card.specs.declared.Meaning.the-variants.{TupleByte, ReadOption, WriteOption, ReadRegister, WriteRegister, ReadData, WriteData}
 use Rattle.card.specs.Access.{Access, meaning}
-use Rattle.card.specs.Step.{Stepped, step}
+use Rattle.card.specs.Step.{step}
 use Rattle.account.specs.Plain.{Plain}
 use Rattle.account.specs.Rows.{Row, Reads, Writes, Verifies, Erases, Identifies, ReadsBuffer, WritesBuffer, SetsGeometry, Diagnoses, Recalibrates, Seeks, Senses, Others}
 

@@ -1,7 +1,7 @@
 -- The sector commands: "read sectors", "write", "as read, no data", "as write, storing FFH, no data", in whole sectors from a first index.
 use Prim.Native.Nat.{ℕ, zero, suc, _+_, _-_, _*_, _%_}
 use mathlib.Core.Bool.{Bool, not, _||_}
-use mathlib.Core.List.{List, [], _∷_, _++_}
+use mathlib.Core.List.{List, [], _++_}
 use lib.Dec.{ltb, eqb}
 use lib.ListN.{take, drop, set, getD, replicate}
 use Rattle.ground.specs.Choice.{pick}

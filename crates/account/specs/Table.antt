@@ -1,16 +1,16 @@
 -- 01, "Commands", the table: the plain account of each row. It knows the card's registers, not how they are reached.
 use Prim.Native.Nat.{ℕ, _+_, _*_, _/_, _%_}
-use mathlib.Core.Bool.{Bool, true, false, _||_}
-use mathlib.Core.List.{List, [], _∷_}
+use mathlib.Core.Bool.{_||_}
+use mathlib.Core.List.{List}
 use lib.Dec.{ltb, eqb}
 use lib.ListN.{take}
 use Rattle.ground.specs.Choice.{pick}
 use Rattle.geometry.specs.declared.Geometry.{Geometry}
 use Rattle.geometry.specs.declared.Located.{Located}
 use Rattle.geometry.specs.Address.{byLba, lbaOf, headOf, cylinderOf, locate}
-use Rattle.account.specs.Plain.{Plain, sectorsOf, withRegisters, withCurrent, withBuffer, withError, starts, Ending, Well, NotFound, Unreadable, WriteFault, Aborted, ends, Account, silent, moving}
+use Rattle.account.specs.Plain.{Plain, sectorsOf, withRegisters, withCurrent, withBuffer, withError, starts, Ending, Well, NotFound, Aborted, ends, Account, silent, moving}
 use Rattle.account.specs.Rows.{Row, Reads, Writes, Verifies, Erases, Identifies, ReadsBuffer, WritesBuffer, SetsGeometry, Diagnoses, Recalibrates, Seeks, Senses, Others}
-use Rattle.account.specs.Course.{Course, courseOf}
+use Rattle.account.specs.Course.{courseOf}
 use Rattle.account.specs.Runs.{readSectors, writeSectors, verifySectors, eraseSectors}
 use Rattle.account.specs.Words.{identifyData}
 

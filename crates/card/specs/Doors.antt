@@ -1,7 +1,6 @@
 -- The doors by value: a card goes in and comes back in the answer.
 use Prim.Native.Nat.{ℕ}
 use mathlib.Core.Path.{_≡_}
-use mathlib.Core.Bool.{Bool, true, false}
 use mathlib.Core.List.{List}
 use lib.Dec.{leb}
 use Rattle.ground.specs.Choice.{pick}

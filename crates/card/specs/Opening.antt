@@ -1,6 +1,6 @@
 -- The opening: refusals 1, 2, 3, 5, 4 in this order; else power-on.
 use Prim.Native.Nat.{ℕ, _*_}
-use mathlib.Core.Bool.{Bool, true, false}
+use mathlib.Core.Bool.{false}
 use mathlib.Core.List.{List}
 use lib.Dec.{eqb, leb}
 use lib.ListN.{length}

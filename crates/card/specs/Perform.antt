@@ -1,6 +1,5 @@
 -- What an access does, once it is known what it means.
 use Prim.Native.Nat.{ℕ}
-use mathlib.Core.Bool.{Bool, true, false}
 use Rattle.ground.specs.Choice.{pick}
 use Rattle.answers.specs.declared.Outcome.{Outcome}
 use Rattle.maps.specs.declared.Register.{Register}
@@ -10,7 +9,7 @@ use Rattle.registers.specs.State.{Machine, machine, core, coreOf, withCore, run
 use Rattle.registers.specs.Resets.{optionTurn, optionTurned, bufferTurned, controlWritten}
 use Rattle.registers.specs.Values.{valueRead, afterRead, registerSet}
 use Rattle.port.specs.declared.Done.{Done}
-use Rattle.commands.specs.Steps.{withState}
+use Rattle.transfers.specs.Steps.{withState}
 use Rattle.port.specs.Data.{Effect, effect, accepted, dataRead, dataWritten}
 use Rattle.commands.specs.Table.{commandGiven}
 use Rattle.card.specs.declared.Meaning.{Meaning}

@@ -10,10 +10,9 @@ use registers::Core;
 use registers::Phase;
 use registers::State;
 ghost use mathlib.Core.Path.{_≡_};
-ghost use mathlib.Core.Bool.{Bool};
 ghost use Rattle.registers.specs.State.{machine};
 ghost use Rattle.port.specs.Data.{effect};
-ghost use Rattle.card.specs.Access.{Access, targeted, standing, heldAway, decided};
+ghost use Rattle.card.specs.Access.{targeted, heldAway, decided};
 ghost use Rattle.card.specs.Perform.{plainCore, registerWritten, registerRead, perform};
 ghost use Rattle.card.specs.Step.{replyOf, replied, worked, step};
 

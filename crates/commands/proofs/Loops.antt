@@ -7,11 +7,11 @@ use mathlib.Core.Bool.{true}
 use mathlib.Core.List.{List}
 use Rattle.geometry.specs.declared.Spot.{Spot}
 use Rattle.registers.specs.declared.State.{State}
-use Rattle.commands.specs.declared.End.{End}
-use Rattle.commands.specs.declared.Tested.the-variants.{Passes, Fails}
-use Rattle.commands.specs.Ends.{ended}
-use Rattle.commands.specs.Before.{readTest, storeTested, sectorStored}
-use Rattle.commands.specs.Steps.{passed}
+use Rattle.transfers.specs.declared.End.{End}
+use Rattle.transfers.specs.declared.Tested.the-variants.{Passes, Fails}
+use Rattle.transfers.specs.Ends.{ended}
+use Rattle.transfers.specs.Before.{readTest, storeTested, sectorStored}
+use Rattle.transfers.specs.Steps.{passed}
 use Rattle.commands.specs.Runs.{verifyFrom, erased, blank, eraseFrom}
 
 pub verify-end : (n : ℕ) (s : State) (marks : List ℕ) → n ≤ 0 → verifyFrom n s marks ≡ ended End.Good true s

@@ -5,12 +5,12 @@ use mathlib.Core.List.{List}
 use lib.ListN.{replicate}
 use Rattle.registers.specs.declared.State.{State}
 use Rattle.registers.specs.declared.Core.{Core}
-use Rattle.commands.specs.declared.End.the-variants.{Good}
-use Rattle.commands.specs.declared.Tested.{Tested}
-use Rattle.commands.specs.declared.Tested.the-variants.{Passes, Fails}
-use Rattle.commands.specs.Ends.{ended}
-use Rattle.commands.specs.Before.{readTest, sectorStored, StoreTested}
-use Rattle.commands.specs.Steps.{passed}
+use Rattle.transfers.specs.declared.End.the-variants.{Good}
+use Rattle.transfers.specs.declared.Tested.{Tested}
+use Rattle.transfers.specs.declared.Tested.the-variants.{Passes, Fails}
+use Rattle.transfers.specs.Ends.{ended}
+use Rattle.transfers.specs.Before.{readTest, sectorStored}
+use Rattle.transfers.specs.Steps.{passed}
 
 -- the rest where the sector's tests hold, else the end
 abbrev pub goesOn {ℓ} : {A : Type ℓ} → Tested → (Core → A) → State → A → A

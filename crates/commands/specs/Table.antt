@@ -1,6 +1,6 @@
 -- 01, "Commands": the table.
 use Prim.Native.Nat.{ℕ, _/_}
-use mathlib.Core.Bool.{Bool, true, false}
+use mathlib.Core.Bool.{true, false}
 use lib.Dec.{eqb}
 use Rattle.ground.specs.Choice.{pick}
 use Rattle.geometry.specs.declared.Sought.{Sought}
@@ -14,12 +14,12 @@ use Rattle.registers.specs.declared.State.{State}
 use Rattle.registers.specs.declared.Core.{Core}
 use Rattle.registers.specs.State.{Machine, machine, withCore, withMark, withError, withCode, withCount, withAddress, withCurrent}
 use Rattle.registers.specs.WellMade.{totalIn}
-use Rattle.commands.specs.declared.End.{End}
-use Rattle.commands.specs.declared.Way.the-variants.{In, Out}
+use Rattle.transfers.specs.declared.End.{End}
+use Rattle.transfers.specs.declared.Way.the-variants.{In, Out}
 use Rattle.commands.specs.declared.Command.{Command}
 use Rattle.commands.specs.declared.Command.the-variants.{Read, Write, Verify, Erase, Identify, ReadBuffer, WriteBuffer, SetGeometry, Diagnose, Recalibrate, Seek, Sense, Other}
-use Rattle.commands.specs.Ends.{ended}
-use Rattle.commands.specs.Steps.{withState, begun, readSector, askSector}
+use Rattle.transfers.specs.Ends.{ended}
+use Rattle.transfers.specs.Steps.{withState, begun, readSector, askSector}
 use Rattle.commands.specs.Runs.{verifyFrom, Erased, eraseFrom}
 
 unfoldable pub commandOf : ℕ → Command

@@ -1,8 +1,8 @@
 // Verify and Erase: sector after sector, with no data moved.
-use super::End;
-use super::Tested;
 use registers::Core;
 use registers::State;
+use transfers::End;
+use transfers::Tested;
 ghost use mathlib.Core.Path.{_≡_};
 ghost use Rattle.commands.specs.Runs.{verifyFrom, erased, eraseFrom};
 
@@ -13,17 +13,17 @@ pub fn verify(state: State, left: u16, marks: &[u8]) -> Core
     let mut s = state;
     let mut n = left;
     while 0 < n {
-        match super::read_test(s, marks) {
+        match transfers::read_test(s, marks) {
             Tested::Passes(_) => {
                 n -= 1;
-                s = super::passed(s, n);
+                s = transfers::passed(s, n);
             }
             Tested::Fails(end) => {
-                return super::ended(s, end, true);
+                return transfers::ended(s, end, true);
             }
         }
     }
-    super::ended(s, End::Good, true)
+    transfers::ended(s, End::Good, true)
 }
 
 // C0H.
@@ -34,15 +34,15 @@ pub fn erase(state: State, left: u16, store: &mut [u8], marks: &mut [u8]) -> Cor
     let mut s = state;
     let mut n = left;
     while 0 < n {
-        match super::store_tested(s, &bytes, store, marks) {
+        match transfers::store_tested(s, &bytes, store, marks) {
             Tested::Passes(_) => {
                 n -= 1;
-                s = super::passed(s, n);
+                s = transfers::passed(s, n);
             }
             Tested::Fails(end) => {
-                return super::ended(s, end, true);
+                return transfers::ended(s, end, true);
             }
         }
     }
-    super::ended(s, End::Good, true)
+    transfers::ended(s, End::Good, true)
 }

@@ -1,7 +1,5 @@
 // The command table.
 use super::Command;
-use super::End;
-use super::Way;
 use geometry::Address;
 use geometry::Reshaped;
 use geometry::Sought;
@@ -9,6 +7,8 @@ use identify::Facts;
 use registers::Core;
 use registers::Load;
 use registers::State;
+use transfers::End;
+use transfers::Way;
 ghost use mathlib.Core.Path.{_≡_};
 ghost use mathlib.Core.Bool.{true};
 ghost use Rattle.geometry.specs.Address.{seek};
@@ -16,8 +16,8 @@ ghost use Rattle.geometry.specs.Shape.{reshaped};
 ghost use Rattle.identify.specs.Words.{identifyBytes};
 ghost use Rattle.registers.specs.State.{machine, withError};
 ghost use Rattle.registers.specs.WellMade.{totalIn};
-ghost use Rattle.commands.specs.Ends.{ended};
-ghost use Rattle.commands.specs.Steps.{idle};
+ghost use Rattle.transfers.specs.Ends.{ended};
+ghost use Rattle.transfers.specs.Steps.{idle};
 ghost use Rattle.commands.specs.Table.{commandOf, started, countOf, factsOf, geometrySet, diagnosed, soughtEnd, obeyed, commandGiven};
 
 // The row of an opcode.
@@ -120,9 +120,9 @@ fn set_geometry(state: State) -> Core
         Reshaped::Taken(geometry) => {
             let mut s = state;
             s.current = geometry;
-            super::ended(s, End::Good, true)
+            transfers::ended(s, End::Good, true)
         }
-        Reshaped::Refused => super::ended(state, End::BadGeometry, true),
+        Reshaped::Refused => transfers::ended(state, End::BadGeometry, true),
     }
 }
 
@@ -166,7 +166,7 @@ fn seek(state: State) -> Core
     let default = made.default;
     let current = state.current;
     let sought = address.seek(current, default.total());
-    super::ended(state, sought_end(sought), true)
+    transfers::ended(state, sought_end(sought), true)
 }
 
 // 03H: Error is the last code, which stays.
@@ -176,7 +176,7 @@ fn sense(state: State) -> Core
     let mut s = state;
     let code = state.code;
     s.registers.error = code;
-    super::ended(s, End::Good, true)
+    transfers::ended(s, End::Good, true)
 }
 
 // What a command does.
@@ -191,22 +191,22 @@ fn obey(
 {
     let fresh = started(state);
     match command {
-        Command::Read => super::read_sector(fresh, count_of(fresh), buffer, store, marks),
-        Command::Write => super::ask_sector(fresh, count_of(fresh), true),
+        Command::Read => transfers::read_sector(fresh, count_of(fresh), buffer, store, marks),
+        Command::Write => transfers::ask_sector(fresh, count_of(fresh), true),
         Command::Verify => super::runs::verify(fresh, count_of(fresh), marks),
         Command::Erase => super::runs::erase(fresh, count_of(fresh), store, marks),
         Command::Identify => {
             tell_identity(fresh, buffer);
-            super::begun(fresh, Way::In, Load::Buffer, true)
+            transfers::begun(fresh, Way::In, Load::Buffer, true)
         }
-        Command::ReadBuffer => super::begun(fresh, Way::In, Load::Buffer, true),
-        Command::WriteBuffer => super::begun(fresh, Way::Out, Load::Buffer, true),
+        Command::ReadBuffer => transfers::begun(fresh, Way::In, Load::Buffer, true),
+        Command::WriteBuffer => transfers::begun(fresh, Way::Out, Load::Buffer, true),
         Command::SetGeometry => set_geometry(fresh),
-        Command::Diagnose => super::ended(diagnosed(fresh), End::Good, true),
-        Command::Recalibrate => super::ended(fresh, End::Good, true),
+        Command::Diagnose => transfers::ended(diagnosed(fresh), End::Good, true),
+        Command::Recalibrate => transfers::ended(fresh, End::Good, true),
         Command::Seek => seek(fresh),
         Command::Sense => sense(state),
-        Command::Other => super::ended(fresh, End::NoSuchCommand, true),
+        Command::Other => transfers::ended(fresh, End::NoSuchCommand, true),
     }
 }
 

@@ -18,9 +18,9 @@ use Rattle.registers.specs.WellMade.{statusFits, heldIn, holdFits, wordsFit, lo
 use Rattle.port.specs.declared.Part.{Part}
 use Rattle.port.specs.declared.Take.{Take}
 use Rattle.port.specs.Halves.{takeOf, partWritten, halved, nextWord}
-use Rattle.commands.specs.declared.Way.{Way}
-use Rattle.commands.specs.declared.Way.the-variants.{In, Out}
-use Rattle.commands.specs.Steps.{withState, phaseOf, loadRead, loadWritten}
+use Rattle.transfers.specs.declared.Way.{Way}
+use Rattle.transfers.specs.declared.Way.the-variants.{In, Out}
+use Rattle.transfers.specs.Steps.{withState, phaseOf, loadRead, loadWritten}
 use Rattle.port.specs.Data.{Effect, withPhase, wordRead, takenRead, phaseRead, dataRead, wordWritten, takenWritten, phaseWritten, dataWritten}
 use Rattle.kept.proofs.Registers.{Runs, Left}
 use Rattle.kept.proofs.Lent.{part-length}

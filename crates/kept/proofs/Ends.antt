@@ -18,14 +18,14 @@ use Rattle.registers.specs.declared.State.{State}
 use Rattle.registers.specs.State.{Machine, coreOf}
 use Rattle.registers.specs.WellMade.{locatedIn, atRest, statusFits, heldIn, holdFits, wordsFit, sectorsFit, loadFits, runFits}
 use Rattle.geometry.specs.Codes.{found}
-use Rattle.commands.specs.declared.End.{End}
-use Rattle.commands.specs.declared.Tested.{Tested}
-use Rattle.commands.specs.declared.Tested.the-variants.{Passes, Fails}
-use Rattle.commands.specs.declared.Way.{Way}
-use Rattle.commands.specs.declared.Way.the-variants.{In, Out}
-use Rattle.commands.specs.Ends.{endStatus, ended}
-use Rattle.commands.specs.Before.{testedOf, markTested}
-use Rattle.commands.specs.Steps.{begun, passed}
+use Rattle.transfers.specs.declared.End.{End}
+use Rattle.transfers.specs.declared.Tested.{Tested}
+use Rattle.transfers.specs.declared.Tested.the-variants.{Passes, Fails}
+use Rattle.transfers.specs.declared.Way.{Way}
+use Rattle.transfers.specs.declared.Way.the-variants.{In, Out}
+use Rattle.transfers.specs.Ends.{endStatus, ended}
+use Rattle.transfers.specs.Before.{testedOf, markTested}
+use Rattle.transfers.specs.Steps.{begun, passed}
 use Rattle.kept.specs.Sound.{Small}
 use Rattle.kept.proofs.Registers.{Stands, Runs, Left, load-same}
 use Rattle.kept.proofs.Resets.{at-rest}

@@ -26,7 +26,6 @@ use Rattle.card.specs.declared.Answer.{Answer}
 use Rattle.card.specs.Access.{Access}
 use Rattle.card.specs.Step.{step, Stepped}
 use Rattle.card.specs.Opening.{modeOf, zeroCard, openRefused, powered, opened}
-use Rattle.registers.specs.PowerOn.{zeros}
 use Rattle.card.specs.Doors.{machineOf, refusedBy, optionAnswered, controlAnswered}
 use Rattle.kept.specs.Sound.{Sound}
 use Rattle.kept.proofs.Registers.{together}

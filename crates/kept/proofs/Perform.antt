@@ -11,7 +11,7 @@ use Rattle.registers.specs.declared.Core.{Core}
 use Rattle.registers.specs.State.{Machine, coreOf, sresetIn}
 use Rattle.registers.specs.WellMade.{heldIn}
 use Rattle.registers.specs.Resets.{optionTurn, optionTurned, controlWritten}
-use Rattle.commands.specs.Steps.{withState}
+use Rattle.transfers.specs.Steps.{withState}
 use Rattle.card.specs.declared.Meaning.{Meaning}
 use Rattle.card.specs.declared.Meaning.the-variants.{TupleByte, ReadOption, WriteOption, ReadRegister, WriteRegister, ReadData, WriteData}
 use Rattle.card.specs.Perform.{optionWritten, plainWritten, registerWritten, perform}

@@ -7,12 +7,12 @@ use lib.ListN.{length, length-replicate}
 use Rattle.registers.specs.declared.Made.{Made}
 use Rattle.registers.specs.declared.State.{State}
 use Rattle.registers.specs.declared.Core.{Core}
-use Rattle.commands.specs.declared.End.{End}
-use Rattle.commands.specs.declared.Tested.{Tested}
-use Rattle.commands.specs.declared.Tested.the-variants.{Passes, Fails}
-use Rattle.commands.specs.Ends.{ended}
-use Rattle.commands.specs.Before.{readTest, sectorStored}
-use Rattle.commands.specs.Steps.{passed}
+use Rattle.transfers.specs.declared.End.{End}
+use Rattle.transfers.specs.declared.Tested.{Tested}
+use Rattle.transfers.specs.declared.Tested.the-variants.{Passes, Fails}
+use Rattle.transfers.specs.Ends.{ended}
+use Rattle.transfers.specs.Before.{readTest, sectorStored}
+use Rattle.transfers.specs.Steps.{passed}
 use Rattle.commands.specs.Runs.{goesOn, verifyFrom, Erased, erased, blank, eraseFrom}
 use Rattle.kept.proofs.Registers.{Left}
 use Rattle.kept.proofs.Ends.{Fine, ended-left, passed-fine}

@@ -16,12 +16,12 @@ use Rattle.registers.specs.declared.State.{State}
 use Rattle.registers.specs.declared.Core.{Core}
 use Rattle.registers.specs.State.{Machine}
 use Rattle.registers.specs.WellMade.{locatedIn, sectorsFit, loadFits}
-use Rattle.commands.specs.declared.End.{End}
-use Rattle.commands.specs.declared.Tested.{Tested}
-use Rattle.commands.specs.declared.Tested.the-variants.{Passes, Fails}
-use Rattle.commands.specs.declared.Way.the-variants.{In, Out}
-use Rattle.commands.specs.Before.{addressTest, readTest, storeTest, storedBy, sectorStored}
-use Rattle.commands.specs.Steps.{withState, passed, readTested, readSector, nextRead, loadRead, askTested, askSector, nextAsked, coreWritten, loadWritten}
+use Rattle.transfers.specs.declared.End.{End}
+use Rattle.transfers.specs.declared.Tested.{Tested}
+use Rattle.transfers.specs.declared.Tested.the-variants.{Passes, Fails}
+use Rattle.transfers.specs.declared.Way.the-variants.{In, Out}
+use Rattle.transfers.specs.Before.{addressTest, readTest, storeTest, storedBy, sectorStored}
+use Rattle.transfers.specs.Steps.{withState, passed, readTested, readSector, nextRead, loadRead, askTested, askSector, nextAsked, coreWritten, loadWritten}
 use Rattle.kept.proofs.Registers.{Left}
 use Rattle.kept.proofs.Lent.{buffer-read, stored-lengths}
 use Rattle.kept.proofs.Ends.{Ready, Agrees, Next, ended-left, begun-left, sectors-fit, address-elim, mark-elim, passed-ready, passed-agrees}

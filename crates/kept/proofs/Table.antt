@@ -16,11 +16,11 @@ use Rattle.registers.specs.declared.Made.{Made}
 use Rattle.registers.specs.declared.State.{State}
 use Rattle.registers.specs.State.{Machine, withError, withCurrent}
 use Rattle.registers.specs.WellMade.{totalIn, heldIn, loadFits}
-use Rattle.commands.specs.declared.End.{End}
-use Rattle.commands.specs.declared.Way.the-variants.{In, Out}
+use Rattle.transfers.specs.declared.End.{End}
+use Rattle.transfers.specs.declared.Way.the-variants.{In, Out}
 use Rattle.commands.specs.declared.Command.{Command}
 use Rattle.commands.specs.declared.Command.the-variants.{Read, Write, Verify, Erase, Identify, ReadBuffer, WriteBuffer, SetGeometry, Diagnose, Recalibrate, Seek, Sense, Other}
-use Rattle.commands.specs.Steps.{withState}
+use Rattle.transfers.specs.Steps.{withState}
 use Rattle.commands.specs.Table.{commandOf, started, countOf, factsOf, geometrySet, diagnosed, soughtEnd, obeyed, quiet, commandGiven}
 use Rattle.kept.specs.Sound.{Small}
 use Rattle.kept.proofs.Registers.{Left}

@@ -5,7 +5,6 @@ use mathlib.Core.Bool.{Bool, true, false}
 use mathlib.Core.List.{List}
 use lib.Dec.{eqb}
 use lib.ListN.{length}
-use Rattle.ground.specs.Choice.{pick}
 use Rattle.ground.proofs.Picks.{pick-elim}
 use Rattle.answers.specs.declared.Refusal.{Refusal}
 use Rattle.answers.specs.declared.Refusal.the-variants.{GeometryOrMode, StoreLength, MarksLength, MarkAboveTwo, TupleBufferLength, NoRegister, SpaceSilent, HeldBySreset, WidthOrValue, IndexAboveThree, HalfMoved, NotWellMade, ChainBroken, TuplesTooLong, TupleBad, ListTooShort, SessionBroken}

@@ -16,13 +16,13 @@ use Rattle.registers.specs.declared.Transfer.{Transfer}
 use Rattle.registers.specs.declared.Phase.{Phase}
 use Rattle.registers.specs.declared.Phase.the-variants.{Idle, DataIn, DataOut}
 use Rattle.registers.specs.State.{Machine}
-use Rattle.commands.specs.declared.Tested.{Tested}
-use Rattle.commands.specs.declared.Tested.the-variants.{Passes, Fails}
+use Rattle.transfers.specs.declared.Tested.{Tested}
+use Rattle.transfers.specs.declared.Tested.the-variants.{Passes, Fails}
 use Rattle.port.specs.declared.Take.{Take}
 use Rattle.commands.specs.declared.Command.{Command}
 use Rattle.commands.specs.declared.Command.the-variants.{Read, Write, Verify, Erase, Identify, ReadBuffer, WriteBuffer, SetGeometry, Diagnose, Recalibrate, Seek, Sense, Other}
-use Rattle.commands.specs.Before.{readTest}
-use Rattle.commands.specs.Steps.{withState, passed, readTested, readSector, nextRead, loadRead}
+use Rattle.transfers.specs.Before.{readTest}
+use Rattle.transfers.specs.Steps.{withState, passed, readTested, readSector, nextRead, loadRead}
 use Rattle.port.specs.Halves.{takeOf}
 use Rattle.port.specs.Data.{Effect, accepted, wordRead, takenRead, phaseRead, dataRead, phaseWritten, dataWritten}
 use Rattle.commands.specs.Table.{countOf, commandOf, started, quiet, obeyed, commandGiven}

@@ -1,12 +1,11 @@
 -- Which accesses change sectors, and how many: a data write at most one, C0H at most as many as Count asks for, all else none.
 use Prim.Native.Nat.{ℕ, zero, suc, _≤_}
-use mathlib.Core.Path.{_≡_, refl, sym, ap, _∙_}
-use mathlib.Core.Bool.{Bool, true, false, true≢false}
-use mathlib.Core.List.{List, [], _∷_}
+use mathlib.Core.Path.{_≡_, refl, ap, _∙_}
+use mathlib.Core.Bool.{true, false, true≢false}
+use mathlib.Core.List.{List, []}
 use native.Mathlib.Omega.{arith}
 use lib.Dec.{ltb}
 use lib.ListN.{length, getD, replicate}
-use Rattle.ground.specs.Choice.{pick}
 use Rattle.ground.proofs.Picks.{pick-elim}
 use Rattle.geometry.specs.declared.Address.{Address}
 use Rattle.geometry.specs.declared.Geometry.{Geometry}
@@ -14,7 +13,6 @@ use Rattle.geometry.specs.declared.Located.{Located}
 use Rattle.geometry.specs.Address.{locate}
 use Rattle.geometry.specs.Next.{nextOf}
 use Rattle.sectors.specs.Marks.{writable}
-use Rattle.sectors.specs.Sectors.{Kept}
 use Rattle.maps.specs.declared.Port.{Port}
 use Rattle.maps.specs.declared.Register.{Register}
 use Rattle.maps.specs.declared.Register.the-variants.{ErrorFeature, SectorCount, SectorNumber, CylinderLow, CylinderHigh, DriveHead, StatusCommand, AlternateControl, DriveAddress}
@@ -35,7 +33,7 @@ use Rattle.card.specs.declared.Meaning.{Meaning}
 use Rattle.card.specs.declared.Meaning.the-variants.{TupleByte, ReadOption, WriteOption, ReadRegister, WriteRegister, ReadData, WriteData}
 use Rattle.card.specs.Access.{Access, meaning}
 use Rattle.card.specs.Step.{step}
-use Rattle.laws.specs.Changes.{Change, changed, keptIn, writes, erasures, sectorsAsked, commandChanges, registerChanges, loadChanges, takenChanges, phaseChanges, changes}
+use Rattle.laws.specs.Changes.{Change, changed, keptIn, writes, erasures, commandChanges, registerChanges, loadChanges, takenChanges, phaseChanges, changes}
 use Rattle.laws.specs.MayChange.{erases, erasesBy, mayChange}
 use Rattle.laws.proofs.BySectors.{by-sectors}
 

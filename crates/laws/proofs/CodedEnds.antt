@@ -1,6 +1,6 @@
 -- Every way in which a command or a transfer goes on or ends leaves a code where Status is in error, whatever was there before.
 use Prim.Native.Nat.{ℕ, zero, suc, _-_}
-use mathlib.Core.Path.{_≡_, refl, sym, ap}
+use mathlib.Core.Path.{_≡_, refl}
 use mathlib.Core.Bool.{Bool, true, false, false≢true}
 use mathlib.Core.List.{List}
 use lib.Dec.{eqb}
@@ -15,16 +15,15 @@ use Rattle.registers.specs.declared.State.{State}
 use Rattle.registers.specs.declared.Core.{Core}
 use Rattle.registers.specs.State.{Machine}
 use Rattle.registers.specs.WellMade.{totalIn}
-use Rattle.commands.specs.declared.End.{End}
-use Rattle.commands.specs.declared.End.the-variants.{Good, BadHeadOrSector, BadCylinder, BadLba, Unreadable, WriteFault, BadGeometry, NoSuchCommand}
-use Rattle.commands.specs.declared.Tested.{Tested}
-use Rattle.commands.specs.declared.Tested.the-variants.{Passes, Fails}
-use Rattle.commands.specs.declared.Way.{Way}
+use Rattle.transfers.specs.declared.End.{End}
+use Rattle.transfers.specs.declared.End.the-variants.{Good, BadHeadOrSector, BadCylinder, BadLba, Unreadable, WriteFault, BadGeometry, NoSuchCommand}
+use Rattle.transfers.specs.declared.Tested.{Tested}
+use Rattle.transfers.specs.declared.Tested.the-variants.{Passes, Fails}
 use Rattle.commands.specs.declared.Command.{Command}
 use Rattle.commands.specs.declared.Command.the-variants.{Read, Write, Verify, Erase, Identify, ReadBuffer, WriteBuffer, SetGeometry, Diagnose, Recalibrate, Seek, Sense, Other}
-use Rattle.commands.specs.Ends.{endStatus, endCode, ended}
-use Rattle.commands.specs.Before.{StoreTested, readTest, addressTest, sectorStored}
-use Rattle.commands.specs.Steps.{begun, readTested, readSector, nextRead, loadRead, askTested, askSector, nextAsked, coreWritten, loadWritten, passed}
+use Rattle.transfers.specs.Ends.{endStatus, endCode}
+use Rattle.transfers.specs.Before.{readTest, addressTest, sectorStored}
+use Rattle.transfers.specs.Steps.{readTested, readSector, nextRead, loadRead, askTested, askSector, nextAsked, coreWritten, loadWritten, passed}
 use Rattle.commands.specs.Runs.{goesOn, blank, verifyFrom, Erased, erased, eraseFrom}
 use Rattle.commands.specs.Table.{obeyed, geometrySet, soughtEnd, commandOf, started, quiet, commandGiven}
 use Rattle.laws.specs.Coded.{inError, Coded}

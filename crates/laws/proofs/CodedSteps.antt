@@ -19,7 +19,7 @@ use Rattle.registers.specs.State.{Machine, coreOf, runs}
 use Rattle.registers.specs.Values.{afterRead, registerSet}
 use Rattle.registers.specs.Resets.{restStatus, optionTurn, optionTurned, turnOf, bitTwo, bitOne, controlTurned}
 use Rattle.port.specs.declared.Take.{Take}
-use Rattle.commands.specs.Steps.{withState}
+use Rattle.transfers.specs.Steps.{withState}
 use Rattle.port.specs.Halves.{takeOf}
 use Rattle.port.specs.Data.{Effect, wordRead, takenRead, phaseRead, dataRead, wordWritten, takenWritten, phaseWritten, dataWritten}
 use Rattle.commands.specs.Table.{commandGiven}

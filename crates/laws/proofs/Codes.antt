@@ -5,8 +5,8 @@ use Rattle.geometry.specs.declared.Sought.{Sought}
 use Rattle.geometry.specs.declared.Reshaped.{Reshaped}
 use Rattle.geometry.specs.Codes.{locatedCode, soughtCode, reshapedCode, currentAfter}
 use Rattle.registers.specs.declared.State.{State}
-use Rattle.commands.specs.Ends.{endCode}
-use Rattle.commands.specs.Before.{testedOf}
+use Rattle.transfers.specs.Ends.{endCode}
+use Rattle.transfers.specs.Before.{testedOf}
 use Rattle.commands.specs.Table.{soughtEnd, geometrySet}
 use Rattle.laws.specs.Coded.{testedCode}
 

@@ -12,18 +12,16 @@ use Rattle.ground.specs.Choice.{pick}
 use Rattle.ground.proofs.Picks.{pick-elim}
 use Rattle.geometry.specs.declared.Spot.{Spot}
 use Rattle.geometry.specs.declared.Located.{Located}
-use Rattle.geometry.specs.Address.{locate}
 use Rattle.geometry.specs.Next.{nextOf}
 use Rattle.sectors.specs.Marks.{writable}
-use Rattle.sectors.specs.Sectors.{Kept, kept, stored, withSector}
+use Rattle.sectors.specs.Sectors.{Kept, kept, stored}
 use Rattle.registers.specs.declared.State.{State}
-use Rattle.registers.specs.declared.Core.{Core}
 use Rattle.registers.specs.WellMade.{totalIn, locatedIn}
-use Rattle.commands.specs.declared.End.the-variants.{WriteFault}
-use Rattle.commands.specs.declared.Tested.{Tested}
-use Rattle.commands.specs.declared.Tested.the-variants.{Passes, Fails}
-use Rattle.commands.specs.Before.{testedOf, addressTest, markTested, storeTest, storedBy, sectorStored}
-use Rattle.commands.specs.Steps.{passed}
+use Rattle.transfers.specs.declared.End.the-variants.{WriteFault}
+use Rattle.transfers.specs.declared.Tested.{Tested}
+use Rattle.transfers.specs.declared.Tested.the-variants.{Passes, Fails}
+use Rattle.transfers.specs.Before.{testedOf, addressTest, markTested, storeTest, storedBy, sectorStored}
+use Rattle.transfers.specs.Steps.{passed}
 use Rattle.commands.specs.Runs.{goesOn, blank, Erased, erased, eraseFrom}
 use Rattle.laws.specs.Changes.{Change, changed, writes, erasures}
 

@@ -1,5 +1,4 @@
 -- What a well-made card has, of 01's list; and a card that is not well made answers 12 to every access.
-use Prim.Native.Nat.{ℕ}
 use mathlib.Core.Path.{_≡_}
 use mathlib.Core.Bool.{true, false}
 use mathlib.Core.List.{[], _∷_}

@@ -6,7 +6,6 @@ use mathlib.Core.List.{List, [], _∷_}
 use native.Mathlib.Omega.{arith}
 use lib.Dec.{ltb, leb, eqb}
 use borrow.Author.Tests.{leb-true, eqb-true, ne-eqb}
-use Rattle.ground.specs.Choice.{pick}
 use Rattle.ground.proofs.Picks.{pick-elim, no}
 use Rattle.geometry.specs.declared.Located.{Located}
 use Rattle.ground.proofs.Every.{each}
@@ -22,15 +21,15 @@ use Rattle.registers.specs.declared.Core.{Core}
 use Rattle.registers.specs.State.{Machine, withBuffer}
 use Rattle.registers.specs.WellMade.{locatedIn, statusFits, sectorsFit, loadFits, runFits}
 use Rattle.geometry.specs.Codes.{found}
-use Rattle.commands.specs.declared.End.{End}
-use Rattle.commands.specs.declared.End.the-variants.{Good, BadHeadOrSector, BadCylinder, BadLba, Unreadable, WriteFault, BadGeometry, NoSuchCommand}
-use Rattle.commands.specs.declared.Tested.{Tested}
-use Rattle.commands.specs.declared.Tested.the-variants.{Passes, Fails}
+use Rattle.transfers.specs.declared.End.{End}
+use Rattle.transfers.specs.declared.End.the-variants.{Good, BadHeadOrSector, BadCylinder, BadLba, Unreadable}
+use Rattle.transfers.specs.declared.Tested.{Tested}
+use Rattle.transfers.specs.declared.Tested.the-variants.{Passes, Fails}
 use Rattle.port.specs.declared.Take.{Take}
-use Rattle.commands.specs.declared.Way.the-variants.{In, Out}
-use Rattle.commands.specs.Ends.{endStatus}
-use Rattle.commands.specs.Before.{testedOf, addressTest, markTested, readTest, sectorStored}
-use Rattle.commands.specs.Steps.{withState, passed, readTested, readSector, nextRead, loadRead, askTested, askSector, nextAsked, coreWritten, loadWritten}
+use Rattle.transfers.specs.declared.Way.the-variants.{In, Out}
+use Rattle.transfers.specs.Ends.{endStatus}
+use Rattle.transfers.specs.Before.{testedOf, addressTest, markTested, readTest, sectorStored}
+use Rattle.transfers.specs.Steps.{withState, passed, readTested, readSector, nextRead, loadRead, askTested, askSector, nextAsked, coreWritten, loadWritten}
 use Rattle.port.specs.Halves.{takeOf, partWritten}
 use Rattle.port.specs.Data.{wordRead, takenRead, phaseRead, wordWritten, takenWritten, phaseWritten}
 use Rattle.kept.proofs.Ends.{passed-count}

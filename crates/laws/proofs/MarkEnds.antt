@@ -1,7 +1,7 @@
 -- The interrupt mark at a Command write: every row of the table keeps the rule.
 use Prim.Native.Nat.{ℕ, zero, suc}
 use mathlib.Core.Path.{_≡_, refl}
-use mathlib.Core.Bool.{Bool, true, false}
+use mathlib.Core.Bool.{true, false}
 use mathlib.Core.List.{List}
 use lib.Dec.{eqb}
 use Rattle.geometry.specs.declared.Reshaped.{Reshaped}
@@ -11,15 +11,15 @@ use Rattle.registers.specs.declared.State.{State}
 use Rattle.registers.specs.declared.Core.{Core}
 use Rattle.registers.specs.State.{Machine}
 use Rattle.registers.specs.WellMade.{totalIn}
-use Rattle.commands.specs.declared.End.{End}
-use Rattle.commands.specs.declared.End.the-variants.{Good, BadHeadOrSector, BadCylinder, BadLba, Unreadable, WriteFault, BadGeometry, NoSuchCommand}
-use Rattle.commands.specs.declared.Tested.{Tested}
-use Rattle.commands.specs.declared.Tested.the-variants.{Passes, Fails}
+use Rattle.transfers.specs.declared.End.{End}
+use Rattle.transfers.specs.declared.End.the-variants.{Good, BadHeadOrSector, BadCylinder, BadLba, Unreadable, WriteFault, BadGeometry, NoSuchCommand}
+use Rattle.transfers.specs.declared.Tested.{Tested}
+use Rattle.transfers.specs.declared.Tested.the-variants.{Passes, Fails}
 use Rattle.commands.specs.declared.Command.{Command}
 use Rattle.commands.specs.declared.Command.the-variants.{Read, Write, Verify, Erase, Identify, ReadBuffer, WriteBuffer, SetGeometry, Diagnose, Recalibrate, Seek, Sense, Other}
-use Rattle.commands.specs.Ends.{endStatus, ended}
-use Rattle.commands.specs.Before.{readTest, addressTest, sectorStored}
-use Rattle.commands.specs.Steps.{passed, readTested, readSector, askTested, askSector}
+use Rattle.transfers.specs.Ends.{endStatus}
+use Rattle.transfers.specs.Before.{readTest, addressTest, sectorStored}
+use Rattle.transfers.specs.Steps.{passed, readTested, readSector, askTested, askSector}
 use Rattle.commands.specs.Runs.{goesOn, blank, verifyFrom, Erased, erased, eraseFrom}
 use Rattle.commands.specs.Table.{countOf, soughtEnd, geometrySet, started, quiet, commandOf, obeyed, commandGiven}
 use Rattle.laws.specs.Mark.{CommandWrite, asks, MarkRule}

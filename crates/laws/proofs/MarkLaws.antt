@@ -1,13 +1,13 @@
 -- The rule for the interrupt mark in its three cases: left, cleared, set.
 use Prim.Native.Nat.{ℕ}
-use mathlib.Core.Path.{_≡_, refl, sym, ap, _∙_}
+use mathlib.Core.Path.{_≡_, refl, sym, ap}
 use mathlib.Core.Bool.{Bool, true, false, not, _&&_, _||_, and-true, and-false}
 use lib.Dec.{eqb}
 use borrow.Author.Tests.{eq-eqb}
 use Rattle.registers.specs.declared.State.{State}
 use Rattle.commands.specs.declared.Command.{Command}
-use Rattle.commands.specs.declared.Way.{Way}
-use Rattle.commands.specs.declared.Way.the-variants.{In, Out}
+use Rattle.transfers.specs.declared.Way.{Way}
+use Rattle.transfers.specs.declared.Way.the-variants.{In, Out}
 use Rattle.laws.specs.Mark.{Act, CommandWrite, DataRead, DataWrite, NoMatter, asks, another, readsRow, sets, clears, MarkRule}
 
 left : (a b s c : Bool) → s ≡ false → c ≡ false → a ≡ b → a ≡ (s || (b && not c))

@@ -13,8 +13,8 @@ use Rattle.registers.specs.State.{Machine, coreOf, runs, sresetIn}
 use Rattle.registers.specs.WellMade.{statusFits, runFits, wellMade}
 use Rattle.registers.specs.Values.{afterRead, registerSet}
 use Rattle.registers.specs.Resets.{turnOf, optionTurned, bitTwo, bitOne, controlTurned}
-use Rattle.commands.specs.declared.Way.the-variants.{In, Out}
-use Rattle.commands.specs.Steps.{withState}
+use Rattle.transfers.specs.declared.Way.the-variants.{In, Out}
+use Rattle.transfers.specs.Steps.{withState}
 use Rattle.port.specs.Data.{Effect, dataRead, dataWritten}
 use Rattle.commands.specs.Table.{commandGiven}
 use Rattle.card.specs.declared.Meaning.{Meaning}

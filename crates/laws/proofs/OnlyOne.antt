@@ -7,8 +7,8 @@ use Rattle.sectors.specs.Sectors.{Kept, kept}
 use Rattle.registers.specs.declared.Core.{Core}
 use Rattle.registers.specs.State.{Machine, machine}
 use Rattle.port.specs.declared.Done.{Done}
-use Rattle.commands.specs.declared.Tested.{Tested}
-use Rattle.commands.specs.Before.{StoreTested, storeTested}
+use Rattle.transfers.specs.declared.Tested.{Tested}
+use Rattle.transfers.specs.Before.{StoreTested, storeTested}
 use Rattle.commands.specs.Runs.{Erased, erased}
 use Rattle.port.specs.Data.{Effect, effect}
 use Rattle.card.specs.declared.Reply.{Reply}

@@ -18,11 +18,11 @@ use Rattle.registers.specs.declared.Phase.{Phase}
 use Rattle.registers.specs.declared.Phase.the-variants.{Idle, DataIn, DataOut}
 use Rattle.registers.specs.State.{Machine, withBuffer}
 use Rattle.registers.specs.WellMade.{locatedIn}
-use Rattle.commands.specs.declared.End.the-variants.{WriteFault}
-use Rattle.commands.specs.declared.Tested.the-variants.{Passes, Fails}
+use Rattle.transfers.specs.declared.End.the-variants.{WriteFault}
+use Rattle.transfers.specs.declared.Tested.the-variants.{Passes, Fails}
 use Rattle.port.specs.declared.Take.{Take}
-use Rattle.commands.specs.Before.{testedOf, addressTest, markTested, storeTest, storedBy, sectorStored, StoreTested}
-use Rattle.commands.specs.Steps.{withState, loadWritten}
+use Rattle.transfers.specs.Before.{testedOf, addressTest, markTested, storeTest, storedBy, sectorStored, StoreTested}
+use Rattle.transfers.specs.Steps.{withState, loadWritten}
 use Rattle.port.specs.Halves.{takeOf, partWritten}
 use Rattle.port.specs.Data.{wordWritten, takenWritten, phaseWritten}
 use Rattle.laws.specs.Changes.{changed, keptIn, writes, loadChanges, takenChanges, phaseChanges}

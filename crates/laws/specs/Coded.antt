@@ -6,9 +6,9 @@ use mathlib.Core.List.{List, [], _∷_}
 use lib.Dec.{eqb}
 use Rattle.ground.specs.Choice.{pick}
 use Rattle.registers.specs.declared.State.{State}
-use Rattle.commands.specs.declared.Tested.{Tested}
-use Rattle.commands.specs.declared.Tested.the-variants.{Passes, Fails}
-use Rattle.commands.specs.Ends.{endCode}
+use Rattle.transfers.specs.declared.Tested.{Tested}
+use Rattle.transfers.specs.declared.Tested.the-variants.{Passes, Fails}
+use Rattle.transfers.specs.Ends.{endCode}
 use Rattle.card.specs.Step.{Stepped}
 
 -- "ends in error" is read off Status

@@ -15,7 +15,7 @@ use Rattle.port.specs.declared.Part.{Part}
 use Rattle.port.specs.declared.Take.{Take}
 use Rattle.port.specs.declared.Done.{Done}
 use Rattle.port.specs.Halves.{takeOf, partValue, partWritten, halved, nextWord}
-use Rattle.commands.specs.Steps.{withState, loadRead, loadWritten}
+use Rattle.transfers.specs.Steps.{withState, loadRead, loadWritten}
 
 -- what an access leaves: its outcome and the machine
 pub record Effect : Type 0 where

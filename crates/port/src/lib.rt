@@ -11,9 +11,8 @@ ghost use mathlib.Core.Path.{_≡_};
 ghost use Prim.Native.Nat.{_+_, _<_};
 ghost use lib.ListN.{getD, set};
 ghost use Rattle.registers.specs.State.{machine, core};
-ghost use Rattle.commands.specs.Steps.{idle};
-ghost use Rattle.port.specs.Halves.{takeOf, partValue, partWritten, halfOf, halved, nextWord};
-ghost use Rattle.port.specs.Data.{effect, wordRead, partRead, takenRead, absent, heldValue, phaseRead, dataRead, wordWritten, partStored, takenWritten, phaseWritten, dataWritten};
+ghost use Rattle.port.specs.Halves.{takeOf, partValue, partWritten, halfOf, halved};
+ghost use Rattle.port.specs.Data.{effect, wordRead, partRead, takenRead, absent, heldValue, dataRead, wordWritten, partStored, takenWritten, dataWritten};
 
 // What of a word an access moves.
 pub enum Part {
@@ -152,7 +151,7 @@ fn word_read(state: State, t: Transfer, buffer: &mut [u8; 512], store: &[u8], ma
         };
     }
     let load = t.load;
-    commands::load_read(state, load, buffer, store, marks)
+    transfers::load_read(state, load, buffer, store, marks)
 }
 
 // A part has gone: the word is whole, or begun.
@@ -275,7 +274,7 @@ fn word_written(
         };
     }
     let load = t.load;
-    commands::load_written(state, load, buffer, store, marks)
+    transfers::load_written(state, load, buffer, store, marks)
 }
 
 // A part has come: the word is whole, or begun.

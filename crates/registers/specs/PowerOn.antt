@@ -1,6 +1,6 @@
 -- 01, "Registers": "Power-on: Status 50H, Error 01H, Count 1, Sector 1, the rest 0, …, code 00H, default geometry, index 0".
 use Prim.Native.Nat.{ℕ}
-use mathlib.Core.Bool.{true, false}
+use mathlib.Core.Bool.{false}
 use mathlib.Core.List.{List}
 use lib.ListN.{replicate}
 use Rattle.registers.specs.declared.Registers.{Registers}

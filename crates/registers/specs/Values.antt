@@ -1,6 +1,6 @@
 -- 01, "Registers": what a read of each register gives, and what a write to one leaves, but for Command and Device Control.
 use Prim.Native.Nat.{ℕ, _+_, _*_, _-_, _/_, _%_}
-use mathlib.Core.Bool.{Bool, true, false}
+use mathlib.Core.Bool.{false}
 use lib.Dec.{eqb}
 use Rattle.ground.specs.Choice.{pick}
 use Rattle.maps.specs.declared.Register.{Register}

@@ -1,8 +1,8 @@
 -- 01, "What is lent": "A card value is well made if: …". Each condition is a test of its own, in 01's order.
 use Prim.Native.Nat.{ℕ, _%_}
-use mathlib.Core.Bool.{Bool, true, false, not}
+use mathlib.Core.Bool.{Bool, true, not}
 use mathlib.Core.List.{[], _∷_}
-use lib.Dec.{leb, ltb, eqb}
+use lib.Dec.{leb, eqb}
 use Rattle.ground.specs.Choice.{pick, every}
 use Rattle.geometry.specs.declared.Located.{Located}
 use Rattle.geometry.specs.Limits.{fits, totalOf, currentFor}

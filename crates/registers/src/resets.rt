@@ -7,7 +7,7 @@ use super::Registers;
 use super::State;
 use geometry::Address;
 ghost use mathlib.Core.Path.{_≡_};
-ghost use Rattle.registers.specs.PowerOn.{powerRegisters, powerOn};
+ghost use Rattle.registers.specs.PowerOn.{powerOn};
 ghost use Rattle.registers.specs.Resets.{turnOf, restStatus, entered, optionTurn, optionTurned, bufferTurned, controlTurned, controlWritten};
 
 // What writing a reset's bit does to the hold.

@@ -1,6 +1,5 @@
 -- The samples hold of the card's step, by computing; and of none of the lazy cards.
-use Prim.Native.Nat.{ℕ}
-use mathlib.Core.Bool.{Bool, true, false}
+use mathlib.Core.Bool.{true, false}
 use mathlib.Core.Path.{_≡_, refl}
 use Rattle.ground.specs.Choice.{every}
 use Rattle.geometry.specs.Limits.{fits, totalOf, currentFor}
@@ -16,11 +15,10 @@ use Rattle.sectors.specs.Sectors.{sectorOf, withSector, bufferRead, stored}
 use Rattle.identify.specs.Words.{firstWord, laterWord, identifyWord, identifyByte, identifyBytes}
 use Rattle.identify.specs.Words
 use Rattle.registers.specs.WellMade.{indexFits, sresetFits, atRest, statusFits, heldIn, holdFits, wordsFit, sectorsFit, loadFits, runFits, wellMade}
-use Rattle.geometry.specs.Codes.{found}
 use Rattle.registers.specs.Resets.{turnOf, optionTurned, bufferTurned, controlTurned}
 use Rattle.registers.specs.Values.{valueRead, afterRead, registerSet}
-use Rattle.commands.specs.Before.{addressTest, readTest, storeTest, sectorStored}
-use Rattle.commands.specs.Steps.{passed, readSector, nextRead, askSector, nextAsked}
+use Rattle.transfers.specs.Before.{addressTest, readTest, storeTest, sectorStored}
+use Rattle.transfers.specs.Steps.{passed, readSector, nextRead, askSector, nextAsked}
 use Rattle.commands.specs.Runs.{verifyFrom, eraseFrom}
 use Rattle.commands.specs.Runs
 use Rattle.port.specs.Halves.{takeOf}

@@ -1,13 +1,12 @@
 -- How a sample is written: the accesses of a host, each with its answer's number and its value.
 use Prim.Native.Nat.{ℕ, zero, suc, _+_, _*_, _/_, _%_}
 use mathlib.Core.Bool.{Bool, true, false, _&&_}
-use mathlib.Core.List.{List, [], _∷_, _++_}
+use mathlib.Core.List.{List, [], _∷_}
 use lib.ListN.{replicate}
 use lib.Dec.{eqb}
 use Rattle.answers.specs.Answers.{outcomeNumber, outcomeValue}
 use Rattle.geometry.specs.declared.Geometry.{Geometry}
 use Rattle.registers.specs.State.{Machine}
-use Rattle.card.specs.declared.Answer.{Answer}
 use Rattle.card.specs.Access.{Access}
 use Rattle.card.specs.Step.{Stepped}
 use Rattle.card.specs.Opening.{opened}

@@ -1,8 +1,8 @@
 -- The text of any file has at most 61,438 bytes: the header's 18, 15 for each of at most 4,094 accesses, and 10 for `bad`.
-use Prim.Native.Nat.{ℕ, zero, suc, _+_, _*_, _-_, _%_, _^_, _<_, _≤_}
+use Prim.Native.Nat.{ℕ, zero, suc, _+_, _*_, _-_, _<_, _≤_}
 use mathlib.Core.Bool.{Bool, true, false}
-use mathlib.Core.Path.{_≡_, refl, sym, ap, _∙_, subst}
-use mathlib.Core.List.{List, [], _∷_, _++_}
+use mathlib.Core.Path.{_≡_, refl, sym, subst}
+use mathlib.Core.List.{List, [], _∷_}
 use native.Mathlib.Omega.{arith}
 use native.Mathlib.Nat.{mod-eq-of-lt}
 use lib.Dec.{eqb, leb, ltb}
@@ -15,23 +15,20 @@ use Rattle.geometry.specs.Limits.{capacityOf}
 use Rattle.registers.specs.State.{Machine}
 use Rattle.card.specs.declared.Card.{Card}
 use Rattle.card.specs.Access.{Access}
-use Rattle.card.specs.Step.{Stepped, play, step}
+use Rattle.card.specs.Step.{play, step}
 use Rattle.card.specs.Doors.{machineOf}
 use Rattle.card.specs.Opening.{opened}
-use Rattle.text.specs.Text.{header, line, shownValue, bad}
+use Rattle.text.specs.Text.{header, shownValue}
 use Rattle.text.proofs.Length.{line-length, bad-length, unopened-length}
-use Rattle.session.specs.declared.Break.{Break}
-use Rattle.session.specs.declared.Break.the-variants.{Empty, TooLong}
-use Rattle.session.specs.declared.Asked.{Asked}
-use Rattle.session.specs.declared.Sizes.{Sizes}
-use Rattle.session.specs.declared.First.{First}
-use Rattle.session.specs.declared.Turn.{Turn}
+use Rattle.records.specs.declared.Sizes.{Sizes}
+use Rattle.records.specs.declared.First.{First}
+use Rattle.records.specs.declared.Turn.{Turn}
 use Rattle.session.specs.declared.Ending.{Ending}
 use Rattle.session.specs.declared.Ending.the-variants.{Whole, Broken, Unopened}
-use Rattle.session.specs.Record.{recordAt, turnOf, firstOf, sizeOf}
-use Rattle.session.specs.Run.{Script, ends, asks, accessOf, byTurn, scriptFrom, wrapped, lineOf, linesOf, endText, resultOf}
+use Rattle.records.specs.Record.{recordAt, turnOf, firstOf, sizeOf}
+use Rattle.session.specs.Run.{Script, byTurn, scriptFrom, wrapped, lineOf, linesOf, endText, resultOf}
 use Rattle.session.specs.Play.{Session, opensAs, openedOn, begun, byFirst, sessionOf, printOf, geometryOf, zeroBytes, noTuples}
-use Rattle.session.proofs.Fits.{access-fits}
+use Rattle.records.proofs.Fits.{access-fits}
 
 -- a record has 8 bytes or more: the accesses of a part, and where it ends
 abbrev Short : ℕ → ℕ → Script → Type 0

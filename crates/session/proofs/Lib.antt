@@ -1,4 +1,3 @@
-pub mod Fits
 pub mod Verdicts
 pub mod Runs
 pub mod Plays

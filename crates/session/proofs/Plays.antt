@@ -1,7 +1,7 @@
 -- Laws of zero bytes and of a text after the header.
 use Prim.Native.Nat.{ℕ, zero, suc, _+_, _-_, _≤_, min}
 use mathlib.Core.Path.{_≡_, refl, sym, ap, _∙_}
-use mathlib.Core.List.{List, [], _∷_, _++_}
+use mathlib.Core.List.{List, _∷_}
 use native.Mathlib.Omega.{arith}
 use native.Mathlib.Nat.{not-suc-le-zero, min-le-left, min-le-right, min-eq-left, min-eq-right, le-of-lt}
 use lib.Dec.{leb}
@@ -12,7 +12,7 @@ use lib.ListN.{length, take, drop, replicate, length-replicate, length-append, l
 use Rattle.text.specs.Text.{header}
 use Rattle.session.specs.declared.Told.{Told}
 use Rattle.text.specs.Output.{Output, output, put, holding, Counts}
-use Rattle.session.specs.Play.{Session, zeroBytes, sessionOf, Printed, printedIn, printedAt, printed, printOf, toldAs}
+use Rattle.session.specs.Play.{zeroBytes, sessionOf, Printed, printedIn, printedAt, printed, printOf, toldAs}
 use Rattle.text.proofs.Outputs.{put-then, put-holds}
 
 take-replicate : (k n : ℕ) → k ≤ n → take {A = ℕ} k (replicate n 0) ≡ replicate k 0

@@ -1,8 +1,8 @@
 -- A run, a record a turn: what is still to be done from here is what was to be done at the start.
-use Prim.Native.Nat.{ℕ, zero, suc, _+_, _-_, _%_, _^_, _<_, _≤_}
-use mathlib.Core.Bool.{Bool, true, false}
+use Prim.Native.Nat.{ℕ, zero, suc, _+_, _-_, _<_, _≤_}
+use mathlib.Core.Bool.{Bool, false}
 use mathlib.Core.Path.{_≡_, refl, sym, ap, _∙_}
-use mathlib.Core.List.{List, [], _∷_, _++_, append-assoc}
+use mathlib.Core.List.{List, _++_, append-assoc}
 use native.Mathlib.Nat.{not-suc-le-zero}
 use native.Mathlib.Numerals.{sub-one}
 use native.Mathlib.Omega.{arith}
@@ -10,16 +10,16 @@ use lib.ListN.{length}
 use borrow.Author.Tests.{le-leb, lt-leb}
 use Rattle.registers.specs.State.{Machine}
 use Rattle.card.specs.Access.{Access}
-use Rattle.card.specs.Step.{Stepped, Played, play, step}
-use Rattle.session.specs.declared.Asked.{Asked}
-use Rattle.session.specs.declared.Turn.{Turn}
-use Rattle.session.specs.declared.Break.{Break}
+use Rattle.card.specs.Step.{Stepped, play, step}
+use Rattle.records.specs.declared.Asked.{Asked}
+use Rattle.records.specs.declared.Turn.{Turn}
+use Rattle.records.specs.declared.Break.{Break}
 use Rattle.session.specs.declared.Ending.{Ending}
 use Rattle.session.specs.declared.Ending.the-variants.{Whole, Broken}
-use Rattle.session.specs.Record.{recordAt, turnOf, sizeOf}
+use Rattle.records.specs.Record.{recordAt, turnOf, sizeOf}
 use Rattle.text.specs.Text.{bad}
-use Rattle.text.specs.Output.{Output, output, put}
-use Rattle.session.specs.Run.{Script, ends, asks, accessOf, scriptFrom, wrapped, lineOf, linesOf, endText, Result, resultAs, resultOf, Shown, shown}
+use Rattle.text.specs.Output.{Output, put}
+use Rattle.session.specs.Run.{Script, ends, asks, accessOf, scriptFrom, wrapped, lineOf, endText, Result, resultOf, shown}
 use Rattle.text.proofs.Outputs.{put-then}
 
 -- the part's end, a broken record, an access

@@ -1,5 +1,5 @@
 -- Rows 12, 2, 3 and 5 say the same of every access of a run, and with them an access is the card's step.
-use Prim.Native.Nat.{ℕ, _*_, _<_}
+use Prim.Native.Nat.{ℕ, _*_}
 use mathlib.Core.Bool.{Bool, true, false}
 use mathlib.Core.Path.{_≡_, refl, sym, ap, _∙_}
 use mathlib.Core.List.{List}

@@ -1,4 +1,3 @@
-pub mod Record
 pub mod Verdict
 pub mod Run
 pub mod Play

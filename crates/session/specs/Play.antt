@@ -1,6 +1,6 @@
 -- 01, "Session file": a whole file, and everything that is printed of it.
 use Prim.Native.Nat.{ℕ, _*_, min}
-use mathlib.Core.Bool.{true, false}
+use mathlib.Core.Bool.{true}
 use mathlib.Core.List.{List, _++_}
 use lib.Dec.{eqb, ltb}
 use lib.ListN.{length, replicate}
@@ -11,16 +11,15 @@ use Rattle.answers.specs.Answers.{numberOf}
 use Rattle.geometry.specs.declared.Geometry.{Geometry}
 use Rattle.geometry.specs.Limits.{capacityOf}
 use Rattle.card.specs.declared.Card.{Card}
-use Rattle.card.specs.declared.Answer.{Answer}
 use Rattle.card.specs.Doors.{machineOf}
 use Rattle.card.specs.Opening.{opened}
-use Rattle.session.specs.declared.Break.the-variants.{Empty, TooLong}
-use Rattle.session.specs.declared.Sizes.{Sizes}
-use Rattle.session.specs.declared.First.{First}
+use Rattle.records.specs.declared.Break.the-variants.{Empty, TooLong}
+use Rattle.records.specs.declared.Sizes.{Sizes}
+use Rattle.records.specs.declared.First.{First}
 use Rattle.session.specs.declared.Ending.{Ending}
 use Rattle.session.specs.declared.Ending.the-variants.{Whole, Broken, Unopened}
 use Rattle.session.specs.declared.Told.{Told}
-use Rattle.session.specs.Record.{recordAt, firstOf}
+use Rattle.records.specs.Record.{recordAt, firstOf}
 use Rattle.text.specs.Text.{header}
 use Rattle.text.specs.Output.{Output, output, put, holding}
 use Rattle.session.specs.Run.{Result, resultOf, scriptFrom, endText}

@@ -1,6 +1,6 @@
 -- 01, "Session file": the accesses of a file or of a part of one, in turn, and what is printed of them.
 use Prim.Native.Nat.{ℕ, zero, suc, _+_, _%_, _^_, min}
-use mathlib.Core.Bool.{Bool, true, false}
+use mathlib.Core.Bool.{Bool, false}
 use mathlib.Core.List.{List, [], _∷_, _++_}
 use lib.Dec.{leb}
 use lib.ListN.{length}
@@ -11,12 +11,12 @@ use Rattle.registers.specs.State.{Machine}
 use Rattle.card.specs.Access.{Access}
 use Rattle.card.specs.Step.{Stepped, Played, play}
 use Rattle.card.specs.Doors.{machineOf}
-use Rattle.session.specs.declared.Asked.{Asked}
-use Rattle.session.specs.declared.Turn.{Turn}
+use Rattle.records.specs.declared.Asked.{Asked}
+use Rattle.records.specs.declared.Turn.{Turn}
 use Rattle.session.specs.declared.Ending.{Ending}
 use Rattle.session.specs.declared.Ending.the-variants.{Whole, Broken, Unopened}
 use Rattle.session.specs.declared.Ran.{Ran}
-use Rattle.session.specs.Record.{recordAt, turnOf, sizeOf}
+use Rattle.records.specs.Record.{recordAt, turnOf, sizeOf}
 use Rattle.text.specs.Text.{line, shownValue, bad, unopened}
 use Rattle.text.specs.Output.{Output, output, put, holding}
 

@@ -1,6 +1,5 @@
 -- 01, "Answers": rows 12, 2, 3 and 5 speak of the card and what is lent, not of the access; an access changes none of it, so they are tried once for a run.
 use Prim.Native.Nat.{ℕ, _*_}
-use mathlib.Core.Bool.{true, false}
 use mathlib.Core.List.{List}
 use lib.Dec.{eqb}
 use lib.ListN.{length}

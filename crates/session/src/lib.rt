@@ -1,58 +1,10 @@
-// The session file: its records, the run of its accesses, and the text that is printed of it (document 01, "Session file").
+// The session: the run of a file's accesses, and the text that is printed of it (document 01, "Session file").
 use answers::Refusal;
 use card::Card;
+use records::Break;
 
 pub mod play;
-pub mod records;
 pub mod run;
-
-// Which test of a record, or of the whole file, broke it.
-pub enum Break {
-    Empty,
-    TooLong,
-    DoesNotFit,
-    Length,
-    Kind,
-    Misplaced,
-    Space,
-    Width,
-    Value,
-}
-
-// The opening's fields.
-pub struct Sizes {
-    pub cylinders: u16,
-    pub heads: u16,
-    pub sectors: u16,
-    pub mode: u16,
-}
-
-// An access's fields; a read has the value 0.
-pub struct Asked {
-    pub space: u8,
-    pub width: u8,
-    pub address: u16,
-    pub value: u16,
-}
-
-// What stands at a place of the file.
-pub enum Record {
-    Opening(Sizes),
-    Write(Asked),
-    Read(Asked),
-    Broken(Break),
-}
-
-// What a record means where an opening is due, and after it.
-pub enum First {
-    Opening(Sizes),
-    Stop(Break),
-}
-
-pub enum Turn {
-    Access(bool, Asked),
-    Stop(Break),
-}
 
 // How a session or a part of one ended.
 pub enum Ending {

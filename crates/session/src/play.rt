@@ -1,19 +1,18 @@
 // A whole file: the card from its opening, with a zero store, zero marks and tuples of FFH, and everything that is printed.
-use super::Break;
 use super::Ending;
-use super::First;
-use super::Sizes;
 use super::Told;
-use super::records;
 use super::run;
 use answers::Outcome;
 use answers::Refusal;
 use card::Card;
 use geometry::Geometry;
+use records::Break;
+use records::First;
+use records::Sizes;
 ghost use mathlib.Core.Path.{_≡_};
 ghost use Rattle.session.specs.declared.Ending.the-variants.{Broken, Unopened};
 ghost use Rattle.text.specs.Output.{output, Counts};
-ghost use Rattle.session.specs.Play.{stopped, openedOn, zeroBytes, noTuples, begun, byFirst, sessionOf, printedAt, printed, toldAs, endNumber};
+ghost use Rattle.session.specs.Play.{stopped, openedOn, zeroBytes, noTuples, begun, sessionOf, printedAt, printed, toldAs, endNumber};
 
 fn bad(out: &mut [u8], at: usize, place: u64, why: Break) -> Told
     ensures { λ r. ⌜ toldAs r (now (out .exit)) ≡ printedAt (output (now (out .entry)) at) (stopped place (Broken why)) ⌝ }

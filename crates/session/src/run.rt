@@ -1,39 +1,28 @@
 // The run of a part of a file: its accesses in turn, and their lines.
-use super::Asked;
 use super::Ending;
 use super::Ran;
-use super::Turn;
 use super::Verdict;
-use super::records;
 use answers::Outcome;
 use answers::Refusal;
 use card::Card;
 use card::Reply;
+use records::Asked;
+use records::Turn;
 use registers::Core;
 use text::Four;
 ghost use mathlib.Core.Path.{_≡_};
-ghost use Prim.Native.Nat.{_+_, _%_, _^_, _<_};
+ghost use Prim.Native.Nat.{_+_, _<_};
 ghost use lib.ListN.{length};
 ghost use Rattle.ground.specs.Choice.{pick};
 ghost use Rattle.registers.specs.State.{machine};
 ghost use Rattle.card.specs.Doors.{machineOf, cardOf};
-ghost use Rattle.card.specs.Step.{replied, replyOf};
-ghost use Rattle.session.specs.Record.{sizeOf};
+ghost use Rattle.card.specs.Step.{replied};
 ghost use Rattle.answers.specs.Answers.{outcomeNumber};
 ghost use Rattle.text.specs.Text.{line, shownValue};
 ghost use Rattle.text.specs.Digits.{fourOf};
 ghost use Rattle.text.specs.Output.{output, put};
 ghost use Rattle.session.specs.Run.{accessOf, wrapped, scriptFrom, resultOf, shown, held, ranAs};
 ghost use Rattle.session.specs.Verdict.{verdictOf, byVerdict};
-
-fn size_of(write: bool) -> usize
-    ensures { λ r. ⌜ r ≡ sizeOf write ⌝ }
-{
-    if write {
-        return 10;
-    }
-    8
-}
 
 fn shown_value(write: bool, value: u16, read: u16) -> u16
     ensures { λ r. ⌜ r ≡ pick write value read ⌝ }
@@ -219,7 +208,7 @@ fn lines(
                 text = put_answer(out, text, four, write, asked.value, outcome);
                 core = after;
                 four = four.next();
-                at += size_of(write);
+                at += records::size_of(write) as usize;
                 done += 1;
                 left -= 1;
             }

@@ -1,12 +1,10 @@
 -- How long a text is.
-use Prim.Native.Nat.{ℕ, zero, suc, _+_, _*_, _/_, _%_, _<_, _≤_}
-use mathlib.Core.Bool.{Bool, true, false}
-use mathlib.Core.Path.{_≡_, refl, sym, ap, _∙_}
-use mathlib.Core.List.{List, [], _∷_, _++_}
+use Prim.Native.Nat.{ℕ, zero, suc, _+_, _*_, _/_, _<_, _≤_}
+use mathlib.Core.Bool.{Bool}
+use mathlib.Core.List.{[], _∷_, _++_}
 use native.Mathlib.Omega.{arith}
 use lib.Dec.{ltb}
 use lib.ListN.{length, length-append}
-use borrow.Author.Tests.{ltb-false}
 use Rattle.ground.proofs.Picks.{pick-elim}
 use Rattle.answers.specs.declared.Refusal.{Refusal}
 use Rattle.answers.specs.declared.Refusal.the-variants.{GeometryOrMode, StoreLength, MarksLength, MarkAboveTwo, TupleBufferLength, NoRegister, SpaceSilent, HeldBySreset, WidthOrValue, IndexAboveThree, HalfMoved, NotWellMade, ChainBroken, TuplesTooLong, TupleBad, ListTooShort, SessionBroken}

@@ -2,7 +2,6 @@
 use crate::lines;
 use crate::words::Words;
 use crate::words::low;
-ghost use Prim.Native.Nat.{_≤_};
 
 // A byte is set, where there is such a place.
 pub(crate) fn set(row: &mut [u8], at: usize, value: u8) {

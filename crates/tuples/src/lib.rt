@@ -4,7 +4,6 @@ ghost use Prim.Native.Nat.{_≤_, _+_};
 ghost use mathlib.Core.List.{[]};
 ghost use lib.ListN.{length, drop};
 ghost use lib.Seq.{paste};
-ghost use mathlib.Core.Bool.{Bool};
 ghost use Rattle.answers.specs.Answers.{outcomeValue};
 ghost use Rattle.tuples.specs.Chain.{endOf, stepAt, chainAt, nextAt, firstOf, found};
 ghost use Rattle.tuples.specs.Read.{counted, readOutcome, refused, checked, atMost, heldAfter, Reads, handed};

@@ -1,18 +1,13 @@
 use Rattle.account.proofs.typed.Statement.{statement}
 use Rattle.account.proofs.typed.Tie as tie
-use Rattle.account.proofs.typed.Reads as reads
-use Rattle.account.proofs.typed.Lts as lts
-use Rattle.ground.proofs.byte_or_zero.Reads as byte-or-zero-reads
 use mir.Val.{Fits}
 use mir.Syntax.{w8}
 use lib.ListN.{getD}
 use borrow.Author.Needs.{needs}
 
--- src/lib.rt
 byte-or-zero-requires : tie.Need-byte-or-zero-requires
 byte-or-zero-requires c κs = search needs
 
--- src/lib.rt
 returns : tie.Need-returns
 returns c = record {
   count = search needs;

@@ -1,47 +1,33 @@
-use mathlib.Core.Path.{_≡_, sym, _∙_, ap}
+use mathlib.Core.Path.{sym, _∙_}
 use Rattle.card.specs.Access.{decided}
 use borrow.Author.Needs.{needs}
 use Rattle.card.proofs.decide.Statement.{statement}
 use Rattle.card.proofs.decide.Tie as tie
-use Rattle.card.proofs.decide.Reads as reads
-use Rattle.card.proofs.decide.Lts as lts
-use Rattle.card.proofs.held_away.Reads as held-away-reads
-use Rattle.card.proofs.targeted.Reads as targeted-reads
-use Rattle.maps.proofs.answers_at.Reads as answers-at-reads
-use Rattle.maps.proofs.stands_at.Reads as stands-at-reads
 
--- src/lib.rt
 held-away-requires : tie.Need-held-away-requires
 held-away-requires c κs = search needs
 
--- src/lib.rt
 returns : tie.Need-returns
 unfolding decided
 returns c =
     let w = sym (c .before .held-away .ensures) ∙ c .if1 .taken in
     simp w
 
--- src/lib.rt
 answers-at-requires : tie.Need-answers-at-requires
 answers-at-requires c κs = search needs
 
--- src/lib.rt
 stands-at-requires : tie.Need-stands-at-requires
 stands-at-requires c κs = search needs
 
--- src/lib.rt
 enum-known-target : tie.Need-enum-known-target
 enum-known-target c = search needs
 
--- src/lib.rt
 targeted-requires : tie.Need-targeted-requires
 targeted-requires c κs = search needs
 
--- src/lib.rt
 enum-known-refusal : tie.Need-enum-known-refusal
 enum-known-refusal c = search needs
 
--- src/lib.rt
 returns-2 : tie.Need-returns-2
 unfolding decided
 returns-2 c =
@@ -50,7 +36,6 @@ returns-2 c =
     let t = sym (c .before .before .before .before .stands-at .ensures) ∙ c .before .before .target .given .1 in
     simp (w, v, t, c .targeted .ensures)
 
--- src/lib.rt
 returns-3 : tie.Need-returns-3
 unfolding decided
 returns-3 c =
@@ -59,7 +44,6 @@ returns-3 c =
     let t = sym (c .before .before .before .stands-at .ensures) ∙ c .before .refusal .given .1 in
     simp (w, v, t)
 
--- src/lib.rt
 returns-4 : tie.Need-returns-4
 unfolding decided
 returns-4 c =

@@ -1,21 +1,16 @@
-use borrow.Author.Tests.{eq-eqb, ne-eqb, lt-ltb, le-ltb, le-leb, lt-leb}
+use borrow.Author.Tests.{eq-eqb, ne-eqb, le-leb, lt-leb}
 use Rattle.card.specs.Access.{heldAway}
 use Rattle.card.proofs.held_away.Statement.{statement}
 use Rattle.card.proofs.held_away.Tie as tie
-use Rattle.card.proofs.held_away.Reads as reads
-use Rattle.card.proofs.held_away.Lts as lts
 
--- src/lib.rt
 returns : tie.Need-returns
 unfolding heldAway
 returns c = simp (lt-leb _ _ (c .if1 .taken))
 
--- src/lib.rt
 returns-2 : tie.Need-returns-2
 unfolding heldAway
 returns-2 c = simp (le-leb _ _ (c .before .if1 .left), eq-eqb _ _ (c .if2 .taken))
 
--- src/lib.rt
 returns-3 : tie.Need-returns-3
 unfolding heldAway
 returns-3 c = simp (le-leb _ _ (c .before .if1 .left), ne-eqb _ _ (c .if2 .left))

@@ -1,34 +1,25 @@
-use mathlib.Core.Path.{_≡_, sym, _∙_, ap}
+use mathlib.Core.Path.{sym, _∙_}
 use Rattle.card.specs.Perform.{plainCore}
 use borrow.Author.Needs.{needs}
 use Rattle.card.proofs.plain_write.Statement.{statement}
 use Rattle.card.proofs.plain_write.Tie as tie
-use Rattle.card.proofs.plain_write.Reads as reads
-use Rattle.card.proofs.plain_write.Lts as lts
-use Rattle.registers.proofs.Phase.runs.Reads as runs-reads
-use Rattle.registers.proofs.State.register_set.Reads as register-set-reads
 
--- src/lib.rt
 returns : tie.Need-returns
 unfolding plainCore
 returns c = simp (c .if1 .taken)
 
--- src/lib.rt
 runs-requires : tie.Need-runs-requires
 runs-requires c κs = search needs
 
--- src/lib.rt
 returns-2 : tie.Need-returns-2
 unfolding plainCore
 returns-2 c =
     let w = sym (c .before .runs .ensures) ∙ c .if2 .taken in
     simp (c .before .before .if1 .left, w)
 
--- src/lib.rt
 register-set-requires : tie.Need-register-set-requires
 register-set-requires c κs = search needs
 
--- src/lib.rt
 returns-3 : tie.Need-returns-3
 unfolding plainCore
 returns-3 c =

@@ -1,67 +1,49 @@
 use borrow.Author.Needs.{needs}
 use Rattle.card.proofs.targeted.Statement.{statement}
 use Rattle.card.proofs.targeted.Tie as tie
-use Rattle.card.proofs.targeted.Reads as reads
-use Rattle.card.proofs.targeted.Lts as lts
-use Rattle.ground.proofs.byte_or_zero.Reads as byte-or-zero-reads
 
--- src/lib.rt
 enum-known-target : tie.Need-enum-known-target
 enum-known-target c = search needs
 
--- src/lib.rt
 cast-byte-or-zero : tie.Need-cast-byte-or-zero
 cast-byte-or-zero c = search needs
 
--- src/lib.rt
 byte-or-zero-requires : tie.Need-byte-or-zero-requires
 byte-or-zero-requires c κs = search needs
 
--- src/lib.rt
 enum-told : tie.Need-enum-told
 enum-told c = search needs
 
--- src/lib.rt
 cast-t13 : tie.Need-cast-t13
 cast-t13 c = search needs
 
--- src/lib.rt
 returns : tie.Need-returns
 returns c = simp (c .before .enum-told .given .1, c .if1 .taken)
 
--- src/lib.rt
 enum-known-target-2 : tie.Need-enum-known-target-2
 enum-known-target-2 c = search needs
 
--- src/lib.rt
 cast-t16 : tie.Need-cast-t16
 cast-t16 c = search needs
 
--- src/lib.rt
 returns-2 : tie.Need-returns-2
 returns-2 c = simp (c .before .before .target2 .given .1, c .if2 .taken)
 
--- src/lib.rt
 enum-known-target-3 : tie.Need-enum-known-target-3
 enum-known-target-3 c = search needs
 
--- src/lib.rt
 returns-3 : tie.Need-returns-3
 returns-3 c = simp (c .before .before .target3 .given .1, c .if3 .taken)
 
--- src/lib.rt
 returns-4 : tie.Need-returns-4
 returns-4 c = simp (c .before .before .target .given .1, c .byte-or-zero .ensures)
 
--- src/lib.rt
 returns-5 : tie.Need-returns-5
 returns-5 c = simp (c .before .enum-told .given .1, c .if1 .left)
 
--- src/lib.rt
 returns-6 : tie.Need-returns-6
 returns-6 c = simp (c .before .before .target2 .given .1, c .if2 .left)
 
--- src/lib.rt
 returns-7 : tie.Need-returns-7
 returns-7 c = simp (c .before .before .target3 .given .1, c .if3 .left)
 

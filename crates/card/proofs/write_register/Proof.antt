@@ -2,138 +2,103 @@ use Rattle.card.specs.Perform.{registerWritten}
 use borrow.Author.Needs.{needs}
 use Rattle.card.proofs.write_register.Statement.{statement}
 use Rattle.card.proofs.write_register.Tie as tie
-use Rattle.card.proofs.write_register.Reads as reads
-use Rattle.card.proofs.write_register.Lts as lts
-use Rattle.card.proofs.plain_write.Reads as plain-write-reads
-use Rattle.commands.proofs.table.command_given.Reads as command-given-reads
-use Rattle.registers.proofs.Core.write_control.Reads as write-control-reads
 
--- src/lib.rt
 enum-told : tie.Need-enum-told
 enum-told c = search needs
 
--- src/lib.rt
 plain-write-requires : tie.Need-plain-write-requires
 plain-write-requires c κs = search needs
 
--- src/lib.rt
 enum-told-2 : tie.Need-enum-told-2
 enum-told-2 c = search needs
 
--- src/lib.rt
 plain-write-requires-2 : tie.Need-plain-write-requires-2
 plain-write-requires-2 c κs = search needs
 
--- src/lib.rt
 enum-told-3 : tie.Need-enum-told-3
 enum-told-3 c = search needs
 
--- src/lib.rt
 plain-write-requires-3 : tie.Need-plain-write-requires-3
 plain-write-requires-3 c κs = search needs
 
--- src/lib.rt
 enum-told-4 : tie.Need-enum-told-4
 enum-told-4 c = search needs
 
--- src/lib.rt
 plain-write-requires-4 : tie.Need-plain-write-requires-4
 plain-write-requires-4 c κs = search needs
 
--- src/lib.rt
 enum-told-5 : tie.Need-enum-told-5
 enum-told-5 c = search needs
 
--- src/lib.rt
 plain-write-requires-5 : tie.Need-plain-write-requires-5
 plain-write-requires-5 c κs = search needs
 
--- src/lib.rt
 enum-told-6 : tie.Need-enum-told-6
 enum-told-6 c = search needs
 
--- src/lib.rt
 plain-write-requires-6 : tie.Need-plain-write-requires-6
 plain-write-requires-6 c κs = search needs
 
--- src/lib.rt
 enum-told-7 : tie.Need-enum-told-7
 enum-told-7 c = search needs
 
--- src/lib.rt
 returns : tie.Need-returns
 unfolding registerWritten
 returns c = simp (c .before .before .before .enum-told7 .given .1, c .if1 .taken)
 
--- src/lib.rt
 command-given-requires : tie.Need-command-given-requires
 command-given-requires c κs = search needs
 
--- src/lib.rt
 enum-told-8 : tie.Need-enum-told-8
 enum-told-8 c = search needs
 
--- src/lib.rt
 write-control-requires : tie.Need-write-control-requires
 write-control-requires c κs = search needs
 
--- src/lib.rt
 enum-told-9 : tie.Need-enum-told-9
 enum-told-9 c = search needs
 
--- src/lib.rt
 plain-write-requires-7 : tie.Need-plain-write-requires-7
 plain-write-requires-7 c κs = search needs
 
--- src/lib.rt
 returns-2 : tie.Need-returns-2
 unfolding registerWritten
 returns-2 c = simp (c .before .enum-told .given .1, c .plain-write .ensures)
 
--- src/lib.rt
 returns-3 : tie.Need-returns-3
 unfolding registerWritten
 returns-3 c = simp (c .before .enum-told2 .given .1, c .plain-write2 .ensures)
 
--- src/lib.rt
 returns-4 : tie.Need-returns-4
 unfolding registerWritten
 returns-4 c = simp (c .before .enum-told3 .given .1, c .plain-write3 .ensures)
 
--- src/lib.rt
 returns-5 : tie.Need-returns-5
 unfolding registerWritten
 returns-5 c = simp (c .before .enum-told4 .given .1, c .plain-write4 .ensures)
 
--- src/lib.rt
 returns-6 : tie.Need-returns-6
 unfolding registerWritten
 returns-6 c = simp (c .before .enum-told5 .given .1, c .plain-write5 .ensures)
 
--- src/lib.rt
 returns-7 : tie.Need-returns-7
 unfolding registerWritten
 returns-7 c = simp (c .before .enum-told6 .given .1, c .plain-write6 .ensures)
 
--- src/lib.rt
 same-length : tie.Need-same-length
 same-length c = search needs
 
--- src/lib.rt
 same-length-2 : tie.Need-same-length-2
 same-length-2 c = search needs
 
--- src/lib.rt
 returns-8 : tie.Need-returns-8
 unfolding registerWritten
 returns-8 c = simp (c .before .before .before .before .before .before .before .before .before .before .before .enum-told7 .given .1, c .before .before .before .before .before .before .before .before .if1 .left) (c .before .before .before .before .command-given .ensures)
 
--- src/lib.rt
 returns-9 : tie.Need-returns-9
 unfolding registerWritten
 returns-9 c = simp (c .before .enum-told8 .given .1, c .write-control .ensures)
 
--- src/lib.rt
 returns-10 : tie.Need-returns-10
 unfolding registerWritten
 returns-10 c = simp (c .before .enum-told9 .given .1, c .plain-write7 .ensures)

@@ -1,20 +1,15 @@
 use lib.ListN.{List·getD-eq-default}
-use mathlib.Core.Path.{_≡_, sym, _∙_}
+use mathlib.Core.Path.{sym}
 use borrow.Author.Needs.{needs}
 use Rattle.ground.proofs.byte_or_zero.Statement.{statement}
 use Rattle.ground.proofs.byte_or_zero.Tie as tie
-use Rattle.ground.proofs.byte_or_zero.Reads as reads
-use Rattle.ground.proofs.byte_or_zero.Lts as lts
 
--- src/lib.rt
 shared-slice-read-result : tie.Need-shared-slice-read-result
 shared-slice-read-result c = search needs
 
--- src/lib.rt
 returns : tie.Need-returns
 returns c = search needs
 
--- src/lib.rt
 returns-2 : tie.Need-returns-2
 returns-2 c = sym (List·getD-eq-default (c .before .args .bytes .now) 0 (c .if1 .left))
 

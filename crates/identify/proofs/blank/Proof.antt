@@ -2,25 +2,19 @@ use Rattle.ground.proofs.Tests.{tests}
 use Rattle.identify.specs.Words.{blank}
 use Rattle.identify.proofs.blank.Statement.{statement}
 use Rattle.identify.proofs.blank.Tie as tie
-use Rattle.identify.proofs.blank.Reads as reads
-use Rattle.identify.proofs.blank.Lts as lts
 
--- src/lib.rt
 returns : tie.Need-returns
 unfolding blank
 returns c = search tests
 
--- src/lib.rt
 returns-2 : tie.Need-returns-2
 unfolding blank
 returns-2 c = search tests
 
--- src/lib.rt
 returns-3 : tie.Need-returns-3
 unfolding blank
 returns-3 c = search tests
 
--- src/lib.rt
 returns-4 : tie.Need-returns-4
 unfolding blank
 returns-4 c = search tests

@@ -1,15 +1,11 @@
 use Rattle.maps.specs.Places.{aboveThree}
 use Rattle.maps.proofs.above_three.Statement.{statement}
 use Rattle.maps.proofs.above_three.Tie as tie
-use Rattle.maps.proofs.above_three.Reads as reads
-use Rattle.maps.proofs.above_three.Lts as lts
 
--- src/lib.rt
 returns : tie.Need-returns
 unfolding aboveThree
 returns c = simp (c .if1 .taken)
 
--- src/lib.rt
 returns-2 : tie.Need-returns-2
 unfolding aboveThree
 returns-2 c = simp (c .if1 .left)

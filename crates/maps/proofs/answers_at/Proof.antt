@@ -2,28 +2,20 @@ use Rattle.maps.specs.Spaces.{answersAt}
 use borrow.Author.Needs.{needs}
 use Rattle.maps.proofs.answers_at.Statement.{statement}
 use Rattle.maps.proofs.answers_at.Tie as tie
-use Rattle.maps.proofs.answers_at.Reads as reads
-use Rattle.maps.proofs.answers_at.Lts as lts
-use Rattle.maps.proofs.card_answers.Reads as card-answers-reads
 
--- src/lib.rt
 enum-told : tie.Need-enum-told
 enum-told c = search needs
 
--- src/lib.rt
 card-answers-requires : tie.Need-card-answers-requires
 card-answers-requires c κs = search needs
 
--- src/lib.rt
 enum-told-2 : tie.Need-enum-told-2
 enum-told-2 c = search needs
 
--- src/lib.rt
 returns : tie.Need-returns
 unfolding answersAt
 returns c = simp (c .before .enum-told .given .1, c .card-answers .ensures)
 
--- src/lib.rt
 returns-2 : tie.Need-returns-2
 unfolding answersAt
 returns-2 c = simp (c .enum-told2 .given .1)

@@ -3,39 +3,28 @@ use Rattle.maps.specs.Places.{attributeAt}
 use borrow.Author.Needs.{needs}
 use Rattle.maps.proofs.attribute_at.Statement.{statement}
 use Rattle.maps.proofs.attribute_at.Tie as tie
-use Rattle.maps.proofs.attribute_at.Reads as reads
-use Rattle.maps.proofs.attribute_at.Lts as lts
-use Rattle.maps.proofs.option_at.Reads as option-at-reads
-use Rattle.maps.proofs.tuple_at.Reads as tuple-at-reads
 
--- src/lib.rt
 cast-tuple-at : tie.Need-cast-tuple-at
 cast-tuple-at c = search needs
 
--- src/lib.rt
 tuple-at-requires : tie.Need-tuple-at-requires
 tuple-at-requires c κs = search needs
 
--- src/lib.rt
 returns : tie.Need-returns
 unfolding attributeAt
 returns c = search tests
 
--- src/lib.rt
 returns-2 : tie.Need-returns-2
 unfolding attributeAt
 returns-2 c = search tests
 
--- src/lib.rt
 option-at-requires : tie.Need-option-at-requires
 option-at-requires c κs = search needs
 
--- src/lib.rt
 returns-3 : tie.Need-returns-3
 unfolding attributeAt
 returns-3 c = search tests
 
--- src/lib.rt
 returns-4 : tie.Need-returns-4
 unfolding attributeAt
 returns-4 c = search tests

@@ -2,30 +2,23 @@ use Rattle.ground.proofs.Tests.{tests}
 use Rattle.maps.specs.Spaces.{cardAnswers}
 use Rattle.maps.proofs.card_answers.Statement.{statement}
 use Rattle.maps.proofs.card_answers.Tie as tie
-use Rattle.maps.proofs.card_answers.Reads as reads
-use Rattle.maps.proofs.card_answers.Lts as lts
 
--- src/lib.rt
 returns : tie.Need-returns
 unfolding cardAnswers
 returns c = search tests
 
--- src/lib.rt
 returns-2 : tie.Need-returns-2
 unfolding cardAnswers
 returns-2 c = search tests
 
--- src/lib.rt
 returns-3 : tie.Need-returns-3
 unfolding cardAnswers
 returns-3 c = search tests
 
--- src/lib.rt
 returns-4 : tie.Need-returns-4
 unfolding cardAnswers
 returns-4 c = search tests
 
--- src/lib.rt
 returns-5 : tie.Need-returns-5
 unfolding cardAnswers
 returns-5 c = search tests

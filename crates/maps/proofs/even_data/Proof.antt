@@ -2,15 +2,11 @@ use Rattle.ground.proofs.Tests.{tests}
 use Rattle.maps.specs.Places.{evenData}
 use Rattle.maps.proofs.even_data.Statement.{statement}
 use Rattle.maps.proofs.even_data.Tie as tie
-use Rattle.maps.proofs.even_data.Reads as reads
-use Rattle.maps.proofs.even_data.Lts as lts
 
--- src/lib.rt
 returns : tie.Need-returns
 unfolding evenData
 returns c = search tests
 
--- src/lib.rt
 returns-2 : tie.Need-returns-2
 unfolding evenData
 returns-2 c = search tests

@@ -3,39 +3,29 @@ use Rattle.maps.specs.Offsets.{ioAt}
 use borrow.Author.Needs.{needs}
 use Rattle.maps.proofs.io_at.Statement.{statement}
 use Rattle.maps.proofs.io_at.Tie as tie
-use Rattle.maps.proofs.io_at.Reads as reads
-use Rattle.maps.proofs.io_at.Lts as lts
-use Rattle.maps.proofs.window_at.Reads as window-at-reads
 
--- src/lib.rt
 returns : tie.Need-returns
 unfolding ioAt
 returns c = search tests
 
--- src/lib.rt
 returns-2 : tie.Need-returns-2
 unfolding ioAt
 returns-2 c = search tests
 
--- src/lib.rt
 window-at-requires : tie.Need-window-at-requires
 window-at-requires c κs = search needs
 
--- src/lib.rt
 returns-3 : tie.Need-returns-3
 unfolding ioAt
 returns-3 c = search tests
 
--- src/lib.rt
 window-at-requires-2 : tie.Need-window-at-requires-2
 window-at-requires-2 c κs = search needs
 
--- src/lib.rt
 returns-4 : tie.Need-returns-4
 unfolding ioAt
 returns-4 c = search tests
 
--- src/lib.rt
 returns-5 : tie.Need-returns-5
 unfolding ioAt
 returns-5 c = search tests

@@ -3,29 +3,22 @@ use Rattle.maps.specs.Offsets.{memoryAt}
 use borrow.Author.Needs.{needs}
 use Rattle.maps.proofs.memory_at.Statement.{statement}
 use Rattle.maps.proofs.memory_at.Tie as tie
-use Rattle.maps.proofs.memory_at.Reads as reads
-use Rattle.maps.proofs.memory_at.Lts as lts
 
--- src/lib.rt
 returns : tie.Need-returns
 unfolding memoryAt
 returns c = search tests
 
--- src/lib.rt
 add-t7 : tie.Need-add-t7
 add-t7 c = search needs
 
--- src/lib.rt
 returns-2 : tie.Need-returns-2
 unfolding memoryAt
 returns-2 c = search tests
 
--- src/lib.rt
 returns-3 : tie.Need-returns-3
 unfolding memoryAt
 returns-3 c = search tests
 
--- src/lib.rt
 returns-4 : tie.Need-returns-4
 unfolding memoryAt
 returns-4 c = search tests

@@ -3,25 +3,19 @@ use Rattle.ground.proofs.Tests.{tests}
 use Rattle.maps.specs.Places.{misfits}
 use Rattle.maps.proofs.misfits.Statement.{statement}
 use Rattle.maps.proofs.misfits.Tie as tie
-use Rattle.maps.proofs.misfits.Reads as reads
-use Rattle.maps.proofs.misfits.Lts as lts
 
--- src/lib.rt
 returns : tie.Need-returns
 unfolding misfits
 returns c = simp (eq-eqb _ _ (c .before .if1 .taken), c .if2 .taken)
 
--- src/lib.rt
 returns-2 : tie.Need-returns-2
 unfolding misfits
 returns-2 c = simp (eq-eqb _ _ (c .before .if1 .taken), c .if2 .left)
 
--- src/lib.rt
 returns-3 : tie.Need-returns-3
 unfolding misfits
 returns-3 c = search tests
 
--- src/lib.rt
 returns-4 : tie.Need-returns-4
 unfolding misfits
 returns-4 c = search tests

@@ -3,40 +3,28 @@ use Rattle.maps.specs.Offsets.{offsetAt}
 use borrow.Author.Needs.{needs}
 use Rattle.maps.proofs.offset_at.Statement.{statement}
 use Rattle.maps.proofs.offset_at.Tie as tie
-use Rattle.maps.proofs.offset_at.Reads as reads
-use Rattle.maps.proofs.offset_at.Lts as lts
-use Rattle.maps.proofs.io_at.Reads as io-at-reads
-use Rattle.maps.proofs.memory_at.Reads as memory-at-reads
-use Rattle.maps.proofs.window_at.Reads as window-at-reads
 
--- src/lib.rt
 memory-at-requires : tie.Need-memory-at-requires
 memory-at-requires c κs = search needs
 
--- src/lib.rt
 returns : tie.Need-returns
 unfolding offsetAt
 returns c = search tests
 
--- src/lib.rt
 io-at-requires : tie.Need-io-at-requires
 io-at-requires c κs = search needs
 
--- src/lib.rt
 returns-2 : tie.Need-returns-2
 unfolding offsetAt
 returns-2 c = search tests
 
--- src/lib.rt
 window-at-requires : tie.Need-window-at-requires
 window-at-requires c κs = search needs
 
--- src/lib.rt
 returns-3 : tie.Need-returns-3
 unfolding offsetAt
 returns-3 c = search tests
 
--- src/lib.rt
 returns-4 : tie.Need-returns-4
 unfolding offsetAt
 returns-4 c = search tests

@@ -4,25 +4,18 @@ use Rattle.maps.specs.Places.{portAt}
 use borrow.Author.Needs.{needs}
 use Rattle.maps.proofs.port_at.Statement.{statement}
 use Rattle.maps.proofs.port_at.Tie as tie
-use Rattle.maps.proofs.port_at.Reads as reads
-use Rattle.maps.proofs.port_at.Lts as lts
-use Rattle.maps.proofs.misfits.Reads as misfits-reads
 
--- src/lib.rt
 misfits-requires : tie.Need-misfits-requires
 misfits-requires c κs = search needs
 
--- src/lib.rt
 returns : tie.Need-returns
 unfolding portAt
 returns c = simp (sym (c .before .misfits .ensures) ∙ c .if1 .taken)
 
--- src/lib.rt
 returns-2 : tie.Need-returns-2
 unfolding portAt
 returns-2 c = simp (sym (c .before .before .misfits .ensures) ∙ c .before .if1 .left, eq-eqb _ _ (c .if2 .taken))
 
--- src/lib.rt
 returns-3 : tie.Need-returns-3
 unfolding portAt
 returns-3 c = simp (sym (c .before .before .misfits .ensures) ∙ c .before .if1 .left, ne-eqb _ _ (c .if2 .left))

@@ -2,28 +2,20 @@ use Rattle.maps.specs.Places.{registerAt}
 use borrow.Author.Needs.{needs}
 use Rattle.maps.proofs.register_at.Statement.{statement}
 use Rattle.maps.proofs.register_at.Tie as tie
-use Rattle.maps.proofs.register_at.Reads as reads
-use Rattle.maps.proofs.register_at.Lts as lts
-use Rattle.maps.proofs.place_at.Reads as place-at-reads
 
--- src/lib.rt
 enum-known-offset : tie.Need-enum-known-offset
 enum-known-offset c = search needs
 
--- src/lib.rt
 place-at-requires : tie.Need-place-at-requires
 place-at-requires c κs = search needs
 
--- src/lib.rt
 enum-told : tie.Need-enum-told
 enum-told c = search needs
 
--- src/lib.rt
 returns : tie.Need-returns
 unfolding registerAt
 returns c = simp (c .before .before .offset .given .1, c .place-at .ensures)
 
--- src/lib.rt
 returns-2 : tie.Need-returns-2
 unfolding registerAt
 returns-2 c = simp (c .enum-told .given .1)

@@ -6,35 +6,26 @@ use Rattle.maps.specs.Offsets.{windowAt}
 use borrow.Author.Needs.{needs}
 use Rattle.maps.proofs.window_at.Statement.{statement}
 use Rattle.maps.proofs.window_at.Tie as tie
-use Rattle.maps.proofs.window_at.Reads as reads
-use Rattle.maps.proofs.window_at.Lts as lts
-use Rattle.maps.proofs.within.Reads as within-reads
 
--- src/lib.rt
 within-requires : tie.Need-within-requires
 within-requires c κs = search needs
 
--- src/lib.rt
 sub-t7 : tie.Need-sub-t7
 unfolding within
 sub-t7 c = leb-true _ _ (and-left _ _ (sym (c .before .within .ensures) ∙ c .if1 .taken))
 
--- src/lib.rt
 returns : tie.Need-returns
 unfolding windowAt
 returns c = simp (sym (c .before .within .ensures) ∙ c .if1 .taken)
 
--- src/lib.rt
 returns-2 : tie.Need-returns-2
 unfolding windowAt
 returns-2 c = simp (sym (c .before .before .within .ensures) ∙ c .before .if1 .left, eq-eqb _ _ (c .if2 .taken))
 
--- src/lib.rt
 returns-3 : tie.Need-returns-3
 unfolding windowAt
 returns-3 c = simp (sym (c .before .before .before .within .ensures) ∙ c .before .before .if1 .left, ne-eqb _ _ (c .before .if2 .left), eq-eqb _ _ (c .if3 .taken))
 
--- src/lib.rt
 returns-4 : tie.Need-returns-4
 unfolding windowAt
 returns-4 c = simp (sym (c .before .before .before .within .ensures) ∙ c .before .before .if1 .left, ne-eqb _ _ (c .before .if2 .left), ne-eqb _ _ (c .if3 .left))

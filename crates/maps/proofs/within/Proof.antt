@@ -2,15 +2,11 @@ use Rattle.ground.proofs.Tests.{tests}
 use Rattle.maps.specs.Offsets.{within}
 use Rattle.maps.proofs.within.Statement.{statement}
 use Rattle.maps.proofs.within.Tie as tie
-use Rattle.maps.proofs.within.Reads as reads
-use Rattle.maps.proofs.within.Lts as lts
 
--- src/lib.rt
 returns : tie.Need-returns
 unfolding within
 returns c = search tests
 
--- src/lib.rt
 returns-2 : tie.Need-returns-2
 unfolding within
 returns-2 c = search tests

@@ -3,28 +3,19 @@ use lib.ListN.{List·getD-eq-default}
 use borrow.Author.Needs.{needs}
 use Rattle.port.proofs.byte_at.Statement.{statement}
 use Rattle.port.proofs.byte_at.Tie as tie
-use Rattle.port.proofs.byte_at.Reads as reads
-use Rattle.port.proofs.byte_at.Lts as lts
-use Rattle.ground.proofs.told.Reads as told-reads
-use Rattle.ground.proofs.wide.Reads as wide-reads
 
--- src/lib.rt
 told-requires : tie.Need-told-requires
 told-requires c κs = search needs
 
--- src/lib.rt
 element-copy-out-wide : tie.Need-element-copy-out-wide
 element-copy-out-wide c = search needs
 
--- src/lib.rt
 wide-requires : tie.Need-wide-requires
 wide-requires c κs = search needs
 
--- src/lib.rt
 returns : tie.Need-returns
 returns c = search needs
 
--- src/lib.rt
 returns-2 : tie.Need-returns-2
 returns-2 c = (sym (List·getD-eq-default (c .before .before .args .buffer .now) 0 (simp (c .before .told .ensures) (c .if1 .left))), search needs)
 

@@ -2,26 +2,18 @@ use Rattle.port.specs.Data.{wordRead}
 use borrow.Author.Needs.{needs}
 use Rattle.port.proofs.part_read.Statement.{statement}
 use Rattle.port.proofs.part_read.Tie as tie
-use Rattle.port.proofs.part_read.Reads as reads
-use Rattle.port.proofs.part_read.Lts as lts
-use Rattle.port.proofs.halved.Reads as halved-reads
-use Rattle.port.proofs.word_read.Reads as word-read-reads
 
--- src/lib.rt
 word-read-requires : tie.Need-word-read-requires
 word-read-requires c κs = search needs
 
--- src/lib.rt
 returns : tie.Need-returns
 unfolding wordRead
 returns c =
     simp (c .before .before .if1 .taken) (c .word-read .ensures)
 
--- src/lib.rt
 halved-requires : tie.Need-halved-requires
 halved-requires c κs = search needs
 
--- src/lib.rt
 returns-2 : tie.Need-returns-2
 returns-2 c =
     simp (c .before .if1 .left, c .halved .ensures)

@@ -1,67 +1,49 @@
 use borrow.Author.Needs.{needs}
 use Rattle.port.proofs.part_value.Statement.{statement}
 use Rattle.port.proofs.part_value.Tie as tie
-use Rattle.port.proofs.part_value.Reads as reads
-use Rattle.port.proofs.part_value.Lts as lts
-use Rattle.port.proofs.byte_at.Reads as byte-at-reads
 
--- src/lib.rt
 mul-low : tie.Need-mul-low
 mul-low c = search needs
 
--- src/lib.rt
 enum-told : tie.Need-enum-told
 enum-told c = search needs
 
--- src/lib.rt
 byte-at-requires : tie.Need-byte-at-requires
 byte-at-requires c κs = search needs
 
--- src/lib.rt
 enum-told-2 : tie.Need-enum-told-2
 enum-told-2 c = search needs
 
--- src/lib.rt
 add-byte-at : tie.Need-add-byte-at
 add-byte-at c = search needs
 
--- src/lib.rt
 byte-at-requires-2 : tie.Need-byte-at-requires-2
 byte-at-requires-2 c κs = search needs
 
--- src/lib.rt
 enum-told-3 : tie.Need-enum-told-3
 enum-told-3 c = search needs
 
--- src/lib.rt
 byte-at-requires-3 : tie.Need-byte-at-requires-3
 byte-at-requires-3 c κs = search needs
 
--- src/lib.rt
 add-byte-at-2 : tie.Need-add-byte-at-2
 add-byte-at-2 c = search needs
 
--- src/lib.rt
 byte-at-requires-4 : tie.Need-byte-at-requires-4
 byte-at-requires-4 c κs = search needs
 
--- src/lib.rt
 mul-result : tie.Need-mul-result
 mul-result c = search needs
 
--- src/lib.rt
 add-result : tie.Need-add-result
 add-result c = search needs
 
--- src/lib.rt
 returns : tie.Need-returns
 returns c = simp (c .before .enum-told .given .1, c .byte-at .ensures .0)
 
--- src/lib.rt
 returns-2 : tie.Need-returns-2
 returns-2 c = simp (c .before .enum-told2 .given .1, c .byte-at2 .ensures .0)
 
--- src/lib.rt
 returns-3 : tie.Need-returns-3
 returns-3 c = simp (c .before .before .enum-told3 .given .1, c .byte-at4 .ensures .0, c .before .byte-at3 .ensures .0)
 

@@ -2,34 +2,24 @@ use Rattle.port.specs.Data.{wordWritten}
 use borrow.Author.Needs.{needs}
 use Rattle.port.proofs.part_written.Statement.{statement}
 use Rattle.port.proofs.part_written.Tie as tie
-use Rattle.port.proofs.part_written.Reads as reads
-use Rattle.port.proofs.part_written.Lts as lts
-use Rattle.port.proofs.halved.Reads as halved-reads
-use Rattle.port.proofs.word_written.Reads as word-written-reads
 
--- src/lib.rt
 word-written-requires : tie.Need-word-written-requires
 word-written-requires c κs = search needs
 
--- src/lib.rt
 same-length : tie.Need-same-length
 same-length c = search needs
 
--- src/lib.rt
 same-length-2 : tie.Need-same-length-2
 same-length-2 c = search needs
 
--- src/lib.rt
 returns : tie.Need-returns
 unfolding wordWritten
 returns c =
     simp (c .before .before .before .before .before .before .before .if1 .taken) (c .before .before .before .before .word-written .ensures)
 
--- src/lib.rt
 halved-requires : tie.Need-halved-requires
 halved-requires c κs = search needs
 
--- src/lib.rt
 returns-2 : tie.Need-returns-2
 returns-2 c =
     simp (c .before .if1 .left, c .halved .ensures)

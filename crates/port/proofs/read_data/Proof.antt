@@ -2,69 +2,49 @@ use Rattle.port.specs.Data.{dataRead}
 use borrow.Author.Needs.{needs}
 use Rattle.port.proofs.read_data.Statement.{statement}
 use Rattle.port.proofs.read_data.Tie as tie
-use Rattle.port.proofs.read_data.Reads as reads
-use Rattle.port.proofs.read_data.Lts as lts
-use Rattle.port.proofs.absent.Reads as absent-reads
-use Rattle.port.proofs.accepted.Reads as accepted-reads
-use Rattle.port.proofs.held_value.Reads as held-value-reads
-use Rattle.port.proofs.taken_read.Reads as taken-read-reads
 
--- src/lib.rt
 held-value-requires : tie.Need-held-value-requires
 held-value-requires c κs = search needs
 
--- src/lib.rt
 accepted-requires : tie.Need-accepted-requires
 accepted-requires c κs = search needs
 
--- src/lib.rt
 returns : tie.Need-returns
 unfolding dataRead
 returns c = simp (c .before .before .if1 .taken, c .accepted .ensures, c .before .held-value .ensures)
 
--- src/lib.rt
 enum-told : tie.Need-enum-told
 enum-told c = search needs
 
--- src/lib.rt
 absent-requires : tie.Need-absent-requires
 absent-requires c κs = search needs
 
--- src/lib.rt
 accepted-requires-2 : tie.Need-accepted-requires-2
 accepted-requires-2 c κs = search needs
 
--- src/lib.rt
 enum-known-phase : tie.Need-enum-known-phase
 enum-known-phase c = search needs
 
--- src/lib.rt
 taken-read-requires : tie.Need-taken-read-requires
 taken-read-requires c κs = search needs
 
--- src/lib.rt
 enum-told-2 : tie.Need-enum-told-2
 enum-told-2 c = search needs
 
--- src/lib.rt
 absent-requires-2 : tie.Need-absent-requires-2
 absent-requires-2 c κs = search needs
 
--- src/lib.rt
 accepted-requires-3 : tie.Need-accepted-requires-3
 accepted-requires-3 c κs = search needs
 
--- src/lib.rt
 returns-2 : tie.Need-returns-2
 unfolding dataRead
 returns-2 c = simp (c .before .before .before .before .if1 .left, c .before .before .enum-told .given .1, c .accepted2 .ensures, c .before .absent .ensures)
 
--- src/lib.rt
 returns-3 : tie.Need-returns-3
 unfolding dataRead
 returns-3 c = simp (c .before .before .before .before .before .if1 .left, c .before .before .before .phase .given .1) (simp (c .before .before .before .phase .given .1) at (c .taken-read .ensures))
 
--- src/lib.rt
 returns-4 : tie.Need-returns-4
 unfolding dataRead
 returns-4 c = simp (c .before .before .before .before .if1 .left, c .before .before .enum-told2 .given .1, c .accepted3 .ensures, c .before .absent2 .ensures)

@@ -5,48 +5,32 @@ use mathlib.Core.Path.{sym, ap, _∙_}
 use borrow.Author.Needs.{needs}
 use Rattle.port.proofs.taken_read.Statement.{statement}
 use Rattle.port.proofs.taken_read.Tie as tie
-use Rattle.port.proofs.taken_read.Reads as reads
-use Rattle.port.proofs.taken_read.Lts as lts
-use Rattle.port.proofs.accepted.Reads as accepted-reads
-use Rattle.port.proofs.part_read.Reads as part-read-reads
-use Rattle.port.proofs.part_value.Reads as part-value-reads
-use Rattle.port.proofs.refused.Reads as refused-reads
-use Rattle.port.proofs.take_of.Reads as take-of-reads
 
--- src/lib.rt
 take-of-requires : tie.Need-take-of-requires
 take-of-requires c κs = search needs
 
--- src/lib.rt
 enum-told : tie.Need-enum-told
 enum-told c = search needs
 
--- src/lib.rt
 refused-requires : tie.Need-refused-requires
 refused-requires c κs = search needs
 
--- src/lib.rt
 enum-known-part : tie.Need-enum-known-part
 enum-known-part c = search needs
 
--- src/lib.rt
 part-value-requires : tie.Need-part-value-requires
 part-value-requires c κs = search needs
 
--- src/lib.rt
 part-read-requires : tie.Need-part-read-requires
 part-read-requires c κs = search needs
 
--- src/lib.rt
 accepted-requires : tie.Need-accepted-requires
 accepted-requires c κs = search needs
 
--- src/lib.rt
 returns : tie.Need-returns
 returns c =
     let e = sym (c .before .before .before .take-of .ensures) ∙ c .before .enum-told .given .1 in simp (e, c .refused .ensures)
 
--- src/lib.rt
 returns-2 : tie.Need-returns-2
 returns-2 c =
     let e = sym (c .before .before .before .before .before .before .before .before .take-of .ensures) ∙ c .before .before .before .before .before .before .part .given .1 in

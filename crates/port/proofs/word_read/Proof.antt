@@ -3,24 +3,17 @@ use Rattle.port.specs.Data.{wordRead}
 use borrow.Author.Needs.{needs}
 use Rattle.port.proofs.word_read.Statement.{statement}
 use Rattle.port.proofs.word_read.Tie as tie
-use Rattle.port.proofs.word_read.Reads as reads
-use Rattle.port.proofs.word_read.Lts as lts
-use Rattle.port.proofs.next_word.Reads as next-word-reads
 
--- src/lib.rt
 next-word-requires : tie.Need-next-word-requires
 next-word-requires c κs = search needs
 
--- src/lib.rt
 returns : tie.Need-returns
 unfolding wordRead
 returns c = simp (lt-ltb _ _ (c .before .if1 .taken), c .next-word .ensures)
 
--- src/lib.rt
 load-read-requires : tie.Need-load-read-requires
 load-read-requires c κs = search needs
 
--- src/lib.rt
 returns-2 : tie.Need-returns-2
 unfolding wordRead
 returns-2 c = simp (le-ltb _ _ (c .before .before .if1 .left)) (c .load-read .ensures)

@@ -1,75 +1,55 @@
 use borrow.Author.Needs.{needs}
 use Rattle.port.proofs.write_part.Statement.{statement}
 use Rattle.port.proofs.write_part.Tie as tie
-use Rattle.port.proofs.write_part.Reads as reads
-use Rattle.port.proofs.write_part.Lts as lts
-use Rattle.port.proofs.set_byte.Reads as set-byte-reads
 
--- src/lib.rt
 mul-low : tie.Need-mul-low
 mul-low c = search needs
 
--- src/lib.rt
 enum-told : tie.Need-enum-told
 enum-told c = search needs
 
--- src/lib.rt
 cast-set-byte : tie.Need-cast-set-byte
 cast-set-byte c = search needs
 
--- src/lib.rt
 set-byte-requires : tie.Need-set-byte-requires
 set-byte-requires c κs = search needs
 
--- src/lib.rt
 enum-told-2 : tie.Need-enum-told-2
 enum-told-2 c = search needs
 
--- src/lib.rt
 add-set-byte : tie.Need-add-set-byte
 add-set-byte c = search needs
 
--- src/lib.rt
 cast-set-byte-2 : tie.Need-cast-set-byte-2
 cast-set-byte-2 c = search needs
 
--- src/lib.rt
 set-byte-requires-2 : tie.Need-set-byte-requires-2
 set-byte-requires-2 c κs = search needs
 
--- src/lib.rt
 enum-told-3 : tie.Need-enum-told-3
 enum-told-3 c = search needs
 
--- src/lib.rt
 cast-set-byte-3 : tie.Need-cast-set-byte-3
 cast-set-byte-3 c = search needs
 
--- src/lib.rt
 set-byte-requires-3 : tie.Need-set-byte-requires-3
 set-byte-requires-3 c κs = search needs
 
--- src/lib.rt
 add-set-byte-2 : tie.Need-add-set-byte-2
 add-set-byte-2 c = search needs
 
--- src/lib.rt
 cast-set-byte-4 : tie.Need-cast-set-byte-4
 cast-set-byte-4 c = search needs
 
--- src/lib.rt
 set-byte-requires-4 : tie.Need-set-byte-requires-4
 set-byte-requires-4 c κs = search needs
 
--- src/lib.rt
 returns : tie.Need-returns
 returns c = simp (c .before .before .enum-told .given .1, c .set-byte .ensures)
 
--- src/lib.rt
 returns-2 : tie.Need-returns-2
 returns-2 c = simp (c .before .before .enum-told2 .given .1, c .set-byte2 .ensures)
 
--- src/lib.rt
 returns-3 : tie.Need-returns-3
 returns-3 c = simp (c .before .before .before .before .enum-told3 .given .1, c .set-byte4 .ensures, c .before .before .set-byte3 .ensures)
 

@@ -2,20 +2,15 @@ use Rattle.ground.proofs.Tests.{tests}
 use Rattle.registers.specs.WellMade.{atRest}
 use Rattle.registers.proofs.at_rest.Statement.{statement}
 use Rattle.registers.proofs.at_rest.Tie as tie
-use Rattle.registers.proofs.at_rest.Reads as reads
-use Rattle.registers.proofs.at_rest.Lts as lts
 
--- src/lib.rt
 returns : tie.Need-returns
 unfolding atRest
 returns c = search tests
 
--- src/lib.rt
 returns-2 : tie.Need-returns-2
 unfolding atRest
 returns-2 c = search tests
 
--- src/lib.rt
 returns-3 : tie.Need-returns-3
 unfolding atRest
 returns-3 c = search tests

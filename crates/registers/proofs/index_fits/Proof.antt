@@ -2,10 +2,7 @@ use Rattle.ground.proofs.Tests.{tests}
 use Rattle.registers.specs.WellMade.{indexFits}
 use Rattle.registers.proofs.index_fits.Statement.{statement}
 use Rattle.registers.proofs.index_fits.Tie as tie
-use Rattle.registers.proofs.index_fits.Reads as reads
-use Rattle.registers.proofs.index_fits.Lts as lts
 
--- src/lib.rt
 returns : tie.Need-returns
 unfolding indexFits
 returns c = search tests

@@ -1,30 +1,23 @@
-use borrow.Author.Tests.{eq-eqb, ne-eqb, lt-ltb, le-ltb, le-leb, lt-leb}
+use borrow.Author.Tests.{le-leb, lt-leb}
 use Rattle.registers.specs.WellMade.{sresetFits}
 use borrow.Author.Needs.{needs}
 use Rattle.registers.proofs.sreset_fits.Statement.{statement}
 use Rattle.registers.proofs.sreset_fits.Tie as tie
-use Rattle.registers.proofs.sreset_fits.Reads as reads
-use Rattle.registers.proofs.sreset_fits.Lts as lts
 
--- src/lib.rt
 enum-told : tie.Need-enum-told
 enum-told c = search needs
 
--- src/lib.rt
 enum-told-2 : tie.Need-enum-told-2
 enum-told-2 c = search needs
 
--- src/lib.rt
 returns : tie.Need-returns
 unfolding sresetFits
 returns c = simp (c .before .enum-told2 .given .1, le-leb _ _ (c .if1 .taken))
 
--- src/lib.rt
 returns-2 : tie.Need-returns-2
 unfolding sresetFits
 returns-2 c = simp (c .enum-told .given .1)
 
--- src/lib.rt
 returns-3 : tie.Need-returns-3
 unfolding sresetFits
 returns-3 c = simp (c .before .enum-told2 .given .1, lt-leb _ _ (c .if1 .left))

@@ -2,37 +2,27 @@ use Rattle.registers.specs.WellMade.{statusFits}
 use borrow.Author.Needs.{needs}
 use Rattle.registers.proofs.status_fits.Statement.{statement}
 use Rattle.registers.proofs.status_fits.Tie as tie
-use Rattle.registers.proofs.status_fits.Reads as reads
-use Rattle.registers.proofs.status_fits.Lts as lts
-use Rattle.registers.proofs.at_rest.Reads as at-rest-reads
 
--- src/lib.rt
 enum-told : tie.Need-enum-told
 enum-told c = search needs
 
--- src/lib.rt
 at-rest-requires : tie.Need-at-rest-requires
 at-rest-requires c κs = search needs
 
--- src/lib.rt
 enum-told-2 : tie.Need-enum-told-2
 enum-told-2 c = search needs
 
--- src/lib.rt
 enum-told-3 : tie.Need-enum-told-3
 enum-told-3 c = search needs
 
--- src/lib.rt
 returns : tie.Need-returns
 unfolding statusFits
 returns c = simp (c .before .enum-told .given .1, c .at-rest .ensures)
 
--- src/lib.rt
 returns-2 : tie.Need-returns-2
 unfolding statusFits
 returns-2 c = simp (c .enum-told2 .given .1)
 
--- src/lib.rt
 returns-3 : tie.Need-returns-3
 unfolding statusFits
 returns-3 c = simp (c .enum-told3 .given .1)

@@ -1,14 +1,11 @@
 use Rattle.ground.proofs.Lists.{copy-more, copy-all}
 use lib.ListN.{length, take}
-use mathlib.Core.Path.{_≡_, sym, _∙_}
-use Prim.Native.Nat.{_≤_, _-_, _+_, _*_}
+use mathlib.Core.Path.{_≡_}
+use Prim.Native.Nat.{_≤_, _-_}
 use native.Mathlib.Omega.{arith}
 use borrow.Author.Needs.{needs}
 use Rattle.sectors.proofs.fill.Statement.{statement}
 use Rattle.sectors.proofs.fill.Tie as tie
-use Rattle.sectors.proofs.fill.Reads as reads
-use Rattle.sectors.proofs.fill.Lts as lts
-use Rattle.ground.proofs.told.Reads as told-reads
 
 abbrev Inv-loop : tie.InvT-loop
 Inv-loop part₀ bytes i₀ part i = (i ≤ 512) × (length part ≡ 512) × (take i part ≡ take i bytes)
@@ -16,41 +13,32 @@ Inv-loop part₀ bytes i₀ part i = (i ≤ 512) × (length part ≡ 512) × (ta
 abbrev μ-loop : tie.MeasureT-loop
 μ-loop part₀ bytes i₀ part i = 512 - i
 
--- src/lib.rt
 told-requires : tie.Need-told-requires Inv-loop μ-loop
 told-requires c κs = search needs
 
--- src/lib.rt
 loop-holds : tie.Need-loop-holds Inv-loop μ-loop
 loop-holds c = search needs
 
--- src/lib.rt
 element-copy-out-part : tie.Need-element-copy-out-part Inv-loop μ-loop
 element-copy-out-part c = search needs
 
--- src/lib.rt
 slice-write-part : tie.Need-slice-write-part Inv-loop μ-loop
 slice-write-part c = search needs
 
--- src/lib.rt
 add-i : tie.Need-add-i Inv-loop μ-loop
 add-i c = search needs
 
--- src/lib.rt
 loop-less : tie.Need-loop-less Inv-loop μ-loop
 loop-less c = search needs
 
--- src/lib.rt
 loop-again : tie.Need-loop-again Inv-loop μ-loop
 loop-again c =
     let i = c .before .before .loop in
     (search needs, search needs, copy-more (i .i) _ (i .part) (omega arith) (omega arith) (i .inv .2))
 
--- src/lib.rt
 same-length : tie.Need-same-length Inv-loop μ-loop
 same-length c = search needs
 
--- src/lib.rt
 returns : tie.Need-returns Inv-loop μ-loop
 returns c =
     let i = c .before .loop in

@@ -3,14 +3,11 @@ use Rattle.ground.proofs.Lists.{copy-more}
 use lib.Seq.{getD-drop, take-all}
 use lib.ListN.{length, take, drop, length-drop}
 use mathlib.Core.Path.{_≡_, sym, _∙_}
-use Prim.Native.Nat.{_≤_, _-_, _+_, _*_}
+use Prim.Native.Nat.{_≤_, _-_, _*_}
 use native.Mathlib.Omega.{arith}
 use borrow.Author.Needs.{needs}
 use Rattle.sectors.proofs.get_sector.Statement.{statement}
 use Rattle.sectors.proofs.get_sector.Tie as tie
-use Rattle.sectors.proofs.get_sector.Reads as reads
-use Rattle.sectors.proofs.get_sector.Lts as lts
-use Rattle.ground.proofs.told.Reads as told-reads
 
 abbrev Inv-loop : tie.InvT-loop
 Inv-loop buffer₀ store i a k₀ buffer k = (k ≤ 512) × (length buffer ≡ 512) × (take k buffer ≡ take k (drop a store))
@@ -18,39 +15,30 @@ Inv-loop buffer₀ store i a k₀ buffer k = (k ≤ 512) × (length buffer ≡ 5
 abbrev μ-loop : tie.MeasureT-loop
 μ-loop buffer₀ store i a k₀ buffer k = 512 - k
 
--- src/lib.rt
 told-requires : tie.Need-told-requires Inv-loop μ-loop
 told-requires c κs = search needs
 
--- src/lib.rt
 mul-a : tie.Need-mul-a Inv-loop μ-loop
 mul-a c = search needs
 
--- src/lib.rt
 loop-holds : tie.Need-loop-holds Inv-loop μ-loop
 loop-holds c = search needs
 
--- src/lib.rt
 add-buffer : tie.Need-add-buffer Inv-loop μ-loop
 add-buffer c = search needs
 
--- src/lib.rt
 shared-slice-read-buffer : tie.Need-shared-slice-read-buffer Inv-loop μ-loop
 shared-slice-read-buffer c = search needs
 
--- src/lib.rt
 element-write-buffer : tie.Need-element-write-buffer Inv-loop μ-loop
 element-write-buffer c = search needs
 
--- src/lib.rt
 add-k : tie.Need-add-k Inv-loop μ-loop
 add-k c = search needs
 
--- src/lib.rt
 loop-less : tie.Need-loop-less Inv-loop μ-loop
 loop-less c = search needs
 
--- src/lib.rt
 loop-again : tie.Need-loop-again Inv-loop μ-loop
 loop-again c =
     let i = c .before .before .loop in
@@ -58,7 +46,6 @@ loop-again c =
     let s = a .store .now in
     (search needs, search needs, rw (← getD-drop (512 * a .i) s (i .k) 0) (copy-more (i .k) (drop (512 * a .i) s) (i .buffer) (simp length-drop (omega arith)) (omega arith) (i .inv .2)))
 
--- src/lib.rt
 returns : tie.Need-returns Inv-loop μ-loop
 unfolding sectorOf
 returns c =

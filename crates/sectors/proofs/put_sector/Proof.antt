@@ -6,39 +6,28 @@ use Rattle.sectors.specs.Sectors.{withSector}
 use borrow.Author.Needs.{needs}
 use Rattle.sectors.proofs.put_sector.Statement.{statement}
 use Rattle.sectors.proofs.put_sector.Tie as tie
-use Rattle.sectors.proofs.put_sector.Reads as reads
-use Rattle.sectors.proofs.put_sector.Lts as lts
-use Rattle.sectors.proofs.fill.Reads as fill-reads
 
--- src/lib.rt
 mul-a : tie.Need-mul-a
 mul-a c = search needs
 
--- src/lib.rt
 add-e : tie.Need-add-e
 add-e c = search needs
 
--- src/lib.rt
 sub-fill : tie.Need-sub-fill
 sub-fill c = search needs
 
--- src/lib.rt
 part-fill-start : tie.Need-part-fill-start
 part-fill-start c = search needs
 
--- src/lib.rt
 part-fill-end : tie.Need-part-fill-end
 part-fill-end c = search needs
 
--- src/lib.rt
 fill-requires : tie.Need-fill-requires
 fill-requires c κs = search needs
 
--- src/lib.rt
 same-length : tie.Need-same-length
 same-length c = search needs
 
--- src/lib.rt
 returns : tie.Need-returns
 unfolding withSector
 returns c =

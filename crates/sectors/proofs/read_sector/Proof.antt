@@ -3,20 +3,14 @@ use Rattle.sectors.specs.Sectors.{bufferRead}
 use borrow.Author.Needs.{needs}
 use Rattle.sectors.proofs.read_sector.Statement.{statement}
 use Rattle.sectors.proofs.read_sector.Tie as tie
-use Rattle.sectors.proofs.read_sector.Reads as reads
-use Rattle.sectors.proofs.read_sector.Lts as lts
-use Rattle.sectors.proofs.get_sector.Reads as get-sector-reads
 
--- src/lib.rt
 get-sector-requires : tie.Need-get-sector-requires
 get-sector-requires c κs = search needs
 
--- src/lib.rt
 returns : tie.Need-returns
 unfolding bufferRead
 returns c = simp (lt-ltb _ _ (c .before .before .if1 .taken)) (c .get-sector .ensures)
 
--- src/lib.rt
 returns-2 : tie.Need-returns-2
 unfolding bufferRead
 returns-2 c = simp (le-ltb _ _ (c .if1 .left))

@@ -3,37 +3,27 @@ use Rattle.sectors.specs.Sectors.{stored}
 use borrow.Author.Needs.{needs}
 use Rattle.sectors.proofs.store_sector.Statement.{statement}
 use Rattle.sectors.proofs.store_sector.Tie as tie
-use Rattle.sectors.proofs.store_sector.Reads as reads
-use Rattle.sectors.proofs.store_sector.Lts as lts
-use Rattle.sectors.proofs.put_sector.Reads as put-sector-reads
 
--- src/lib.rt
 put-sector-requires : tie.Need-put-sector-requires
 put-sector-requires c κs = search needs
 
--- src/lib.rt
 slice-write-marks : tie.Need-slice-write-marks
 slice-write-marks c = search needs
 
--- src/lib.rt
 same-length : tie.Need-same-length
 same-length c = search needs
 
--- src/lib.rt
 same-length-2 : tie.Need-same-length-2
 same-length-2 c = search needs
 
--- src/lib.rt
 returns : tie.Need-returns
 unfolding stored
 returns c = simp (lt-ltb _ _ (c .before .before .before .before .before .if1 .taken), lt-ltb _ _ (c .before .before .before .before .if2 .taken), c .before .before .put-sector .ensures)
 
--- src/lib.rt
 returns-2 : tie.Need-returns-2
 unfolding stored
 returns-2 c = simp (lt-ltb _ _ (c .before .if1 .taken), le-ltb _ _ (c .if2 .left))
 
--- src/lib.rt
 returns-3 : tie.Need-returns-3
 unfolding stored
 returns-3 c = simp (le-ltb _ _ (c .if1 .left))

@@ -4,42 +4,28 @@ use Rattle.text.proofs.Outputs.{wrote-then}
 use borrow.Author.Needs.{needs}
 use Rattle.text.proofs.accepted_line.Statement.{statement}
 use Rattle.text.proofs.accepted_line.Tie as tie
-use Rattle.text.proofs.accepted_line.Reads as reads
-use Rattle.text.proofs.accepted_line.Lts as lts
-use Rattle.text.proofs.byte.Reads as byte-reads
-use Rattle.text.proofs.four_text.Reads as four-text-reads
-use Rattle.text.proofs.hex_four.Reads as hex-four-reads
-use Rattle.text.proofs.letter.Reads as letter-reads
 
--- src/lib.rt
 four-text-requires : tie.Need-four-text-requires
 four-text-requires c κs = search needs
 
--- src/lib.rt
 letter-requires : tie.Need-letter-requires
 letter-requires c κs = search needs
 
--- src/lib.rt
 byte-requires : tie.Need-byte-requires
 byte-requires c κs = search needs
 
--- src/lib.rt
 byte-requires-2 : tie.Need-byte-requires-2
 byte-requires-2 c κs = search needs
 
--- src/lib.rt
 hex-four-requires : tie.Need-hex-four-requires
 hex-four-requires c κs = search needs
 
--- src/lib.rt
 byte-requires-3 : tie.Need-byte-requires-3
 byte-requires-3 c κs = search needs
 
--- src/lib.rt
 same-length : tie.Need-same-length
 same-length c = search needs
 
--- src/lib.rt
 returns : tie.Need-returns
 unfolding furtherDigits lastDigits
 returns c =

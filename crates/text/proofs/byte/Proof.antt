@@ -3,22 +3,16 @@ use Rattle.text.specs.Output.{written}
 use borrow.Author.Needs.{needs}
 use Rattle.text.proofs.byte.Statement.{statement}
 use Rattle.text.proofs.byte.Tie as tie
-use Rattle.text.proofs.byte.Reads as reads
-use Rattle.text.proofs.byte.Lts as lts
 
--- src/lib.rt
 slice-write-out : tie.Need-slice-write-out
 slice-write-out c = search needs
 
--- src/lib.rt
 add-result : tie.Need-add-result
 add-result c = search needs
 
--- src/lib.rt
 same-length : tie.Need-same-length
 same-length c = search needs
 
--- src/lib.rt
 returns : tie.Need-returns
 unfolding written
 returns c = record { bytes = refl; place = search needs }

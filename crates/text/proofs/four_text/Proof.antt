@@ -5,31 +5,22 @@ use Rattle.text.proofs.Outputs.{wrote-then}
 use borrow.Author.Needs.{needs}
 use Rattle.text.proofs.four_text.Statement.{statement}
 use Rattle.text.proofs.four_text.Tie as tie
-use Rattle.text.proofs.four_text.Reads as reads
-use Rattle.text.proofs.four_text.Lts as lts
-use Rattle.text.proofs.byte.Reads as byte-reads
 
--- src/lib.rt
 byte-requires : tie.Need-byte-requires
 byte-requires c κs = search needs
 
--- src/lib.rt
 byte-requires-2 : tie.Need-byte-requires-2
 byte-requires-2 c κs = search needs
 
--- src/lib.rt
 byte-requires-3 : tie.Need-byte-requires-3
 byte-requires-3 c κs = search needs
 
--- src/lib.rt
 byte-requires-4 : tie.Need-byte-requires-4
 byte-requires-4 c κs = search needs
 
--- src/lib.rt
 same-length : tie.Need-same-length
 same-length c = search needs
 
--- src/lib.rt
 returns : tie.Need-returns
 unfolding fourText
 returns c =
@@ -37,23 +28,18 @@ returns c =
     let e = p .place in
     (simp (ne-eqb _ _ (c .before .before .before .before .before .before .before .before .before .before .before .before .before .before .before .before .if1 .taken)) p, omega arith)
 
--- src/lib.rt
 byte-requires-5 : tie.Need-byte-requires-5
 byte-requires-5 c κs = search needs
 
--- src/lib.rt
 byte-requires-6 : tie.Need-byte-requires-6
 byte-requires-6 c κs = search needs
 
--- src/lib.rt
 byte-requires-7 : tie.Need-byte-requires-7
 byte-requires-7 c κs = search needs
 
--- src/lib.rt
 same-length-2 : tie.Need-same-length-2
 same-length-2 c = search needs
 
--- src/lib.rt
 returns-2 : tie.Need-returns-2
 unfolding fourText
 returns-2 c =
@@ -61,19 +47,15 @@ returns-2 c =
     let e = p .place in
     (simp (eq-eqb _ _ (c .before .before .before .before .before .before .before .before .before .before .before .before .before .before .if1 .left), ne-eqb _ _ (c .before .before .before .before .before .before .before .before .before .before .before .before .if2 .taken)) p, omega arith)
 
--- src/lib.rt
 byte-requires-8 : tie.Need-byte-requires-8
 byte-requires-8 c κs = search needs
 
--- src/lib.rt
 byte-requires-9 : tie.Need-byte-requires-9
 byte-requires-9 c κs = search needs
 
--- src/lib.rt
 same-length-3 : tie.Need-same-length-3
 same-length-3 c = search needs
 
--- src/lib.rt
 returns-3 : tie.Need-returns-3
 unfolding fourText
 returns-3 c =
@@ -81,15 +63,12 @@ returns-3 c =
     let e = p .place in
     (simp (eq-eqb _ _ (c .before .before .before .before .before .before .before .before .before .before .before .before .if1 .left), eq-eqb _ _ (c .before .before .before .before .before .before .before .before .before .before .if2 .left), ne-eqb _ _ (c .before .before .before .before .before .before .before .before .if3 .taken)) p, omega arith)
 
--- src/lib.rt
 byte-requires-10 : tie.Need-byte-requires-10
 byte-requires-10 c κs = search needs
 
--- src/lib.rt
 same-length-4 : tie.Need-same-length-4
 same-length-4 c = search needs
 
--- src/lib.rt
 returns-4 : tie.Need-returns-4
 unfolding fourText
 returns-4 c =

@@ -3,31 +3,23 @@ use Rattle.text.specs.Text.{hexDigit}
 use borrow.Author.Needs.{needs}
 use Rattle.text.proofs.hex_digit.Statement.{statement}
 use Rattle.text.proofs.hex_digit.Tie as tie
-use Rattle.text.proofs.hex_digit.Reads as reads
-use Rattle.text.proofs.hex_digit.Lts as lts
 
--- src/lib.rt
 cast-result : tie.Need-cast-result
 cast-result c = search needs
 
--- src/lib.rt
 add-result : tie.Need-add-result
 add-result c = search needs
 
--- src/lib.rt
 returns : tie.Need-returns
 unfolding hexDigit
 returns c = search tests
 
--- src/lib.rt
 cast-result-2 : tie.Need-cast-result-2
 cast-result-2 c = search needs
 
--- src/lib.rt
 add-result-2 : tie.Need-add-result-2
 add-result-2 c = search needs
 
--- src/lib.rt
 returns-2 : tie.Need-returns-2
 unfolding hexDigit
 returns-2 c = search tests

@@ -1,52 +1,35 @@
 use Rattle.text.proofs.Outputs.{wrote-then}
-use native.Mathlib.Omega.{arith}
-use mathlib.Core.Path.{_≡_, sym, ap, _∙_}
-use Rattle.text.specs.Output.{written}
 use borrow.Author.Needs.{needs}
 use Rattle.text.proofs.hex_four.Statement.{statement}
 use Rattle.text.proofs.hex_four.Tie as tie
-use Rattle.text.proofs.hex_four.Reads as reads
-use Rattle.text.proofs.hex_four.Lts as lts
-use Rattle.text.proofs.byte.Reads as byte-reads
-use Rattle.text.proofs.hex_digit.Reads as hex-digit-reads
 
--- src/lib.rt
 hex-digit-requires : tie.Need-hex-digit-requires
 hex-digit-requires c κs = search needs
 
--- src/lib.rt
 hex-digit-requires-2 : tie.Need-hex-digit-requires-2
 hex-digit-requires-2 c κs = search needs
 
--- src/lib.rt
 hex-digit-requires-3 : tie.Need-hex-digit-requires-3
 hex-digit-requires-3 c κs = search needs
 
--- src/lib.rt
 hex-digit-requires-4 : tie.Need-hex-digit-requires-4
 hex-digit-requires-4 c κs = search needs
 
--- src/lib.rt
 byte-requires : tie.Need-byte-requires
 byte-requires c κs = search needs
 
--- src/lib.rt
 byte-requires-2 : tie.Need-byte-requires-2
 byte-requires-2 c κs = search needs
 
--- src/lib.rt
 byte-requires-3 : tie.Need-byte-requires-3
 byte-requires-3 c κs = search needs
 
--- src/lib.rt
 byte-requires-4 : tie.Need-byte-requires-4
 byte-requires-4 c κs = search needs
 
--- src/lib.rt
 same-length : tie.Need-same-length
 same-length c = search needs
 
--- src/lib.rt
 returns : tie.Need-returns
 returns c =
     let p = wrote-then (c .before .before .before .before .before .before .before .before .before .before .before .before .before .before .byte .ensures) (wrote-then (c .before .before .before .before .before .before .before .before .before .before .byte2 .ensures) (wrote-then (c .before .before .before .before .before .before .byte3 .ensures) (c .before .before .byte4 .ensures))) in

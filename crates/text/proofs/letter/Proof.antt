@@ -2,32 +2,22 @@ use Rattle.text.proofs.Outputs.{wrote-then}
 use borrow.Author.Needs.{needs}
 use Rattle.text.proofs.letter.Statement.{statement}
 use Rattle.text.proofs.letter.Tie as tie
-use Rattle.text.proofs.letter.Reads as reads
-use Rattle.text.proofs.letter.Lts as lts
-use Rattle.text.proofs.byte.Reads as byte-reads
-use Rattle.text.proofs.letter_code.Reads as letter-code-reads
 
--- src/lib.rt
 letter-code-requires : tie.Need-letter-code-requires
 letter-code-requires c κs = search needs
 
--- src/lib.rt
 byte-requires : tie.Need-byte-requires
 byte-requires c κs = search needs
 
--- src/lib.rt
 byte-requires-2 : tie.Need-byte-requires-2
 byte-requires-2 c κs = search needs
 
--- src/lib.rt
 byte-requires-3 : tie.Need-byte-requires-3
 byte-requires-3 c κs = search needs
 
--- src/lib.rt
 same-length : tie.Need-same-length
 same-length c = search needs
 
--- src/lib.rt
 returns : tie.Need-returns
 returns c =
     let p = wrote-then (c .before .before .before .before .before .before .before .before .before .before .byte .ensures) (wrote-then (c .before .before .before .before .before .before .byte2 .ensures) (c .before .before .byte3 .ensures)) in

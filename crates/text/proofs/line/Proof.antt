@@ -3,43 +3,28 @@ use Rattle.text.proofs.Outputs.{wrote-then}
 use borrow.Author.Needs.{needs}
 use Rattle.text.proofs.line.Statement.{statement}
 use Rattle.text.proofs.line.Tie as tie
-use Rattle.text.proofs.line.Reads as reads
-use Rattle.text.proofs.line.Lts as lts
-use Rattle.text.proofs.byte.Reads as byte-reads
-use Rattle.text.proofs.decimal.Reads as decimal-reads
-use Rattle.text.proofs.hex_four.Reads as hex-four-reads
-use Rattle.text.proofs.letter.Reads as letter-reads
-use Rattle.text.proofs.numeral.Reads as numeral-reads
 
--- src/lib.rt
 numeral-requires : tie.Need-numeral-requires
 numeral-requires c κs = search needs
 
--- src/lib.rt
 letter-requires : tie.Need-letter-requires
 letter-requires c κs = search needs
 
--- src/lib.rt
 decimal-requires : tie.Need-decimal-requires
 decimal-requires c κs = search needs
 
--- src/lib.rt
 byte-requires : tie.Need-byte-requires
 byte-requires c κs = search needs
 
--- src/lib.rt
 hex-four-requires : tie.Need-hex-four-requires
 hex-four-requires c κs = search needs
 
--- src/lib.rt
 byte-requires-2 : tie.Need-byte-requires-2
 byte-requires-2 c κs = search needs
 
--- src/lib.rt
 same-length : tie.Need-same-length
 same-length c = search needs
 
--- src/lib.rt
 returns : tie.Need-returns
 returns c =
     let p = wrote-then (c .before .before .before .before .before .before .before .before .before .before .before .before .before .before .before .before .before .before .before .before .before .before .numeral .ensures .0) (wrote-then (c .before .before .before .before .before .before .before .before .before .before .before .before .before .before .before .before .before .before .letter .ensures) (wrote-then (c .before .before .before .before .before .before .before .before .before .before .before .before .before .before .decimal .ensures .0) (wrote-then (c .before .before .before .before .before .before .before .before .before .before .byte .ensures) (wrote-then (c .before .before .before .before .before .before .hex-four .ensures) (c .before .before .byte2 .ensures))))) in

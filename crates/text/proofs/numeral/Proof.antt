@@ -4,35 +4,25 @@ use Rattle.text.specs.Digits.{numeral}
 use borrow.Author.Needs.{needs}
 use Rattle.text.proofs.numeral.Statement.{statement}
 use Rattle.text.proofs.numeral.Tie as tie
-use Rattle.text.proofs.numeral.Reads as reads
-use Rattle.text.proofs.numeral.Lts as lts
-use Rattle.text.proofs.decimal.Reads as decimal-reads
-use Rattle.text.proofs.four_text.Reads as four-text-reads
 
--- src/lib.rt
 four-text-requires : tie.Need-four-text-requires
 four-text-requires c κs = search needs
 
--- src/lib.rt
 same-length : tie.Need-same-length
 same-length c = search needs
 
--- src/lib.rt
 returns : tie.Need-returns
 unfolding numeral
 returns c =
     let w = c .before .before .four-text .ensures in
     (simp (lt-ltb _ _ (c .before .before .before .before .if1 .taken)) (w .0), omega (arith, w .1))
 
--- src/lib.rt
 decimal-requires : tie.Need-decimal-requires
 decimal-requires c κs = search needs
 
--- src/lib.rt
 same-length-2 : tie.Need-same-length-2
 same-length-2 c = search needs
 
--- src/lib.rt
 returns-2 : tie.Need-returns-2
 unfolding numeral
 returns-2 c =

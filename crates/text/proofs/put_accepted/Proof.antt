@@ -1,5 +1,5 @@
 use Prim.Native.Nat.{_+_, _≤_}
-use mathlib.Core.Path.{_≡_, sym, _∙_}
+use mathlib.Core.Path.{sym, _∙_}
 use native.Mathlib.Nat.{le-trans}
 use lib.ListN.{length}
 use borrow.Author.Tests.{leb-true, lt-ltb}
@@ -8,37 +8,25 @@ use Rattle.text.proofs.Outputs.{put-wrote}
 use borrow.Author.Needs.{needs}
 use Rattle.text.proofs.put_accepted.Statement.{statement}
 use Rattle.text.proofs.put_accepted.Tie as tie
-use Rattle.text.proofs.put_accepted.Reads as reads
-use Rattle.text.proofs.put_accepted.Lts as lts
-use Rattle.text.proofs.accepted_line.Reads as accepted-line-reads
-use Rattle.text.proofs.put_line.Reads as put-line-reads
-use Rattle.text.proofs.roomy.Reads as roomy-reads
 
--- src/lib.rt
 put-line-requires : tie.Need-put-line-requires
 put-line-requires c κs = search needs
 
--- src/lib.rt
 same-length : tie.Need-same-length
 same-length c = search needs
 
--- src/lib.rt
 returns : tie.Need-returns
 returns c = search needs
 
--- src/lib.rt
 roomy-requires : tie.Need-roomy-requires
 roomy-requires c κs = search needs
 
--- src/lib.rt
 accepted-line-requires : tie.Need-accepted-line-requires
 accepted-line-requires c κs = leb-true _ _ (sym (c .before .before .roomy .ensures) ∙ c .before .if2 .taken)
 
--- src/lib.rt
 same-length-2 : tie.Need-same-length-2
 same-length-2 c = search needs
 
--- src/lib.rt
 returns-2 : tie.Need-returns-2
 unfolding numeral
 returns-2 c =
@@ -47,15 +35,12 @@ returns-2 c =
     let w = c .before .before .accepted-line .ensures in
     simp (lt-ltb _ _ (c .before .before .before .before .before .before .if1 .left)) (put-wrote (w .0) (le-trans (w .1) h))
 
--- src/lib.rt
 put-line-requires-2 : tie.Need-put-line-requires-2
 put-line-requires-2 c κs = search needs
 
--- src/lib.rt
 same-length-3 : tie.Need-same-length-3
 same-length-3 c = search needs
 
--- src/lib.rt
 returns-3 : tie.Need-returns-3
 returns-3 c = search needs
 

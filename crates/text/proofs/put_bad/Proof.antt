@@ -1,4 +1,4 @@
-use mathlib.Core.Path.{_≡_, sym, ap, _∙_}
+use mathlib.Core.Path.{sym, ap, _∙_}
 use mathlib.Core.List.{[], _∷_, _++_}
 use Rattle.text.specs.Text.{decimal, newline}
 use Rattle.text.specs.Output.{Output, put}
@@ -6,28 +6,19 @@ use Rattle.text.proofs.Outputs.{put-then}
 use borrow.Author.Needs.{needs}
 use Rattle.text.proofs.put_bad.Statement.{statement}
 use Rattle.text.proofs.put_bad.Tie as tie
-use Rattle.text.proofs.put_bad.Reads as reads
-use Rattle.text.proofs.put_bad.Lts as lts
-use Rattle.text.proofs.put.Reads as put-reads
-use Rattle.text.proofs.put_number.Reads as put-number-reads
 
--- src/lib.rt
 slice-aggregate-put : tie.Need-slice-aggregate-put
 slice-aggregate-put c = search needs
 
--- src/lib.rt
 put-requires : tie.Need-put-requires
 put-requires c κs = search needs
 
--- src/lib.rt
 put-number-requires : tie.Need-put-number-requires
 put-number-requires c κs = search needs
 
--- src/lib.rt
 same-length : tie.Need-same-length
 same-length c = search needs
 
--- src/lib.rt
 returns : tie.Need-returns
 returns c =
     c .before .before .put-number .ensures ∙ ap (λ (o : Output). put o (decimal (c .before .before .before .before .before .before .before .before .before .before .args .place) ++ (newline ∷ []))) (c .before .before .before .before .before .before .put .ensures) ∙ sym (put-then _ _ _)

@@ -2,23 +2,16 @@ use Rattle.text.specs.Text.{header}
 use borrow.Author.Needs.{needs}
 use Rattle.text.proofs.put_header.Statement.{statement}
 use Rattle.text.proofs.put_header.Tie as tie
-use Rattle.text.proofs.put_header.Reads as reads
-use Rattle.text.proofs.put_header.Lts as lts
-use Rattle.text.proofs.put.Reads as put-reads
 
--- src/lib.rt
 slice-aggregate-put : tie.Need-slice-aggregate-put
 slice-aggregate-put c = search needs
 
--- src/lib.rt
 put-requires : tie.Need-put-requires
 put-requires c κs = search needs
 
--- src/lib.rt
 same-length : tie.Need-same-length
 same-length c = search needs
 
--- src/lib.rt
 returns : tie.Need-returns
 unfolding header
 returns c = c .before .before .put .ensures

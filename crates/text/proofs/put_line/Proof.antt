@@ -1,35 +1,25 @@
-use Prim.Native.Nat.{ℕ, _+_, _-_, _*_, _/_, _%_, _<_, _≤_}
+use Prim.Native.Nat.{_+_, _-_, _≤_}
 use native.Mathlib.Nat.{le-trans}
 use lib.ListN.{length}
 use lib.Seq.{length-take-le}
 use Rattle.text.specs.Output.{put}
 use Rattle.text.proofs.Outputs.{put-wrote, written-text}
-use mathlib.Core.Path.{_≡_, sym, ap, _∙_}
-use native.Mathlib.Omega.{arith}
+use mathlib.Core.Path.{sym, ap, _∙_}
 use borrow.Author.Tests.{leb-true}
-use Rattle.text.proofs.Outputs.{put-wrote, written-whole}
+use Rattle.text.proofs.Outputs.{put-wrote}
 use borrow.Author.Needs.{needs}
 use Rattle.text.proofs.put_line.Statement.{statement}
 use Rattle.text.proofs.put_line.Tie as tie
-use Rattle.text.proofs.put_line.Reads as reads
-use Rattle.text.proofs.put_line.Lts as lts
-use Rattle.text.proofs.line.Reads as line-reads
-use Rattle.text.proofs.put.Reads as put-reads
-use Rattle.text.proofs.roomy.Reads as roomy-reads
 
--- src/lib.rt
 roomy-requires : tie.Need-roomy-requires
 roomy-requires c κs = search needs
 
--- src/lib.rt
 line-requires : tie.Need-line-requires
 line-requires c κs = leb-true _ _ (sym (c .before .before .roomy .ensures) ∙ c .before .if1 .taken)
 
--- src/lib.rt
 same-length : tie.Need-same-length
 same-length c = search needs
 
--- src/lib.rt
 returns : tie.Need-returns
 returns c =
     let a = c .before .before .before .before .before .before .before .args in
@@ -37,33 +27,26 @@ returns c =
     let w = c .before .before .line .ensures in
     put-wrote (w .0) (le-trans (w .1) h)
 
--- src/lib.rt
 slice-aggregate-line : tie.Need-slice-aggregate-line
 slice-aggregate-line c = search needs
 
--- src/lib.rt
 line-requires-2 : tie.Need-line-requires-2
 line-requires-2 c κs = search needs
 
--- src/lib.rt
 array-share-prefix-text : tie.Need-array-share-prefix-text
 array-share-prefix-text c = search needs
 
--- src/lib.rt
 slice-aggregate-put : tie.Need-slice-aggregate-put
 slice-aggregate-put c =
     let w = c .before .before .before .line2 in
     sym (length-take-le (w .result) (w .last .0) (rw (w .kept .0) (w .ensures .1)))
 
--- src/lib.rt
 put-requires : tie.Need-put-requires
 put-requires c κs = search needs
 
--- src/lib.rt
 same-length-2 : tie.Need-same-length-2
 same-length-2 c = search needs
 
--- src/lib.rt
 returns-2 : tie.Need-returns-2
 returns-2 c =
     let w = c .before .before .before .before .before .before .line2 .ensures .0 in

@@ -1,20 +1,15 @@
-use borrow.Author.Tests.{eq-eqb, ne-eqb, lt-ltb, le-ltb, le-leb, lt-leb}
+use borrow.Author.Tests.{le-leb, lt-leb}
 use native.Mathlib.Omega.{arith}
 use Prim.Native.Nat.{_+_}
 use Rattle.text.proofs.roomy.Statement.{statement}
 use Rattle.text.proofs.roomy.Tie as tie
-use Rattle.text.proofs.roomy.Reads as reads
-use Rattle.text.proofs.roomy.Lts as lts
 
--- src/lib.rt
 returns : tie.Need-returns
 returns c = simp (lt-leb (c .before .args .at + 64) (c .before .args .size) (omega arith))
 
--- src/lib.rt
 returns-2 : tie.Need-returns-2
 returns-2 c = simp (lt-leb (c .before .before .args .at + 64) (c .before .before .args .size) (omega arith))
 
--- src/lib.rt
 returns-3 : tie.Need-returns-3
 returns-3 c = simp (le-leb (c .before .before .args .at + 64) (c .before .before .args .size) (omega arith))
 

@@ -11,47 +11,36 @@ Inv-loop input end store₀ held₀ side₀ place₀ store held side place = (pl
 abbrev μ-loop : tie.MeasureT-loop
 μ-loop input end store₀ held₀ side₀ place₀ store held side place = end + 16 - place
 
--- src/main.rt
 start-requires : tie.Need-start-requires Inv-loop μ-loop
 start-requires c κs = search needs
 
--- src/main.rt
 nothing-lent-requires : tie.Need-nothing-lent-requires Inv-loop μ-loop
 nothing-lent-requires c κs = search needs
 
--- src/main.rt
 loop-holds : tie.Need-loop-holds Inv-loop μ-loop
 loop-holds c = search needs
 
--- src/main.rt
 words-at-requires : tie.Need-words-at-requires Inv-loop μ-loop
 words-at-requires c κs = search needs
 
--- src/main.rt
 add-place : tie.Need-add-place Inv-loop μ-loop
 add-place c = search needs
 
--- src/main.rt
 changed-requires : tie.Need-changed-requires Inv-loop μ-loop
 changed-requires c κs = search needs
 
--- src/main.rt
 turn-requires : tie.Need-turn-requires Inv-loop μ-loop
 turn-requires c κs = search needs
 
--- src/main.rt
 loop-less : tie.Need-loop-less Inv-loop μ-loop
 loop-less c = search needs
 
--- src/main.rt
 loop-again : tie.Need-loop-again Inv-loop μ-loop
 loop-again c = search needs
 
--- src/main.rt
 same-length : tie.Need-same-length Inv-loop μ-loop
 same-length c = search needs
 
--- src/main.rt
 returns : tie.Need-returns Inv-loop μ-loop
 returns c = search needs
 

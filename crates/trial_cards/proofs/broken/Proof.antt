@@ -3,23 +3,18 @@ use borrow.Author.Needs.{needs}
 use Rattle.trial_cards.proofs.broken.Statement.{statement}
 use Rattle.trial_cards.proofs.broken.Tie as tie
 
--- src/lib.rt
 row-requires : tie.Need-row-requires
 row-requires c κs = search needs
 
--- src/lib.rt
 place-requires : tie.Need-place-requires
 place-requires c κs = search needs
 
--- src/lib.rt
 with-number-requires : tie.Need-with-number-requires
 with-number-requires c κs = search needs
 
--- src/lib.rt
 card-of-requires : tie.Need-card-of-requires
 card-of-requires c κs = search needs
 
--- src/lib.rt
 returns : tie.Need-returns
 unfolding brokenOf
 returns c = simp (c .card-of .ensures, c .before .with-number .ensures, c .before .before .place .ensures, c .before .before .before .row .ensures)

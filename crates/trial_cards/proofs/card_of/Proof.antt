@@ -3,15 +3,12 @@ use borrow.Author.Needs.{needs}
 use Rattle.trial_cards.proofs.card_of.Statement.{statement}
 use Rattle.trial_cards.proofs.card_of.Tie as tie
 
--- src/lib.rt
 phase-of-requires : tie.Need-phase-of-requires
 phase-of-requires c κs = search needs
 
--- src/lib.rt
 state-of-requires : tie.Need-state-of-requires
 state-of-requires c κs = search needs
 
--- src/lib.rt
 returns : tie.Need-returns
 unfolding cardOf
 returns c = simp (c .state-of .ensures, c .before .phase-of .ensures)

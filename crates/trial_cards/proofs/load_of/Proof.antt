@@ -2,11 +2,9 @@ use Rattle.ground.proofs.Tests.{tests}
 use Rattle.trial_cards.proofs.load_of.Statement.{statement}
 use Rattle.trial_cards.proofs.load_of.Tie as tie
 
--- src/lib.rt
 returns : tie.Need-returns
 returns c = search tests
 
--- src/lib.rt
 returns-2 : tie.Need-returns-2
 returns-2 c = search tests
 

@@ -2,27 +2,21 @@ use borrow.Author.Needs.{needs}
 use Rattle.trial_cards.proofs.made_of.Statement.{statement}
 use Rattle.trial_cards.proofs.made_of.Tie as tie
 
--- src/lib.rt
 array-read-mode-of : tie.Need-array-read-mode-of
 array-read-mode-of c = search needs
 
--- src/lib.rt
 mode-of-requires : tie.Need-mode-of-requires
 mode-of-requires c κs = search needs
 
--- src/lib.rt
 array-read-t9 : tie.Need-array-read-t9
 array-read-t9 c = search needs
 
--- src/lib.rt
 array-read-t12 : tie.Need-array-read-t12
 array-read-t12 c = search needs
 
--- src/lib.rt
 array-read-t15 : tie.Need-array-read-t15
 array-read-t15 c = search needs
 
--- src/lib.rt
 returns : tie.Need-returns
 returns c = simp (c .mode-of .ensures)
 

@@ -2,39 +2,30 @@ use borrow.Author.Needs.{needs}
 use Rattle.trial_cards.proofs.phase_of.Statement.{statement}
 use Rattle.trial_cards.proofs.phase_of.Tie as tie
 
--- src/lib.rt
 array-read-load-of : tie.Need-array-read-load-of
 array-read-load-of c = search needs
 
--- src/lib.rt
 array-read-load-of-2 : tie.Need-array-read-load-of-2
 array-read-load-of-2 c = search needs
 
--- src/lib.rt
 load-of-requires : tie.Need-load-of-requires
 load-of-requires c κs = search needs
 
--- src/lib.rt
 array-read-half-of : tie.Need-array-read-half-of
 array-read-half-of c = search needs
 
--- src/lib.rt
 half-of-requires : tie.Need-half-of-requires
 half-of-requires c κs = search needs
 
--- src/lib.rt
 array-read-t17 : tie.Need-array-read-t17
 array-read-t17 c = search needs
 
--- src/lib.rt
 array-read-phase-with : tie.Need-array-read-phase-with
 array-read-phase-with c = search needs
 
--- src/lib.rt
 phase-with-requires : tie.Need-phase-with-requires
 phase-with-requires c κs = search needs
 
--- src/lib.rt
 returns : tie.Need-returns
 returns c = simp (c .phase-with .ensures, c .before .half-of .ensures, c .before .before .load-of .ensures)
 

@@ -2,15 +2,12 @@ use Rattle.ground.proofs.Tests.{tests}
 use Rattle.trial_cards.proofs.phase_with.Statement.{statement}
 use Rattle.trial_cards.proofs.phase_with.Tie as tie
 
--- src/lib.rt
 returns : tie.Need-returns
 returns c = search tests
 
--- src/lib.rt
 returns-2 : tie.Need-returns-2
 returns-2 c = search tests
 
--- src/lib.rt
 returns-3 : tie.Need-returns-3
 returns-3 c = search tests
 

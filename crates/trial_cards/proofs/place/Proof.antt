@@ -3,27 +3,21 @@ use borrow.Author.Needs.{needs}
 use Rattle.trial_cards.proofs.place.Statement.{statement}
 use Rattle.trial_cards.proofs.place.Tie as tie
 
--- src/lib.rt
 taken-requires : tie.Need-taken-requires
 taken-requires c κs = search needs
 
--- src/lib.rt
 slice-aggregate-byte-or-zero : tie.Need-slice-aggregate-byte-or-zero
 slice-aggregate-byte-or-zero c = search needs
 
--- src/lib.rt
 byte-or-zero-requires : tie.Need-byte-or-zero-requires
 byte-or-zero-requires c κs = search needs
 
--- src/lib.rt
 cast-result : tie.Need-cast-result
 cast-result c = search needs
 
--- src/lib.rt
 returns : tie.Need-returns
 returns c = simp (sym (c .before .before .before .taken .ensures) ∙ c .before .before .if1 .taken, c .byte-or-zero .ensures)
 
--- src/lib.rt
 returns-2 : tie.Need-returns-2
 returns-2 c = simp (sym (c .before .taken .ensures) ∙ c .if1 .left)
 

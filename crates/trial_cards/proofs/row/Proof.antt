@@ -3,15 +3,12 @@ use borrow.Author.Needs.{needs}
 use Rattle.trial_cards.proofs.row.Statement.{statement}
 use Rattle.trial_cards.proofs.row.Tie as tie
 
--- src/lib.rt
 state-row-requires : tie.Need-state-row-requires
 state-row-requires c κs = search needs
 
--- src/lib.rt
 with-phase-requires : tie.Need-with-phase-requires
 with-phase-requires c κs = search needs
 
--- src/lib.rt
 returns : tie.Need-returns
 unfolding rowOf
 returns c = simp (c .with-phase .ensures, c .before .state-row .ensures)

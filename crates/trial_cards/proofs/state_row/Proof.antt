@@ -2,47 +2,36 @@ use borrow.Author.Needs.{needs}
 use Rattle.trial_cards.proofs.state_row.Statement.{statement}
 use Rattle.trial_cards.proofs.state_row.Tie as tie
 
--- src/lib.rt
 with-made-requires : tie.Need-with-made-requires
 with-made-requires c κs = search needs
 
--- src/lib.rt
 wide-requires : tie.Need-wide-requires
 wide-requires c κs = search needs
 
--- src/lib.rt
 array-write-r : tie.Need-array-write-r
 array-write-r c = search needs
 
--- src/lib.rt
 one-requires : tie.Need-one-requires
 one-requires c κs = search needs
 
--- src/lib.rt
 array-write-r-2 : tie.Need-array-write-r-2
 array-write-r-2 c = search needs
 
--- src/lib.rt
 array-write-r-3 : tie.Need-array-write-r-3
 array-write-r-3 c = search needs
 
--- src/lib.rt
 array-write-r-4 : tie.Need-array-write-r-4
 array-write-r-4 c = search needs
 
--- src/lib.rt
 array-write-r-5 : tie.Need-array-write-r-5
 array-write-r-5 c = search needs
 
--- src/lib.rt
 with-registers-requires : tie.Need-with-registers-requires
 with-registers-requires c κs = search needs
 
--- src/lib.rt
 with-option-requires : tie.Need-with-option-requires
 with-option-requires c κs = search needs
 
--- src/lib.rt
 returns : tie.Need-returns
 returns c = simp (c .with-option .ensures, c .before .with-registers .ensures, c .before .before .one .ensures .0, c .before .before .before .wide .ensures .0, c .before .before .before .before .with-made .ensures)
 

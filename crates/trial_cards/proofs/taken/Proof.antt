@@ -2,23 +2,18 @@ use Rattle.ground.proofs.Tests.{tests}
 use Rattle.trial_cards.proofs.taken.Statement.{statement}
 use Rattle.trial_cards.proofs.taken.Tie as tie
 
--- src/lib.rt
 returns : tie.Need-returns
 returns c = search tests
 
--- src/lib.rt
 returns-2 : tie.Need-returns-2
 returns-2 c = search tests
 
--- src/lib.rt
 returns-3 : tie.Need-returns-3
 returns-3 c = search tests
 
--- src/lib.rt
 returns-4 : tie.Need-returns-4
 returns-4 c = search tests
 
--- src/lib.rt
 returns-5 : tie.Need-returns-5
 returns-5 c = search tests
 

@@ -2,27 +2,21 @@ use borrow.Author.Needs.{needs}
 use Rattle.trial_cards.proofs.with_load.Statement.{statement}
 use Rattle.trial_cards.proofs.with_load.Tie as tie
 
--- src/lib.rt
 enum-known-load : tie.Need-enum-known-load
 enum-known-load c = search needs
 
--- src/lib.rt
 array-write-r : tie.Need-array-write-r
 array-write-r c = search needs
 
--- src/lib.rt
 array-write-r-2 : tie.Need-array-write-r-2
 array-write-r-2 c = search needs
 
--- src/lib.rt
 enum-told : tie.Need-enum-told
 enum-told c = search needs
 
--- src/lib.rt
 returns : tie.Need-returns
 returns c = simp (c .before .load .given .1)
 
--- src/lib.rt
 returns-2 : tie.Need-returns-2
 returns-2 c = search needs
 

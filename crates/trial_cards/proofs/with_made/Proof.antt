@@ -2,27 +2,21 @@ use borrow.Author.Needs.{needs}
 use Rattle.trial_cards.proofs.with_made.Statement.{statement}
 use Rattle.trial_cards.proofs.with_made.Tie as tie
 
--- src/lib.rt
 array-write-r : tie.Need-array-write-r
 array-write-r c = search needs
 
--- src/lib.rt
 array-write-r-2 : tie.Need-array-write-r-2
 array-write-r-2 c = search needs
 
--- src/lib.rt
 array-write-r-3 : tie.Need-array-write-r-3
 array-write-r-3 c = search needs
 
--- src/lib.rt
 mode-number-requires : tie.Need-mode-number-requires
 mode-number-requires c κs = search needs
 
--- src/lib.rt
 array-write-r-4 : tie.Need-array-write-r-4
 array-write-r-4 c = search needs
 
--- src/lib.rt
 returns : tie.Need-returns
 returns c = simp (c .mode-number .ensures)
 

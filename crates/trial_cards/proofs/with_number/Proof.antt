@@ -3,19 +3,15 @@ use borrow.Author.Needs.{needs}
 use Rattle.trial_cards.proofs.with_number.Statement.{statement}
 use Rattle.trial_cards.proofs.with_number.Tie as tie
 
--- src/lib.rt
 mul-r : tie.Need-mul-r
 mul-r c = search needs
 
--- src/lib.rt
 array-write-r : tie.Need-array-write-r
 array-write-r c = search needs
 
--- src/lib.rt
 returns : tie.Need-returns
 returns c = search tests
 
--- src/lib.rt
 returns-2 : tie.Need-returns-2
 returns-2 c = search tests
 

@@ -2,59 +2,45 @@ use borrow.Author.Needs.{needs}
 use Rattle.trial_cards.proofs.with_option.Statement.{statement}
 use Rattle.trial_cards.proofs.with_option.Tie as tie
 
--- src/lib.rt
 one-requires : tie.Need-one-requires
 one-requires c κs = search needs
 
--- src/lib.rt
 one-requires-2 : tie.Need-one-requires-2
 one-requires-2 c κs = search needs
 
--- src/lib.rt
 array-write-r : tie.Need-array-write-r
 array-write-r c = search needs
 
--- src/lib.rt
 mul-r : tie.Need-mul-r
 mul-r c = search needs
 
--- src/lib.rt
 mul-r-2 : tie.Need-mul-r-2
 mul-r-2 c = search needs
 
--- src/lib.rt
 add-r : tie.Need-add-r
 add-r c = search needs
 
--- src/lib.rt
 array-write-r-2 : tie.Need-array-write-r-2
 array-write-r-2 c = search needs
 
--- src/lib.rt
 cast-r : tie.Need-cast-r
 cast-r c = search needs
 
--- src/lib.rt
 array-write-r-3 : tie.Need-array-write-r-3
 array-write-r-3 c = search needs
 
--- src/lib.rt
 cast-r-2 : tie.Need-cast-r-2
 cast-r-2 c = search needs
 
--- src/lib.rt
 array-write-r-4 : tie.Need-array-write-r-4
 array-write-r-4 c = search needs
 
--- src/lib.rt
 array-write-r-5 : tie.Need-array-write-r-5
 array-write-r-5 c = search needs
 
--- src/lib.rt
 array-write-r-6 : tie.Need-array-write-r-6
 array-write-r-6 c = search needs
 
--- src/lib.rt
 returns : tie.Need-returns
 returns c = simp (c .one2 .ensures .0, c .before .one .ensures .0)
 

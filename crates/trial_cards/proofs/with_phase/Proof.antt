@@ -2,35 +2,27 @@ use borrow.Author.Needs.{needs}
 use Rattle.trial_cards.proofs.with_phase.Statement.{statement}
 use Rattle.trial_cards.proofs.with_phase.Tie as tie
 
--- src/lib.rt
 enum-told : tie.Need-enum-told
 enum-told c = search needs
 
--- src/lib.rt
 enum-known-phase : tie.Need-enum-known-phase
 enum-known-phase c = search needs
 
--- src/lib.rt
 with-transfer-requires : tie.Need-with-transfer-requires
 with-transfer-requires c κs = search needs
 
--- src/lib.rt
 enum-known-phase-2 : tie.Need-enum-known-phase-2
 enum-known-phase-2 c = search needs
 
--- src/lib.rt
 with-transfer-requires-2 : tie.Need-with-transfer-requires-2
 with-transfer-requires-2 c κs = search needs
 
--- src/lib.rt
 returns : tie.Need-returns
 returns c = search needs
 
--- src/lib.rt
 returns-2 : tie.Need-returns-2
 returns-2 c = simp (c .before .before .phase .given .1, c .with-transfer .ensures)
 
--- src/lib.rt
 returns-3 : tie.Need-returns-3
 returns-3 c = simp (c .before .before .phase2 .given .1, c .with-transfer2 .ensures)
 

@@ -2,27 +2,21 @@ use borrow.Author.Needs.{needs}
 use Rattle.trial_cards.proofs.with_transfer.Statement.{statement}
 use Rattle.trial_cards.proofs.with_transfer.Tie as tie
 
--- src/lib.rt
 array-write-r : tie.Need-array-write-r
 array-write-r c = search needs
 
--- src/lib.rt
 half-number-requires : tie.Need-half-number-requires
 half-number-requires c κs = search needs
 
--- src/lib.rt
 array-write-r-2 : tie.Need-array-write-r-2
 array-write-r-2 c = search needs
 
--- src/lib.rt
 array-write-r-3 : tie.Need-array-write-r-3
 array-write-r-3 c = search needs
 
--- src/lib.rt
 with-load-requires : tie.Need-with-load-requires
 with-load-requires c κs = search needs
 
--- src/lib.rt
 returns : tie.Need-returns
 returns c = simp (c .with-load .ensures, c .before .half-number .ensures)
 

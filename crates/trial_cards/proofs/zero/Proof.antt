@@ -3,11 +3,9 @@ use borrow.Author.Needs.{needs}
 use Rattle.trial_cards.proofs.zero.Statement.{statement}
 use Rattle.trial_cards.proofs.zero.Tie as tie
 
--- src/lib.rt
 card-of-requires : tie.Need-card-of-requires
 card-of-requires c κs = search needs
 
--- src/lib.rt
 returns : tie.Need-returns
 unfolding zeroCard
 returns c = c .card-of .ensures

@@ -3,13 +3,6 @@ use Prim.Native.Nat.{_≤_, _-_}
 use lib.ListN.{length}
 use Rattle.tuple_runs.proofs.bytes.Statement.{statement}
 use Rattle.tuple_runs.proofs.bytes.Tie as tie
-use Rattle.tuple_runs.proofs.bytes.Reads as reads
-use Rattle.tuple_runs.proofs.bytes.Lts as lts
-use Rattle.io.proofs.print_hex.Reads as print-hex-reads
-use Rattle.std.proofs.num.wrapping_add_u64.Reads as wrapping-add-u64-reads
-use Rattle.tuple_runs.proofs.number.Reads as number-reads
-use Rattle.tuple_runs.proofs.text.Reads as text-reads
-use Rattle.tuple_runs.proofs.wide.Reads as wide-reads
 
 abbrev Inv-loop : tie.InvT-loop
 Inv-loop b i₀ sum₀ t5 t6 i sum = i ≤ length b

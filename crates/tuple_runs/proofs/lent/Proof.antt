@@ -2,8 +2,6 @@ use borrow.Author.Needs.{needs}
 use Prim.Native.Nat.{_≤_, _-_}
 use Rattle.tuple_runs.proofs.lent.Statement.{statement}
 use Rattle.tuple_runs.proofs.lent.Tie as tie
-use Rattle.tuple_runs.proofs.lent.Reads as reads
-use Rattle.tuple_runs.proofs.lent.Lts as lts
 
 abbrev Inv-loop : tie.InvT-loop
 Inv-loop bodies₀ i₀ bodies i = i ≤ 300

@@ -2,9 +2,6 @@ use borrow.Author.Needs.{needs}
 use Prim.Native.Nat.{_≤_, _-_}
 use Rattle.tuple_runs.proofs.most.Statement.{statement}
 use Rattle.tuple_runs.proofs.most.Tie as tie
-use Rattle.tuple_runs.proofs.most.Reads as reads
-use Rattle.tuple_runs.proofs.most.Lts as lts
-use Rattle.tuple_runs.proofs.page.Reads as page-reads
 
 abbrev Inv-loop : tie.InvT-loop
 Inv-loop p₀ i₀ p i = i ≤ 127

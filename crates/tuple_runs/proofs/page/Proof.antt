@@ -2,8 +2,6 @@ use borrow.Author.Needs.{needs}
 use Prim.Native.Nat.{_≤_, _-_}
 use Rattle.tuple_runs.proofs.page.Statement.{statement}
 use Rattle.tuple_runs.proofs.page.Tie as tie
-use Rattle.tuple_runs.proofs.page.Reads as reads
-use Rattle.tuple_runs.proofs.page.Lts as lts
 
 abbrev Inv-loop : tie.InvT-loop
 Inv-loop given rest p₀ i₀ p i = i ≤ 256

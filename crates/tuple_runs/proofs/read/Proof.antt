@@ -2,12 +2,6 @@ use borrow.Author.Needs.{needs}
 use Prim.Native.Nat.{_≤_, _-_}
 use Rattle.tuple_runs.proofs.read.Statement.{statement}
 use Rattle.tuple_runs.proofs.read.Tie as tie
-use Rattle.tuple_runs.proofs.read.Reads as reads
-use Rattle.tuple_runs.proofs.read.Lts as lts
-use Rattle.answers.proofs.Outcome.value.Reads as value-reads
-use Rattle.tuple_runs.proofs.answer.Reads as answer-reads
-use Rattle.tuple_runs.proofs.show.Reads as show-reads
-use Rattle.tuples.proofs.tuple_at.Reads as tuple-at-reads
 
 abbrev Inv-loop : tie.InvT-loop
 Inv-loop name buffer n i₀ i = i ≤ n

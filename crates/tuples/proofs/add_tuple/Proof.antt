@@ -7,10 +7,6 @@ use mathlib.Core.Path.{sym, _∙_, ap}
 use borrow.Author.Needs.{needs}
 use Rattle.tuples.proofs.add_tuple.Statement.{statement}
 use Rattle.tuples.proofs.add_tuple.Tie as tie
-use Rattle.tuples.proofs.add_tuple.Reads as reads
-use Rattle.tuples.proofs.add_tuple.Lts as lts
-use Rattle.tuples.proofs.is_good.Reads as is-good-reads
-use Rattle.tuples.proofs.pasted.Reads as pasted-reads
 
 is-good-requires : tie.Need-is-good-requires
 is-good-requires c κs = search needs

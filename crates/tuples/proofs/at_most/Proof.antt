@@ -2,8 +2,6 @@ use Rattle.tuples.specs.Read.{atMost}
 use Rattle.ground.proofs.Tests.{tests}
 use Rattle.tuples.proofs.at_most.Statement.{statement}
 use Rattle.tuples.proofs.at_most.Tie as tie
-use Rattle.tuples.proofs.at_most.Reads as reads
-use Rattle.tuples.proofs.at_most.Lts as lts
 
 returns : tie.Need-returns
 unfolding atMost

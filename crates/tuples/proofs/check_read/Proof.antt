@@ -1,10 +1,6 @@
 use borrow.Author.Needs.{needs}
 use Rattle.tuples.proofs.check_read.Statement.{statement}
 use Rattle.tuples.proofs.check_read.Tie as tie
-use Rattle.tuples.proofs.check_read.Reads as reads
-use Rattle.tuples.proofs.check_read.Lts as lts
-use Rattle.tuples.proofs.count_of.Reads as count-of-reads
-use Rattle.tuples.proofs.read_outcome.Reads as read-outcome-reads
 
 read-outcome-requires : tie.Need-read-outcome-requires
 read-outcome-requires c κs = search needs

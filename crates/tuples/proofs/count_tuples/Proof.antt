@@ -11,10 +11,6 @@ use Prim.Native.Nat.{_≤_, _-_}
 use mathlib.Core.Path.{_≡_, sym, _∙_, ap}
 use Rattle.tuples.proofs.count_tuples.Statement.{statement}
 use Rattle.tuples.proofs.count_tuples.Tie as tie
-use Rattle.tuples.proofs.count_tuples.Reads as reads
-use Rattle.tuples.proofs.count_tuples.Lts as lts
-use Rattle.tuples.proofs.Entry.end.Reads as end-reads
-use Rattle.tuples.proofs.step_at.Reads as step-at-reads
 
 abbrev Inv-loop : tie.InvT-loop
 Inv-loop buffer at₀ count₀ at count = (count ≤ at) × (added count (chainAt buffer at) ≡ counted (chainAt buffer 0))

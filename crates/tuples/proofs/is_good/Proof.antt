@@ -4,9 +4,6 @@ use Rattle.ground.proofs.Tests.{tests}
 use borrow.Author.Needs.{needs}
 use Rattle.tuples.proofs.is_good.Statement.{statement}
 use Rattle.tuples.proofs.is_good.Tie as tie
-use Rattle.tuples.proofs.is_good.Reads as reads
-use Rattle.tuples.proofs.is_good.Lts as lts
-use Rattle.tuples.proofs.Entry.end.Reads as end-reads
 
 returns : tie.Need-returns
 unfolding good

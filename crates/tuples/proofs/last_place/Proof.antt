@@ -8,9 +8,6 @@ use mathlib.Core.Path.{sym, ap, _∙_}
 use borrow.Author.Needs.{needs}
 use Rattle.tuples.proofs.last_place.Statement.{statement}
 use Rattle.tuples.proofs.last_place.Tie as tie
-use Rattle.tuples.proofs.last_place.Reads as reads
-use Rattle.tuples.proofs.last_place.Lts as lts
-use Rattle.tuples.proofs.at_most.Reads as at-most-reads
 
 at-most-requires : tie.Need-at-most-requires
 at-most-requires c κs = search needs

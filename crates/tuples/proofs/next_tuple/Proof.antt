@@ -6,11 +6,6 @@ use borrow.Author.Needs.{needs}
 use mathlib.Core.Path.{_≡_, refl, sym, _∙_, ap}
 use Rattle.tuples.proofs.next_tuple.Statement.{statement}
 use Rattle.tuples.proofs.next_tuple.Tie as tie
-use Rattle.tuples.proofs.next_tuple.Reads as reads
-use Rattle.tuples.proofs.next_tuple.Lts as lts
-use Rattle.tuples.proofs.Entry.end.Reads as end-reads
-use Rattle.tuples.proofs.nothing.Reads as nothing-reads
-use Rattle.tuples.proofs.step_at.Reads as step-at-reads
 
 abbrev Inv-loop : tie.InvT-loop
 Inv-loop buffer from at₀ at = chainAt buffer at ≡ chainAt buffer from

@@ -7,8 +7,6 @@ use Prim.Native.Nat.{_≤_, _+_, _-_}
 use mathlib.Core.Path.{_≡_, sym, _∙_, ap}
 use Rattle.tuples.proofs.pasted.Statement.{statement}
 use Rattle.tuples.proofs.pasted.Tie as tie
-use Rattle.tuples.proofs.pasted.Reads as reads
-use Rattle.tuples.proofs.pasted.Lts as lts
 
 abbrev Inv-loop : tie.InvT-loop
 Inv-loop at bodies start n b₀ j₀ b j = (j ≤ n) × (b ≡ paste b₀ at (drop start bodies) j)

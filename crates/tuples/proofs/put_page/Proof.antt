@@ -8,8 +8,6 @@ use Prim.Native.Nat.{_≤_, _-_}
 use mathlib.Core.Path.{_≡_}
 use Rattle.tuples.proofs.put_page.Statement.{statement}
 use Rattle.tuples.proofs.put_page.Tie as tie
-use Rattle.tuples.proofs.put_page.Reads as reads
-use Rattle.tuples.proofs.put_page.Lts as lts
 
 abbrev Inv-loop : tie.InvT-loop
 Inv-loop out₀ bad over bytes j₀ out j = (j ≤ 256) × (length out ≡ 256) × (take j out ≡ take j bytes)

@@ -4,9 +4,6 @@ use Rattle.ground.proofs.Tests.{tests}
 use borrow.Author.Needs.{needs}
 use Rattle.tuples.proofs.read_outcome.Statement.{statement}
 use Rattle.tuples.proofs.read_outcome.Tie as tie
-use Rattle.tuples.proofs.read_outcome.Reads as reads
-use Rattle.tuples.proofs.read_outcome.Lts as lts
-use Rattle.tuples.proofs.count_tuples.Reads as count-tuples-reads
 
 returns : tie.Need-returns
 unfolding readOutcome

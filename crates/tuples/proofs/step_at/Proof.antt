@@ -7,9 +7,6 @@ use Rattle.ground.proofs.Tests.{tests}
 use borrow.Author.Needs.{needs}
 use Rattle.tuples.proofs.step_at.Statement.{statement}
 use Rattle.tuples.proofs.step_at.Tie as tie
-use Rattle.tuples.proofs.step_at.Reads as reads
-use Rattle.tuples.proofs.step_at.Lts as lts
-use Rattle.ground.proofs.wide.Reads as wide-reads
 
 returns : tie.Need-returns
 unfolding stepAt

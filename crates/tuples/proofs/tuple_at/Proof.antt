@@ -3,9 +3,6 @@ use mathlib.Core.Path.{_∙_}
 use borrow.Author.Needs.{needs}
 use Rattle.tuples.proofs.tuple_at.Statement.{statement}
 use Rattle.tuples.proofs.tuple_at.Tie as tie
-use Rattle.tuples.proofs.tuple_at.Reads as reads
-use Rattle.tuples.proofs.tuple_at.Lts as lts
-use Rattle.tuples.proofs.read_held.Reads as read-held-reads
 
 read-held-requires : tie.Need-read-held-requires
 read-held-requires c κs = search needs

@@ -4,23 +4,16 @@ use mathlib.Core.Path.{ap}
 use borrow.Author.Needs.{needs}
 use Rattle.card.proofs.Card.access.Statement.{statement}
 use Rattle.card.proofs.Card.access.Tie as tie
-use Rattle.card.proofs.Card.access.Reads as reads
-use Rattle.card.proofs.Card.access.Lts as lts
-use Rattle.card.proofs.step.Reads as step-reads
 
--- src/doors.rt
 step-requires : tie.Need-step-requires
 step-requires c κs = search needs
 
--- src/doors.rt
 same-length : tie.Need-same-length
 same-length c = search needs
 
--- src/doors.rt
 same-length-2 : tie.Need-same-length-2
 same-length-2 c = search needs
 
--- src/doors.rt
 returns : tie.Need-returns
 returns c =
     let e = c .before .before .before .before .before .before .step .ensures in (e, (ap (λ (x : Stepped). outcomeNumber (x .outcome)) e, ap (λ (x : Stepped). outcomeValue (x .outcome)) e))

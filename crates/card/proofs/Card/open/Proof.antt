@@ -5,15 +5,10 @@ use mathlib.Core.Path.{ap}
 use borrow.Author.Needs.{needs}
 use Rattle.card.proofs.Card.open.Statement.{statement}
 use Rattle.card.proofs.Card.open.Tie as tie
-use Rattle.card.proofs.Card.open.Reads as reads
-use Rattle.card.proofs.Card.open.Lts as lts
-use Rattle.card.proofs.opening.open_reply.Reads as open-reply-reads
 
--- src/opening.rt
 open-reply-requires : tie.Need-open-reply-requires
 open-reply-requires c κs = search needs
 
--- src/opening.rt
 returns : tie.Need-returns
 unfolding zeros
 returns c =

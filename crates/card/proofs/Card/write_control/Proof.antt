@@ -4,15 +4,10 @@ use mathlib.Core.Path.{ap}
 use borrow.Author.Needs.{needs}
 use Rattle.card.proofs.Card.write_control.Statement.{statement}
 use Rattle.card.proofs.Card.write_control.Tie as tie
-use Rattle.card.proofs.Card.write_control.Reads as reads
-use Rattle.card.proofs.Card.write_control.Lts as lts
-use Rattle.card.proofs.doors.control_reply.Reads as control-reply-reads
 
--- src/doors.rt
 control-reply-requires : tie.Need-control-reply-requires
 control-reply-requires c κs = search needs
 
--- src/doors.rt
 returns : tie.Need-returns
 returns c =
     let e = c .before .before .control-reply .ensures in (e, (ap (λ (x : Answer). outcomeNumber (x .outcome)) e, ap (λ (x : Answer). outcomeValue (x .outcome)) e))

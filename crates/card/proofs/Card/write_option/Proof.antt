@@ -4,15 +4,10 @@ use mathlib.Core.Path.{ap}
 use borrow.Author.Needs.{needs}
 use Rattle.card.proofs.Card.write_option.Statement.{statement}
 use Rattle.card.proofs.Card.write_option.Tie as tie
-use Rattle.card.proofs.Card.write_option.Reads as reads
-use Rattle.card.proofs.Card.write_option.Lts as lts
-use Rattle.card.proofs.doors.option_reply.Reads as option-reply-reads
 
--- src/doors.rt
 option-reply-requires : tie.Need-option-reply-requires
 option-reply-requires c κs = search needs
 
--- src/doors.rt
 returns : tie.Need-returns
 returns c =
     let e = c .before .before .option-reply .ensures in (e, (ap (λ (x : Answer). outcomeNumber (x .outcome)) e, ap (λ (x : Answer). outcomeValue (x .outcome)) e))

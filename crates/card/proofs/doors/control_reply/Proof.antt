@@ -1,50 +1,36 @@
 use Rattle.card.specs.Doors.{controlAnswered}
 use Rattle.ground.proofs.Picks.{no, yes}
 use borrow.Author.Tests.{le-leb, lt-leb}
-use mathlib.Core.Path.{_≡_, sym, _∙_}
+use mathlib.Core.Path.{sym, _∙_}
 use borrow.Author.Needs.{needs}
 use Rattle.card.proofs.doors.control_reply.Statement.{statement}
 use Rattle.card.proofs.doors.control_reply.Tie as tie
-use Rattle.card.proofs.doors.control_reply.Reads as reads
-use Rattle.card.proofs.doors.control_reply.Lts as lts
-use Rattle.card.proofs.doors.accept.Reads as accept-reads
-use Rattle.card.proofs.refuse.Reads as refuse-reads
-use Rattle.registers.proofs.Core.well_made.Reads as well-made-reads
-use Rattle.registers.proofs.Core.write_control.Reads as write-control-reads
 
--- src/doors.rt
 well-made-requires : tie.Need-well-made-requires
 well-made-requires c κs = search needs
 
--- src/doors.rt
 refuse-requires : tie.Need-refuse-requires
 refuse-requires c κs = search needs
 
--- src/doors.rt
 returns : tie.Need-returns
 unfolding controlAnswered
 returns c =
     let w = sym (c .before .before .well-made .ensures) ∙ no _ (c .before .if1 .taken) in simp (w, c .refuse .ensures)
 
--- src/doors.rt
 refuse-requires-2 : tie.Need-refuse-requires-2
 refuse-requires-2 c κs = search needs
 
--- src/doors.rt
 returns-2 : tie.Need-returns-2
 unfolding controlAnswered
 returns-2 c =
     let w = sym (c .before .before .before .before .well-made .ensures) ∙ yes _ (c .before .before .before .if1 .left) in simp (w, le-leb _ _ (c .before .if2 .taken), c .refuse2 .ensures)
 
--- src/doors.rt
 write-control-requires : tie.Need-write-control-requires
 write-control-requires c κs = search needs
 
--- src/doors.rt
 accept-requires : tie.Need-accept-requires
 accept-requires c κs = search needs
 
--- src/doors.rt
 returns-3 : tie.Need-returns-3
 unfolding controlAnswered
 returns-3 c =

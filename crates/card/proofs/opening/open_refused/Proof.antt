@@ -1,15 +1,10 @@
 use borrow.Author.Needs.{needs}
 use Rattle.card.proofs.opening.open_refused.Statement.{statement}
 use Rattle.card.proofs.opening.open_refused.Tie as tie
-use Rattle.card.proofs.opening.open_refused.Reads as reads
-use Rattle.card.proofs.opening.open_refused.Lts as lts
-use Rattle.card.proofs.opening.zero_state.Reads as zero-state-reads
 
--- src/opening.rt
 zero-state-requires : tie.Need-zero-state-requires
 zero-state-requires c κs = search needs
 
--- src/opening.rt
 returns : tie.Need-returns
 returns c =
     simp (c .zero-state .ensures)

@@ -1,62 +1,44 @@
-use mathlib.Core.Path.{_≡_, sym, _∙_, ap}
-use borrow.Author.Tests.{eq-eqb, ne-eqb, lt-ltb, le-ltb, le-leb, lt-leb}
+use mathlib.Core.Path.{sym, _∙_}
+use borrow.Author.Tests.{eq-eqb, ne-eqb, le-leb, lt-leb}
 use Rattle.ground.proofs.Picks.{no, yes}
 use Rattle.card.specs.Opening.{opened}
 use borrow.Author.Needs.{needs}
 use Rattle.card.proofs.opening.open_reply.Statement.{statement}
 use Rattle.card.proofs.opening.open_reply.Tie as tie
-use Rattle.card.proofs.opening.open_reply.Reads as reads
-use Rattle.card.proofs.opening.open_reply.Lts as lts
-use Rattle.card.proofs.opening.mode_of.Reads as mode-of-reads
-use Rattle.card.proofs.opening.open_refused.Reads as open-refused-reads
-use Rattle.card.proofs.opening.powered.Reads as powered-reads
-use Rattle.geometry.proofs.Geometry.fits.Reads as fits-reads
-use Rattle.geometry.proofs.Geometry.total.Reads as total-reads
-use Rattle.sectors.proofs.marks_fit.Reads as marks-fit-reads
 
--- src/opening.rt
 fits-requires : tie.Need-fits-requires
 fits-requires c κs = search needs
 
--- src/opening.rt
 open-refused-requires : tie.Need-open-refused-requires
 open-refused-requires c κs = search needs
 
--- src/opening.rt
 returns : tie.Need-returns
 unfolding opened
 returns c =
     let w = sym (c .before .before .fits2 .ensures) ∙ no _ (c .before .if1 .taken) in
     simp (w, c .open-refused .ensures)
 
--- src/opening.rt
 open-refused-requires-2 : tie.Need-open-refused-requires-2
 open-refused-requires-2 c κs = search needs
 
--- src/opening.rt
 returns-2 : tie.Need-returns-2
 unfolding opened
 returns-2 c =
     let w = sym (c .before .before .before .fits2 .ensures) ∙ yes _ (c .before .before .if1 .left) in
     simp (w, lt-leb _ _ (c .before .if2 .taken), c .open-refused2 .ensures)
 
--- src/opening.rt
 total-requires : tie.Need-total-requires
 total-requires c κs = search needs
 
--- src/opening.rt
 cast-total : tie.Need-cast-total
 cast-total c = search needs
 
--- src/opening.rt
 mul-if3 : tie.Need-mul-if3
 mul-if3 c = search needs
 
--- src/opening.rt
 open-refused-requires-3 : tie.Need-open-refused-requires-3
 open-refused-requires-3 c κs = search needs
 
--- src/opening.rt
 returns-3 : tie.Need-returns-3
 unfolding opened
 returns-3 c =
@@ -64,11 +46,9 @@ returns-3 c =
     let n = simp (c .before .before .total .ensures) at (c .before .if3 .taken) in
     simp (w, le-leb _ _ (c .before .before .before .if2 .left), ne-eqb _ _ n, c .open-refused3 .ensures)
 
--- src/opening.rt
 open-refused-requires-4 : tie.Need-open-refused-requires-4
 open-refused-requires-4 c κs = search needs
 
--- src/opening.rt
 returns-4 : tie.Need-returns-4
 unfolding opened
 returns-4 c =
@@ -77,11 +57,9 @@ returns-4 c =
     let n = simp (c .before .before .before .total .ensures) at (c .before .if4 .taken) in
     simp (w, le-leb _ _ (c .before .before .before .before .if2 .left), eq-eqb _ _ s, ne-eqb _ _ n, c .open-refused4 .ensures)
 
--- src/opening.rt
 open-refused-requires-5 : tie.Need-open-refused-requires-5
 open-refused-requires-5 c κs = search needs
 
--- src/opening.rt
 returns-5 : tie.Need-returns-5
 unfolding opened
 returns-5 c =
@@ -90,15 +68,12 @@ returns-5 c =
     let n = simp (c .before .before .before .before .total .ensures) at (c .before .before .if4 .left) in
     simp (w, le-leb _ _ (c .before .before .before .before .before .if2 .left), eq-eqb _ _ s, eq-eqb _ _ n, ne-eqb _ _ (c .before .if5 .taken), c .open-refused5 .ensures)
 
--- src/opening.rt
 marks-fit-requires : tie.Need-marks-fit-requires
 marks-fit-requires c κs = search needs
 
--- src/opening.rt
 open-refused-requires-6 : tie.Need-open-refused-requires-6
 open-refused-requires-6 c κs = search needs
 
--- src/opening.rt
 returns-6 : tie.Need-returns-6
 unfolding opened
 returns-6 c =
@@ -108,15 +83,12 @@ returns-6 c =
     let m = sym (c .before .before .marks-fit .ensures) ∙ no _ (c .before .if6 .taken) in
     simp (w, le-leb _ _ (c .before .before .before .before .before .before .before .if2 .left), eq-eqb _ _ s, eq-eqb _ _ n, eq-eqb _ _ (c .before .before .before .if5 .left), m, c .open-refused6 .ensures)
 
--- src/opening.rt
 mode-of-requires : tie.Need-mode-of-requires
 mode-of-requires c κs = search needs
 
--- src/opening.rt
 powered-requires : tie.Need-powered-requires
 powered-requires c κs = search needs
 
--- src/opening.rt
 returns-7 : tie.Need-returns-7
 unfolding opened
 returns-7 c =

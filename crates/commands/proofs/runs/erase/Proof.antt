@@ -5,11 +5,6 @@ use Rattle.commands.specs.Runs.{blank, eraseFrom}
 use Rattle.commands.proofs.Loops.{erase-end, erase-fails, erase-step}
 use Rattle.commands.proofs.runs.erase.Statement.{statement}
 use Rattle.commands.proofs.runs.erase.Tie as tie
-use Rattle.commands.proofs.runs.erase.Reads as reads
-use Rattle.commands.proofs.runs.erase.Lts as lts
-use Rattle.commands.proofs.ended.Reads as ended-reads
-use Rattle.commands.proofs.passed.Reads as passed-reads
-use Rattle.commands.proofs.store_tested.Reads as store-tested-reads
 
 abbrev Inv-loop : tie.InvT-loop
 Inv-loop left store₀ marks₀ bytes s₀ n₀ store marks s n = (length store ≡ length store₀) × (length marks ≡ length marks₀) × (eraseFrom n s store marks ≡ eraseFrom n₀ s₀ store₀ marks₀)
@@ -17,31 +12,24 @@ Inv-loop left store₀ marks₀ bytes s₀ n₀ store marks s n = (length store 
 abbrev μ-loop : tie.MeasureT-loop
 μ-loop left store₀ marks₀ bytes s₀ n₀ store marks s n = n
 
--- src/runs.rt
 loop-holds : tie.Need-loop-holds Inv-loop μ-loop
 loop-holds c = search needs
 
--- src/runs.rt
 store-tested-requires : tie.Need-store-tested-requires Inv-loop μ-loop
 store-tested-requires c κs = search needs
 
--- src/runs.rt
 enum-told : tie.Need-enum-told Inv-loop μ-loop
 enum-told c = search needs
 
--- src/runs.rt
 sub-n : tie.Need-sub-n Inv-loop μ-loop
 sub-n c = search needs
 
--- src/runs.rt
 passed-requires : tie.Need-passed-requires Inv-loop μ-loop
 passed-requires c κs = search needs
 
--- src/runs.rt
 loop-less : tie.Need-loop-less Inv-loop μ-loop
 loop-less c = search needs
 
--- src/runs.rt
 loop-again : tie.Need-loop-again Inv-loop μ-loop
 unfolding blank
 loop-again c =
@@ -54,42 +42,33 @@ loop-again c =
       rw (c .passed .ensures) (sym (erase-step _ _ _ _ _ _ _ (c .before .before .before .before .before .before .before .before .before .before .before .loop-test .taken) e) ∙ l .inv .2),
     )
 
--- src/runs.rt
 enum-known-end : tie.Need-enum-known-end Inv-loop μ-loop
 enum-known-end c = search needs
 
--- src/runs.rt
 ended-requires : tie.Need-ended-requires Inv-loop μ-loop
 ended-requires c κs = search needs
 
--- src/runs.rt
 same-length : tie.Need-same-length Inv-loop μ-loop
 same-length c = search needs
 
--- src/runs.rt
 same-length-2 : tie.Need-same-length-2 Inv-loop μ-loop
 same-length-2 c = search needs
 
--- src/runs.rt
 returns : tie.Need-returns Inv-loop μ-loop
 unfolding blank
 returns c =
     let e = simp (c .before .before .end .given .1) at (c .before .before .before .before .before .before .before .before .store-tested .ensures) in
     simp (c .ended .ensures) (sym (erase-fails _ _ _ _ _ _ _ (c .before .before .before .before .before .before .before .before .before .before .before .before .loop-test .taken) e) ∙ c .before .before .before .before .before .before .before .before .before .before .before .before .before .loop .inv .2)
 
--- src/runs.rt
 ended-requires-2 : tie.Need-ended-requires-2 Inv-loop μ-loop
 ended-requires-2 c κs = search needs
 
--- src/runs.rt
 same-length-3 : tie.Need-same-length-3 Inv-loop μ-loop
 same-length-3 c = search needs
 
--- src/runs.rt
 same-length-4 : tie.Need-same-length-4 Inv-loop μ-loop
 same-length-4 c = search needs
 
--- src/runs.rt
 returns-2 : tie.Need-returns-2 Inv-loop μ-loop
 returns-2 c =
     let l = c .before .before .loop in

@@ -4,11 +4,6 @@ use Rattle.commands.specs.Runs.{verifyFrom}
 use Rattle.commands.proofs.Loops.{verify-end, verify-fails, verify-step}
 use Rattle.commands.proofs.runs.verify.Statement.{statement}
 use Rattle.commands.proofs.runs.verify.Tie as tie
-use Rattle.commands.proofs.runs.verify.Reads as reads
-use Rattle.commands.proofs.runs.verify.Lts as lts
-use Rattle.commands.proofs.ended.Reads as ended-reads
-use Rattle.commands.proofs.passed.Reads as passed-reads
-use Rattle.commands.proofs.read_test.Reads as read-test-reads
 
 abbrev Inv-loop : tie.InvT-loop
 Inv-loop left marks s₀ n₀ s n = verifyFrom n s marks ≡ verifyFrom n₀ s₀ marks
@@ -16,55 +11,43 @@ Inv-loop left marks s₀ n₀ s n = verifyFrom n s marks ≡ verifyFrom n₀ s�
 abbrev μ-loop : tie.MeasureT-loop
 μ-loop left marks s₀ n₀ s n = n
 
--- src/runs.rt
 loop-holds : tie.Need-loop-holds Inv-loop μ-loop
 loop-holds c = search needs
 
--- src/runs.rt
 read-test-requires : tie.Need-read-test-requires Inv-loop μ-loop
 read-test-requires c κs = search needs
 
--- src/runs.rt
 enum-told : tie.Need-enum-told Inv-loop μ-loop
 enum-told c = search needs
 
--- src/runs.rt
 sub-n : tie.Need-sub-n Inv-loop μ-loop
 sub-n c = search needs
 
--- src/runs.rt
 passed-requires : tie.Need-passed-requires Inv-loop μ-loop
 passed-requires c κs = search needs
 
--- src/runs.rt
 loop-less : tie.Need-loop-less Inv-loop μ-loop
 loop-less c = search needs
 
--- src/runs.rt
 loop-again : tie.Need-loop-again Inv-loop μ-loop
 loop-again c =
     let e = sym (c .before .before .before .read-test .ensures) ∙ c .before .enum-told .given .1 in
     rw (c .passed .ensures) (sym (verify-step _ _ _ _ (c .before .before .before .before .loop-test .taken) e) ∙ c .before .before .before .before .before .loop .inv)
 
--- src/runs.rt
 enum-known-end : tie.Need-enum-known-end Inv-loop μ-loop
 enum-known-end c = search needs
 
--- src/runs.rt
 ended-requires : tie.Need-ended-requires Inv-loop μ-loop
 ended-requires c κs = search needs
 
--- src/runs.rt
 returns : tie.Need-returns Inv-loop μ-loop
 returns c =
     let e = sym (c .before .before .before .before .read-test .ensures) ∙ c .before .before .end .given .1 in
     simp (c .ended .ensures) (sym (verify-fails _ _ _ _ (c .before .before .before .before .before .loop-test .taken) e) ∙ c .before .before .before .before .before .before .loop .inv)
 
--- src/runs.rt
 ended-requires-2 : tie.Need-ended-requires-2 Inv-loop μ-loop
 ended-requires-2 c κs = search needs
 
--- src/runs.rt
 returns-2 : tie.Need-returns-2 Inv-loop μ-loop
 returns-2 c =
     let l = c .before .before .loop in

@@ -2,85 +2,67 @@ use Rattle.ground.proofs.Tests.{tests}
 use Rattle.commands.specs.Table.{commandOf}
 use Rattle.commands.proofs.table.command_of.Statement.{statement}
 use Rattle.commands.proofs.table.command_of.Tie as tie
-use Rattle.commands.proofs.table.command_of.Reads as reads
-use Rattle.commands.proofs.table.command_of.Lts as lts
 
--- src/table.rt
 returns : tie.Need-returns
 unfolding commandOf
 returns c = search tests
 
--- src/table.rt
 returns-2 : tie.Need-returns-2
 unfolding commandOf
 returns-2 c = search tests
 
--- src/table.rt
 returns-3 : tie.Need-returns-3
 unfolding commandOf
 returns-3 c = search tests
 
--- src/table.rt
 returns-4 : tie.Need-returns-4
 unfolding commandOf
 returns-4 c = search tests
 
--- src/table.rt
 returns-5 : tie.Need-returns-5
 unfolding commandOf
 returns-5 c = search tests
 
--- src/table.rt
 returns-6 : tie.Need-returns-6
 unfolding commandOf
 returns-6 c = search tests
 
--- src/table.rt
 returns-7 : tie.Need-returns-7
 unfolding commandOf
 returns-7 c = search tests
 
--- src/table.rt
 returns-8 : tie.Need-returns-8
 unfolding commandOf
 returns-8 c = search tests
 
--- src/table.rt
 returns-9 : tie.Need-returns-9
 unfolding commandOf
 returns-9 c = search tests
 
--- src/table.rt
 returns-10 : tie.Need-returns-10
 unfolding commandOf
 returns-10 c = search tests
 
--- src/table.rt
 returns-11 : tie.Need-returns-11
 unfolding commandOf
 returns-11 c = search tests
 
--- src/table.rt
 returns-12 : tie.Need-returns-12
 unfolding commandOf
 returns-12 c = search tests
 
--- src/table.rt
 returns-13 : tie.Need-returns-13
 unfolding commandOf
 returns-13 c = search tests
 
--- src/table.rt
 returns-14 : tie.Need-returns-14
 unfolding commandOf
 returns-14 c = search tests
 
--- src/table.rt
 returns-15 : tie.Need-returns-15
 unfolding commandOf
 returns-15 c = search tests
 
--- src/table.rt
 returns-16 : tie.Need-returns-16
 unfolding commandOf
 returns-16 c = search tests

@@ -3,20 +3,14 @@ use Rattle.commands.specs.Table.{countOf}
 use borrow.Author.Needs.{needs}
 use Rattle.commands.proofs.table.count_of.Statement.{statement}
 use Rattle.commands.proofs.table.count_of.Tie as tie
-use Rattle.commands.proofs.table.count_of.Reads as reads
-use Rattle.commands.proofs.table.count_of.Lts as lts
-use Rattle.ground.proofs.wide.Reads as wide-reads
 
--- src/table.rt
 returns : tie.Need-returns
 unfolding countOf
 returns c = simp (eq-eqb _ _ (c .if1 .taken))
 
--- src/table.rt
 wide-requires : tie.Need-wide-requires
 wide-requires c κs = search needs
 
--- src/table.rt
 returns-2 : tie.Need-returns-2
 unfolding countOf
 returns-2 c = simp (ne-eqb _ _ (c .before .if1 .left), c .wide .ensures .0)

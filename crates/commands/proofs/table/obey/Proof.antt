@@ -2,225 +2,159 @@ use mathlib.Core.Path.{sym}
 use borrow.Author.Needs.{needs}
 use Rattle.commands.proofs.table.obey.Statement.{statement}
 use Rattle.commands.proofs.table.obey.Tie as tie
-use Rattle.commands.proofs.table.obey.Reads as reads
-use Rattle.commands.proofs.table.obey.Lts as lts
-use Rattle.commands.proofs.ask_sector.Reads as ask-sector-reads
-use Rattle.commands.proofs.begun.Reads as begun-reads
-use Rattle.commands.proofs.ended.Reads as ended-reads
-use Rattle.commands.proofs.read_sector.Reads as read-sector-reads
-use Rattle.commands.proofs.runs.erase.Reads as erase-reads
-use Rattle.commands.proofs.runs.verify.Reads as verify-reads
-use Rattle.commands.proofs.table.count_of.Reads as count-of-reads
-use Rattle.commands.proofs.table.diagnosed.Reads as diagnosed-reads
-use Rattle.commands.proofs.table.seek.Reads as seek-reads
-use Rattle.commands.proofs.table.sense.Reads as sense-reads
-use Rattle.commands.proofs.table.set_geometry.Reads as set-geometry-reads
-use Rattle.commands.proofs.table.started.Reads as started-reads
-use Rattle.commands.proofs.table.tell_identity.Reads as tell-identity-reads
 
--- src/table.rt
 started-requires : tie.Need-started-requires
 started-requires c κs = search needs
 
--- src/table.rt
 enum-told : tie.Need-enum-told
 enum-told c = search needs
 
--- src/table.rt
 count-of-requires : tie.Need-count-of-requires
 count-of-requires c κs = search needs
 
--- src/table.rt
 read-sector-requires : tie.Need-read-sector-requires
 read-sector-requires c κs = search needs
 
--- src/table.rt
 enum-told-2 : tie.Need-enum-told-2
 enum-told-2 c = search needs
 
--- src/table.rt
 count-of-requires-2 : tie.Need-count-of-requires-2
 count-of-requires-2 c κs = search needs
 
--- src/table.rt
 ask-sector-requires : tie.Need-ask-sector-requires
 ask-sector-requires c κs = search needs
 
--- src/table.rt
 enum-told-3 : tie.Need-enum-told-3
 enum-told-3 c = search needs
 
--- src/table.rt
 count-of-requires-3 : tie.Need-count-of-requires-3
 count-of-requires-3 c κs = search needs
 
--- src/table.rt
 verify-requires : tie.Need-verify-requires
 verify-requires c κs = search needs
 
--- src/table.rt
 enum-told-4 : tie.Need-enum-told-4
 enum-told-4 c = search needs
 
--- src/table.rt
 count-of-requires-4 : tie.Need-count-of-requires-4
 count-of-requires-4 c κs = search needs
 
--- src/table.rt
 erase-requires : tie.Need-erase-requires
 erase-requires c κs = search needs
 
--- src/table.rt
 enum-told-5 : tie.Need-enum-told-5
 enum-told-5 c = search needs
 
--- src/table.rt
 tell-identity-requires : tie.Need-tell-identity-requires
 tell-identity-requires c κs = search needs
 
--- src/table.rt
 begun-requires : tie.Need-begun-requires
 begun-requires c κs = search needs
 
--- src/table.rt
 enum-told-6 : tie.Need-enum-told-6
 enum-told-6 c = search needs
 
--- src/table.rt
 begun-requires-2 : tie.Need-begun-requires-2
 begun-requires-2 c κs = search needs
 
--- src/table.rt
 enum-told-7 : tie.Need-enum-told-7
 enum-told-7 c = search needs
 
--- src/table.rt
 begun-requires-3 : tie.Need-begun-requires-3
 begun-requires-3 c κs = search needs
 
--- src/table.rt
 enum-told-8 : tie.Need-enum-told-8
 enum-told-8 c = search needs
 
--- src/table.rt
 set-geometry-requires : tie.Need-set-geometry-requires
 set-geometry-requires c κs = search needs
 
--- src/table.rt
 enum-told-9 : tie.Need-enum-told-9
 enum-told-9 c = search needs
 
--- src/table.rt
 diagnosed-requires : tie.Need-diagnosed-requires
 diagnosed-requires c κs = search needs
 
--- src/table.rt
 ended-requires : tie.Need-ended-requires
 ended-requires c κs = search needs
 
--- src/table.rt
 enum-told-10 : tie.Need-enum-told-10
 enum-told-10 c = search needs
 
--- src/table.rt
 ended-requires-2 : tie.Need-ended-requires-2
 ended-requires-2 c κs = search needs
 
--- src/table.rt
 enum-told-11 : tie.Need-enum-told-11
 enum-told-11 c = search needs
 
--- src/table.rt
 seek-requires : tie.Need-seek-requires
 seek-requires c κs = search needs
 
--- src/table.rt
 enum-told-12 : tie.Need-enum-told-12
 enum-told-12 c = search needs
 
--- src/table.rt
 sense-requires : tie.Need-sense-requires
 sense-requires c κs = search needs
 
--- src/table.rt
 enum-told-13 : tie.Need-enum-told-13
 enum-told-13 c = search needs
 
--- src/table.rt
 ended-requires-3 : tie.Need-ended-requires-3
 ended-requires-3 c κs = search needs
 
--- src/table.rt
 same-length : tie.Need-same-length
 same-length c = search needs
 
--- src/table.rt
 same-length-2 : tie.Need-same-length-2
 same-length-2 c = search needs
 
--- src/table.rt
 returns : tie.Need-returns
 returns c = simp (c .before .before .before .before .before .enum-told .given .1) (simp (c .before .before .before .before .before .before .before .started .ensures, c .before .before .before .before .count-of .ensures) at (c .read-sector .ensures))
 
--- src/table.rt
 returns-2 : tie.Need-returns-2
 returns-2 c = simp (c .before .before .enum-told2 .given .1, c .ask-sector .ensures, c .before .count-of2 .ensures, c .before .before .before .before .started .ensures)
 
--- src/table.rt
 same-length-3 : tie.Need-same-length-3
 same-length-3 c = search needs
 
--- src/table.rt
 returns-3 : tie.Need-returns-3
 returns-3 c = simp (c .before .before .before .enum-told3 .given .1, c .verify .ensures, c .before .before .count-of3 .ensures, c .before .before .before .before .before .started .ensures)
 
--- src/table.rt
 same-length-4 : tie.Need-same-length-4
 same-length-4 c = search needs
 
--- src/table.rt
 same-length-5 : tie.Need-same-length-5
 same-length-5 c = search needs
 
--- src/table.rt
 returns-4 : tie.Need-returns-4
 returns-4 c =
     let w = simp (c .before .before .before .before .before .before .before .count-of4 .ensures, c .before .before .before .before .before .before .before .before .before .before .started .ensures) at (sym (c .before .before .before .before .erase .ensures)) in
     simp (c .before .before .before .before .before .before .before .before .enum-told4 .given .1, w)
 
--- src/table.rt
 returns-5 : tie.Need-returns-5
 returns-5 c = simp (c .before .before .before .enum-told5 .given .1, c .begun .ensures, c .before .tell-identity .ensures, c .before .before .before .before .before .started .ensures)
 
--- src/table.rt
 returns-6 : tie.Need-returns-6
 returns-6 c = simp (c .before .enum-told6 .given .1, c .begun2 .ensures, c .before .before .before .started .ensures)
 
--- src/table.rt
 returns-7 : tie.Need-returns-7
 returns-7 c = simp (c .before .enum-told7 .given .1, c .begun3 .ensures, c .before .before .before .started .ensures)
 
--- src/table.rt
 returns-8 : tie.Need-returns-8
 returns-8 c = simp (c .before .enum-told8 .given .1, c .set-geometry .ensures, c .before .before .before .started .ensures)
 
--- src/table.rt
 returns-9 : tie.Need-returns-9
 returns-9 c = simp (c .before .before .enum-told9 .given .1, c .ended .ensures, c .before .diagnosed .ensures, c .before .before .before .before .started .ensures)
 
--- src/table.rt
 returns-10 : tie.Need-returns-10
 returns-10 c = simp (c .before .enum-told10 .given .1, c .ended2 .ensures, c .before .before .before .started .ensures)
 
--- src/table.rt
 returns-11 : tie.Need-returns-11
 returns-11 c = simp (c .before .enum-told11 .given .1, c .seek .ensures, c .before .before .before .started .ensures)
 
--- src/table.rt
 returns-12 : tie.Need-returns-12
 returns-12 c = simp (c .before .enum-told12 .given .1, c .sense .ensures)
 
--- src/table.rt
 returns-13 : tie.Need-returns-13
 returns-13 c = simp (c .before .enum-told13 .given .1, c .ended3 .ensures, c .before .before .before .started .ensures)
 

@@ -2,41 +2,28 @@ use mathlib.Core.Path.{sym, _∙_}
 use borrow.Author.Needs.{needs}
 use Rattle.commands.proofs.table.set_geometry.Statement.{statement}
 use Rattle.commands.proofs.table.set_geometry.Tie as tie
-use Rattle.commands.proofs.table.set_geometry.Reads as reads
-use Rattle.commands.proofs.table.set_geometry.Lts as lts
-use Rattle.commands.proofs.ended.Reads as ended-reads
-use Rattle.geometry.proofs.Geometry.total.Reads as total-reads
-use Rattle.geometry.proofs.reshape.Reads as reshape-reads
 
--- src/table.rt
 total-requires : tie.Need-total-requires
 total-requires c κs = search needs
 
--- src/table.rt
 reshape-requires : tie.Need-reshape-requires
 reshape-requires c κs = search needs
 
--- src/table.rt
 enum-known-geometry : tie.Need-enum-known-geometry
 enum-known-geometry c = search needs
 
--- src/table.rt
 ended-requires : tie.Need-ended-requires
 ended-requires c κs = search needs
 
--- src/table.rt
 enum-told : tie.Need-enum-told
 enum-told c = search needs
 
--- src/table.rt
 ended-requires-2 : tie.Need-ended-requires-2
 ended-requires-2 c κs = search needs
 
--- src/table.rt
 returns : tie.Need-returns
 returns c = let e = simp (c .before .before .before .before .before .total .ensures) at (sym (c .before .before .before .before .reshape .ensures) ∙ c .before .before .geometry .given .1) in simp (e, c .ended .ensures)
 
--- src/table.rt
 returns-2 : tie.Need-returns-2
 returns-2 c = let e = simp (c .before .before .before .before .total .ensures) at (sym (c .before .before .before .reshape .ensures) ∙ c .before .enum-told .given .1) in simp (e, c .ended2 .ensures)
 

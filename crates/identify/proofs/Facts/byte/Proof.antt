@@ -3,28 +3,20 @@ use Rattle.identify.specs.Words.{identifyByte}
 use borrow.Author.Needs.{needs}
 use Rattle.identify.proofs.Facts.byte.Statement.{statement}
 use Rattle.identify.proofs.Facts.byte.Tie as tie
-use Rattle.identify.proofs.Facts.byte.Reads as reads
-use Rattle.identify.proofs.Facts.byte.Lts as lts
-use Rattle.identify.proofs.Facts.word.Reads as word-reads
 
--- src/lib.rt
 word-requires : tie.Need-word-requires
 word-requires c κs = search needs
 
--- src/lib.rt
 cast-result : tie.Need-cast-result
 cast-result c = search needs
 
--- src/lib.rt
 returns : tie.Need-returns
 unfolding identifyByte
 returns c = search (tests, c .before .word .ensures)
 
--- src/lib.rt
 cast-result-2 : tie.Need-cast-result-2
 cast-result-2 c = search needs
 
--- src/lib.rt
 returns-2 : tie.Need-returns-2
 unfolding identifyByte
 returns-2 c = search (tests, c .before .word .ensures)

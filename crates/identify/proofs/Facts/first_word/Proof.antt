@@ -1,73 +1,54 @@
 use Rattle.ground.proofs.Tests.{tests}
-use mathlib.Core.Path.{_≡_, sym, _∙_}
-use borrow.Author.Tests.{eq-eqb, ne-eqb, lt-ltb, le-ltb}
+use mathlib.Core.Path.{sym, _∙_}
+use borrow.Author.Tests.{ne-eqb}
 use Rattle.identify.specs.Words.{firstWord}
 use borrow.Author.Needs.{needs}
 use Rattle.identify.proofs.Facts.first_word.Statement.{statement}
 use Rattle.identify.proofs.Facts.first_word.Tie as tie
-use Rattle.identify.proofs.Facts.first_word.Reads as reads
-use Rattle.identify.proofs.Facts.first_word.Lts as lts
-use Rattle.identify.proofs.Facts.total.Reads as total-reads
-use Rattle.identify.proofs.blank.Reads as blank-reads
-use Rattle.identify.proofs.high_half.Reads as high-half-reads
-use Rattle.identify.proofs.low_half.Reads as low-half-reads
 
--- src/lib.rt
 returns : tie.Need-returns
 unfolding firstWord
 returns c = search tests
 
--- src/lib.rt
 returns-2 : tie.Need-returns-2
 unfolding firstWord
 returns-2 c = search tests
 
--- src/lib.rt
 returns-3 : tie.Need-returns-3
 unfolding firstWord
 returns-3 c = search tests
 
--- src/lib.rt
 returns-4 : tie.Need-returns-4
 unfolding firstWord
 returns-4 c = search tests
 
--- src/lib.rt
 total-requires : tie.Need-total-requires
 total-requires c κs = search needs
 
--- src/lib.rt
 high-half-requires : tie.Need-high-half-requires
 high-half-requires c κs = search needs
 
--- src/lib.rt
 returns-5 : tie.Need-returns-5
 unfolding firstWord
 returns-5 c = search (tests, c .high-half .ensures, c .before .total .ensures)
 
--- src/lib.rt
 total-requires-2 : tie.Need-total-requires-2
 total-requires-2 c κs = search needs
 
--- src/lib.rt
 low-half-requires : tie.Need-low-half-requires
 low-half-requires c κs = search needs
 
--- src/lib.rt
 returns-6 : tie.Need-returns-6
 unfolding firstWord
 returns-6 c = search (tests, c .low-half .ensures, c .before .total2 .ensures)
 
--- src/lib.rt
 blank-requires : tie.Need-blank-requires
 blank-requires c κs = search needs
 
--- src/lib.rt
 returns-7 : tie.Need-returns-7
 unfolding firstWord
 returns-7 c = let w = sym (c .before .blank .ensures) ∙ c .if7 .taken in search (tests, w)
 
--- src/lib.rt
 returns-8 : tie.Need-returns-8
 unfolding firstWord
 returns-8 c =

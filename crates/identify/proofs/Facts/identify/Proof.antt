@@ -1,6 +1,6 @@
 use borrow.Author.Needs.{needs}
 use native.Mathlib.Omega.{arith}
-use Prim.Native.Nat.{_≤_, _<_, _-_, _+_}
+use Prim.Native.Nat.{_≤_, _<_, _-_}
 use mathlib.Core.Path.{_≡_}
 use lib.ListN.{length, take}
 use Rattle.ground.proofs.Lists.{copy-more, copy-all}
@@ -8,10 +8,6 @@ use Rattle.identify.specs.Words.{identifyBytes}
 use Rattle.identify.proofs.Made.{identify-length, identify-at}
 use Rattle.identify.proofs.Facts.identify.Statement.{statement}
 use Rattle.identify.proofs.Facts.identify.Tie as tie
-use Rattle.identify.proofs.Facts.identify.Reads as reads
-use Rattle.identify.proofs.Facts.identify.Lts as lts
-use Rattle.ground.proofs.told.Reads as told-reads
-use Rattle.identify.proofs.Facts.byte.Reads as byte-reads
 
 abbrev Inv-loop : tie.InvT-loop
 Inv-loop self buffer₀ i₀ buffer i = (i ≤ 512) × (length buffer ≡ 512) × (take i buffer ≡ take i (identifyBytes self))
@@ -19,31 +15,24 @@ Inv-loop self buffer₀ i₀ buffer i = (i ≤ 512) × (length buffer ≡ 512) �
 abbrev μ-loop : tie.MeasureT-loop
 μ-loop self buffer₀ i₀ buffer i = 512 - i
 
--- src/lib.rt
 told-requires : tie.Need-told-requires Inv-loop μ-loop
 told-requires c κs = search needs
 
--- src/lib.rt
 loop-holds : tie.Need-loop-holds Inv-loop μ-loop
 loop-holds c = search needs
 
--- src/lib.rt
 byte-requires : tie.Need-byte-requires Inv-loop μ-loop
 byte-requires c κs = search needs
 
--- src/lib.rt
 element-write-buffer : tie.Need-element-write-buffer Inv-loop μ-loop
 element-write-buffer c = search needs
 
--- src/lib.rt
 add-i : tie.Need-add-i Inv-loop μ-loop
 add-i c = search needs
 
--- src/lib.rt
 loop-less : tie.Need-loop-less Inv-loop μ-loop
 loop-less c = search needs
 
--- src/lib.rt
 loop-again : tie.Need-loop-again Inv-loop μ-loop
 loop-again c =
     let l = c .before .before .loop in
@@ -52,7 +41,6 @@ loop-again c =
     let h : l .i < 512 = omega arith in
     (search needs, search needs, rw (c .byte .ensures, ← identify-at f (l .i) h) (copy-more (l .i) (identifyBytes f) (l .buffer) (omega arith) (omega arith) (l .inv .2)))
 
--- src/lib.rt
 returns : tie.Need-returns Inv-loop μ-loop
 returns c =
     let l = c .before .loop in

@@ -3,91 +3,67 @@ use Rattle.identify.specs.Words.{laterWord}
 use borrow.Author.Needs.{needs}
 use Rattle.identify.proofs.Facts.later_word.Statement.{statement}
 use Rattle.identify.proofs.Facts.later_word.Tie as tie
-use Rattle.identify.proofs.Facts.later_word.Reads as reads
-use Rattle.identify.proofs.Facts.later_word.Lts as lts
-use Rattle.identify.proofs.Facts.capacity.Reads as capacity-reads
-use Rattle.identify.proofs.Facts.total.Reads as total-reads
-use Rattle.identify.proofs.high_half.Reads as high-half-reads
-use Rattle.identify.proofs.low_half.Reads as low-half-reads
 
--- src/lib.rt
 returns : tie.Need-returns
 unfolding laterWord
 returns c = search tests
 
--- src/lib.rt
 returns-2 : tie.Need-returns-2
 unfolding laterWord
 returns-2 c = search tests
 
--- src/lib.rt
 returns-3 : tie.Need-returns-3
 unfolding laterWord
 returns-3 c = search tests
 
--- src/lib.rt
 returns-4 : tie.Need-returns-4
 unfolding laterWord
 returns-4 c = search tests
 
--- src/lib.rt
 returns-5 : tie.Need-returns-5
 unfolding laterWord
 returns-5 c = search tests
 
--- src/lib.rt
 capacity-requires : tie.Need-capacity-requires
 capacity-requires c κs = search needs
 
--- src/lib.rt
 low-half-requires : tie.Need-low-half-requires
 low-half-requires c κs = search needs
 
--- src/lib.rt
 returns-6 : tie.Need-returns-6
 unfolding laterWord
 returns-6 c = search (tests, c .low-half .ensures, c .before .capacity .ensures)
 
--- src/lib.rt
 capacity-requires-2 : tie.Need-capacity-requires-2
 capacity-requires-2 c κs = search needs
 
--- src/lib.rt
 high-half-requires : tie.Need-high-half-requires
 high-half-requires c κs = search needs
 
--- src/lib.rt
 returns-7 : tie.Need-returns-7
 unfolding laterWord
 returns-7 c = search (tests, c .high-half .ensures, c .before .capacity2 .ensures)
 
--- src/lib.rt
 total-requires : tie.Need-total-requires
 total-requires c κs = search needs
 
--- src/lib.rt
 low-half-requires-2 : tie.Need-low-half-requires-2
 low-half-requires-2 c κs = search needs
 
--- src/lib.rt
 returns-8 : tie.Need-returns-8
 unfolding laterWord
 returns-8 c = search (tests, c .low-half2 .ensures, c .before .total .ensures)
 
--- src/lib.rt
 total-requires-2 : tie.Need-total-requires-2
 total-requires-2 c κs = search needs
 
--- src/lib.rt
 high-half-requires-2 : tie.Need-high-half-requires-2
 high-half-requires-2 c κs = search needs
 
--- src/lib.rt
 returns-9 : tie.Need-returns-9
 unfolding laterWord
 returns-9 c = search (tests, c .high-half2 .ensures, c .before .total2 .ensures)
 
--- src/lib.rt
 returns-10 : tie.Need-returns-10
 unfolding laterWord
 returns-10 c = search tests

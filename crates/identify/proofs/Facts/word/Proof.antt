@@ -3,25 +3,17 @@ use Rattle.identify.specs.Words.{identifyWord}
 use borrow.Author.Needs.{needs}
 use Rattle.identify.proofs.Facts.word.Statement.{statement}
 use Rattle.identify.proofs.Facts.word.Tie as tie
-use Rattle.identify.proofs.Facts.word.Reads as reads
-use Rattle.identify.proofs.Facts.word.Lts as lts
-use Rattle.identify.proofs.Facts.first_word.Reads as first-word-reads
-use Rattle.identify.proofs.Facts.later_word.Reads as later-word-reads
 
--- src/lib.rt
 first-word-requires : tie.Need-first-word-requires
 first-word-requires c κs = search needs
 
--- src/lib.rt
 returns : tie.Need-returns
 unfolding identifyWord
 returns c = search (tests, c .first-word .ensures)
 
--- src/lib.rt
 later-word-requires : tie.Need-later-word-requires
 later-word-requires c κs = search needs
 
--- src/lib.rt
 returns-2 : tie.Need-returns-2
 unfolding identifyWord
 returns-2 c = search (tests, c .later-word .ensures)

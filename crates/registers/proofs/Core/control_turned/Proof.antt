@@ -2,42 +2,30 @@ use Rattle.registers.specs.Resets.{controlTurned}
 use borrow.Author.Needs.{needs}
 use Rattle.registers.proofs.Core.control_turned.Statement.{statement}
 use Rattle.registers.proofs.Core.control_turned.Tie as tie
-use Rattle.registers.proofs.Core.control_turned.Reads as reads
-use Rattle.registers.proofs.Core.control_turned.Lts as lts
-use Rattle.registers.proofs.Made.power_on.Reads as power-on-reads
-use Rattle.registers.proofs.State.entered.Reads as entered-reads
 
--- src/resets.rt
 enum-told : tie.Need-enum-told
 enum-told c = search needs
 
--- src/resets.rt
 entered-requires : tie.Need-entered-requires
 entered-requires c κs = search needs
 
--- src/resets.rt
 enum-told-2 : tie.Need-enum-told-2
 enum-told-2 c = search needs
 
--- src/resets.rt
 power-on-requires : tie.Need-power-on-requires
 power-on-requires c κs = search needs
 
--- src/resets.rt
 enum-told-3 : tie.Need-enum-told-3
 enum-told-3 c = search needs
 
--- src/resets.rt
 returns : tie.Need-returns
 unfolding controlTurned
 returns c = simp (c .before .before .before .enum-told .given .1, c .before .before .entered .ensures)
 
--- src/resets.rt
 returns-2 : tie.Need-returns-2
 unfolding controlTurned
 returns-2 c = simp (c .before .before .before .enum-told2 .given .1, c .before .power-on .ensures)
 
--- src/resets.rt
 returns-3 : tie.Need-returns-3
 unfolding controlTurned
 returns-3 c = simp (c .before .enum-told3 .given .1)

@@ -1,88 +1,64 @@
 use borrow.Author.Needs.{needs}
 use Rattle.registers.proofs.Core.register_value.Statement.{statement}
 use Rattle.registers.proofs.Core.register_value.Tie as tie
-use Rattle.registers.proofs.Core.register_value.Reads as reads
-use Rattle.registers.proofs.Core.register_value.Lts as lts
-use Rattle.registers.proofs.Phase.drive_address.Reads as drive-address-reads
-use Rattle.registers.proofs.values.head_read.Reads as head-read-reads
 
--- src/values.rt
 enum-told : tie.Need-enum-told
 enum-told c = search needs
 
--- src/values.rt
 enum-told-2 : tie.Need-enum-told-2
 enum-told-2 c = search needs
 
--- src/values.rt
 enum-told-3 : tie.Need-enum-told-3
 enum-told-3 c = search needs
 
--- src/values.rt
 enum-told-4 : tie.Need-enum-told-4
 enum-told-4 c = search needs
 
--- src/values.rt
 enum-told-5 : tie.Need-enum-told-5
 enum-told-5 c = search needs
 
--- src/values.rt
 enum-told-6 : tie.Need-enum-told-6
 enum-told-6 c = search needs
 
--- src/values.rt
 head-read-requires : tie.Need-head-read-requires
 head-read-requires c κs = search needs
 
--- src/values.rt
 enum-told-7 : tie.Need-enum-told-7
 enum-told-7 c = search needs
 
--- src/values.rt
 enum-told-8 : tie.Need-enum-told-8
 enum-told-8 c = search needs
 
--- src/values.rt
 enum-told-9 : tie.Need-enum-told-9
 enum-told-9 c = search needs
 
--- src/values.rt
 drive-address-requires : tie.Need-drive-address-requires
 drive-address-requires c κs = search needs
 
--- src/values.rt
 returns : tie.Need-returns
 returns c = simp (c .enum-told .given .1)
 
--- src/values.rt
 returns-2 : tie.Need-returns-2
 returns-2 c = simp (c .enum-told2 .given .1)
 
--- src/values.rt
 returns-3 : tie.Need-returns-3
 returns-3 c = simp (c .enum-told3 .given .1)
 
--- src/values.rt
 returns-4 : tie.Need-returns-4
 returns-4 c = simp (c .enum-told4 .given .1)
 
--- src/values.rt
 returns-5 : tie.Need-returns-5
 returns-5 c = simp (c .enum-told5 .given .1)
 
--- src/values.rt
 returns-6 : tie.Need-returns-6
 returns-6 c = simp (c .before .enum-told6 .given .1, c .head-read .ensures)
 
--- src/values.rt
 returns-7 : tie.Need-returns-7
 returns-7 c = simp (c .enum-told7 .given .1)
 
--- src/values.rt
 returns-8 : tie.Need-returns-8
 returns-8 c = simp (c .enum-told8 .given .1)
 
--- src/values.rt
 returns-9 : tie.Need-returns-9
 returns-9 c = simp (c .before .enum-told9 .given .1, c .drive-address .ensures)
 

@@ -2,20 +2,14 @@ use Rattle.registers.specs.Values.{valueRead}
 use borrow.Author.Needs.{needs}
 use Rattle.registers.proofs.Core.value_read.Statement.{statement}
 use Rattle.registers.proofs.Core.value_read.Tie as tie
-use Rattle.registers.proofs.Core.value_read.Reads as reads
-use Rattle.registers.proofs.Core.value_read.Lts as lts
-use Rattle.registers.proofs.Core.register_value.Reads as register-value-reads
 
--- src/values.rt
 returns : tie.Need-returns
 unfolding valueRead
 returns c = simp (c .if1 .taken)
 
--- src/values.rt
 register-value-requires : tie.Need-register-value-requires
 register-value-requires c κs = search needs
 
--- src/values.rt
 returns-2 : tie.Need-returns-2
 unfolding valueRead
 returns-2 c = simp (c .before .if1 .left, c .register-value .ensures)

@@ -1,43 +1,26 @@
 use Rattle.ground.proofs.Picks.{no, yes}
-use mathlib.Core.Path.{_≡_, sym, _∙_}
+use mathlib.Core.Path.{sym, _∙_}
 use Rattle.ground.specs.Choice.{every}
 use Rattle.registers.specs.WellMade.{wellMade}
 use borrow.Author.Needs.{needs}
 use Rattle.registers.proofs.Core.well_made.Statement.{statement}
 use Rattle.registers.proofs.Core.well_made.Tie as tie
-use Rattle.registers.proofs.Core.well_made.Reads as reads
-use Rattle.registers.proofs.Core.well_made.Lts as lts
-use Rattle.geometry.proofs.Geometry.current_for.Reads as current-for-reads
-use Rattle.geometry.proofs.Geometry.fits.Reads as fits-reads
-use Rattle.geometry.proofs.Geometry.total.Reads as total-reads
-use Rattle.registers.proofs.Phase.hold_fits.Reads as hold-fits-reads
-use Rattle.registers.proofs.Phase.words_fit.Reads as words-fit-reads
-use Rattle.registers.proofs.State.held_in.Reads as held-in-reads
-use Rattle.registers.proofs.State.run_fits.Reads as run-fits-reads
-use Rattle.registers.proofs.index_fits.Reads as index-fits-reads
-use Rattle.registers.proofs.sreset_fits.Reads as sreset-fits-reads
-use Rattle.registers.proofs.status_fits.Reads as status-fits-reads
 
--- src/lib.rt
 fits-requires : tie.Need-fits-requires
 fits-requires c κs = search needs
 
--- src/lib.rt
 returns : tie.Need-returns
 unfolding wellMade every
 returns c =
     let w1 = sym (c .before .fits2 .ensures) ∙ no _ (c .if1 .taken) in
     simp (w1)
 
--- src/lib.rt
 total-requires : tie.Need-total-requires
 total-requires c κs = search needs
 
--- src/lib.rt
 current-for-requires : tie.Need-current-for-requires
 current-for-requires c κs = search needs
 
--- src/lib.rt
 returns-2 : tie.Need-returns-2
 unfolding wellMade every
 returns-2 c =
@@ -45,11 +28,9 @@ returns-2 c =
     let w2 = sym (simp (c .before .before .total .ensures) at (c .before .current-for .ensures)) ∙ no _ (c .if2 .taken) in
     simp (w1, w2)
 
--- src/lib.rt
 index-fits-requires : tie.Need-index-fits-requires
 index-fits-requires c κs = search needs
 
--- src/lib.rt
 returns-3 : tie.Need-returns-3
 unfolding wellMade every
 returns-3 c =
@@ -58,11 +39,9 @@ returns-3 c =
     let w3 = sym (c .before .index-fits .ensures) ∙ no _ (c .if3 .taken) in
     simp (w1, w2, w3)
 
--- src/lib.rt
 sreset-fits-requires : tie.Need-sreset-fits-requires
 sreset-fits-requires c κs = search needs
 
--- src/lib.rt
 returns-4 : tie.Need-returns-4
 unfolding wellMade every
 returns-4 c =
@@ -72,11 +51,9 @@ returns-4 c =
     let w4 = sym (c .before .sreset-fits .ensures) ∙ no _ (c .if4 .taken) in
     simp (w1, w2, w3, w4)
 
--- src/lib.rt
 status-fits-requires : tie.Need-status-fits-requires
 status-fits-requires c κs = search needs
 
--- src/lib.rt
 returns-5 : tie.Need-returns-5
 unfolding wellMade every
 returns-5 c =
@@ -87,15 +64,12 @@ returns-5 c =
     let w5 = sym (c .before .status-fits .ensures) ∙ no _ (c .if5 .taken) in
     simp (w1, w2, w3, w4, w5)
 
--- src/lib.rt
 held-in-requires : tie.Need-held-in-requires
 held-in-requires c κs = search needs
 
--- src/lib.rt
 hold-fits-requires : tie.Need-hold-fits-requires
 hold-fits-requires c κs = search needs
 
--- src/lib.rt
 returns-6 : tie.Need-returns-6
 unfolding wellMade every
 returns-6 c =
@@ -107,11 +81,9 @@ returns-6 c =
     let w6 = sym (simp (c .before .before .held-in .ensures) at (c .before .hold-fits .ensures)) ∙ no _ (c .if6 .taken) in
     simp (w1, w2, w3, w4, w5, w6)
 
--- src/lib.rt
 words-fit-requires : tie.Need-words-fit-requires
 words-fit-requires c κs = search needs
 
--- src/lib.rt
 returns-7 : tie.Need-returns-7
 unfolding wellMade every
 returns-7 c =
@@ -124,11 +96,9 @@ returns-7 c =
     let w7 = sym (c .before .words-fit .ensures) ∙ no _ (c .if7 .taken) in
     simp (w1, w2, w3, w4, w5, w6, w7)
 
--- src/lib.rt
 run-fits-requires : tie.Need-run-fits-requires
 run-fits-requires c κs = search needs
 
--- src/lib.rt
 returns-8 : tie.Need-returns-8
 unfolding wellMade every
 returns-8 c =
@@ -142,7 +112,6 @@ returns-8 c =
     let w8 = sym (c .before .run-fits .ensures) ∙ no _ (c .if8 .taken) in
     simp (w1, w2, w3, w4, w5, w6, w7, w8)
 
--- src/lib.rt
 returns-9 : tie.Need-returns-9
 unfolding wellMade every
 returns-9 c =

@@ -1,20 +1,13 @@
 use borrow.Author.Needs.{needs}
 use Rattle.registers.proofs.Core.write_option.Statement.{statement}
 use Rattle.registers.proofs.Core.write_option.Tie as tie
-use Rattle.registers.proofs.Core.write_option.Reads as reads
-use Rattle.registers.proofs.Core.write_option.Lts as lts
-use Rattle.registers.proofs.Core.option_turned.Reads as option-turned-reads
-use Rattle.registers.proofs.resets.turn_of.Reads as turn-of-reads
 
--- src/resets.rt
 turn-of-requires : tie.Need-turn-of-requires
 turn-of-requires c κs = search needs
 
--- src/resets.rt
 option-turned-requires : tie.Need-option-turned-requires
 option-turned-requires c κs = search needs
 
--- src/resets.rt
 returns : tie.Need-returns
 returns c = simp (c .before .before .turn-of .ensures) at (c .option-turned .ensures)
 

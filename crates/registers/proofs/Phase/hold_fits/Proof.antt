@@ -2,32 +2,24 @@ use Rattle.registers.specs.WellMade.{holdFits}
 use borrow.Author.Needs.{needs}
 use Rattle.registers.proofs.Phase.hold_fits.Statement.{statement}
 use Rattle.registers.proofs.Phase.hold_fits.Tie as tie
-use Rattle.registers.proofs.Phase.hold_fits.Reads as reads
-use Rattle.registers.proofs.Phase.hold_fits.Lts as lts
 
--- src/lib.rt
 enum-told : tie.Need-enum-told
 enum-told c = search needs
 
--- src/lib.rt
 enum-told-2 : tie.Need-enum-told-2
 enum-told-2 c = search needs
 
--- src/lib.rt
 enum-told-3 : tie.Need-enum-told-3
 enum-told-3 c = search needs
 
--- src/lib.rt
 returns : tie.Need-returns
 unfolding holdFits
 returns c = simp (c .enum-told .given .1)
 
--- src/lib.rt
 returns-2 : tie.Need-returns-2
 unfolding holdFits
 returns-2 c = simp (c .enum-told2 .given .1)
 
--- src/lib.rt
 returns-3 : tie.Need-returns-3
 unfolding holdFits
 returns-3 c = simp (c .enum-told3 .given .1)

@@ -2,32 +2,24 @@ use Rattle.registers.specs.WellMade.{wordsFit}
 use borrow.Author.Needs.{needs}
 use Rattle.registers.proofs.Phase.words_fit.Statement.{statement}
 use Rattle.registers.proofs.Phase.words_fit.Tie as tie
-use Rattle.registers.proofs.Phase.words_fit.Reads as reads
-use Rattle.registers.proofs.Phase.words_fit.Lts as lts
 
--- src/lib.rt
 enum-told : tie.Need-enum-told
 enum-told c = search needs
 
--- src/lib.rt
 enum-known-self : tie.Need-enum-known-self
 enum-known-self c = search needs
 
--- src/lib.rt
 enum-known-self-2 : tie.Need-enum-known-self-2
 enum-known-self-2 c = search needs
 
--- src/lib.rt
 returns : tie.Need-returns
 unfolding wordsFit
 returns c = simp (c .enum-told .given .1)
 
--- src/lib.rt
 returns-2 : tie.Need-returns-2
 unfolding wordsFit
 returns-2 c = simp (c .before .before .self .given .1)
 
--- src/lib.rt
 returns-3 : tie.Need-returns-3
 unfolding wordsFit
 returns-3 c = simp (c .before .before .self2 .given .1)

@@ -2,86 +2,66 @@ use Rattle.registers.specs.Values.{afterRead}
 use borrow.Author.Needs.{needs}
 use Rattle.registers.proofs.State.after_read.Statement.{statement}
 use Rattle.registers.proofs.State.after_read.Tie as tie
-use Rattle.registers.proofs.State.after_read.Reads as reads
-use Rattle.registers.proofs.State.after_read.Lts as lts
 
--- src/values.rt
 enum-told : tie.Need-enum-told
 enum-told c = search needs
 
--- src/values.rt
 enum-told-2 : tie.Need-enum-told-2
 enum-told-2 c = search needs
 
--- src/values.rt
 enum-told-3 : tie.Need-enum-told-3
 enum-told-3 c = search needs
 
--- src/values.rt
 enum-told-4 : tie.Need-enum-told-4
 enum-told-4 c = search needs
 
--- src/values.rt
 enum-told-5 : tie.Need-enum-told-5
 enum-told-5 c = search needs
 
--- src/values.rt
 enum-told-6 : tie.Need-enum-told-6
 enum-told-6 c = search needs
 
--- src/values.rt
 enum-told-7 : tie.Need-enum-told-7
 enum-told-7 c = search needs
 
--- src/values.rt
 enum-told-8 : tie.Need-enum-told-8
 enum-told-8 c = search needs
 
--- src/values.rt
 enum-told-9 : tie.Need-enum-told-9
 enum-told-9 c = search needs
 
--- src/values.rt
 returns : tie.Need-returns
 unfolding afterRead
 returns c = simp (c .enum-told .given .1)
 
--- src/values.rt
 returns-2 : tie.Need-returns-2
 unfolding afterRead
 returns-2 c = simp (c .enum-told2 .given .1)
 
--- src/values.rt
 returns-3 : tie.Need-returns-3
 unfolding afterRead
 returns-3 c = simp (c .enum-told3 .given .1)
 
--- src/values.rt
 returns-4 : tie.Need-returns-4
 unfolding afterRead
 returns-4 c = simp (c .enum-told4 .given .1)
 
--- src/values.rt
 returns-5 : tie.Need-returns-5
 unfolding afterRead
 returns-5 c = simp (c .enum-told5 .given .1)
 
--- src/values.rt
 returns-6 : tie.Need-returns-6
 unfolding afterRead
 returns-6 c = simp (c .enum-told6 .given .1)
 
--- src/values.rt
 returns-7 : tie.Need-returns-7
 unfolding afterRead
 returns-7 c = simp (c .enum-told7 .given .1)
 
--- src/values.rt
 returns-8 : tie.Need-returns-8
 unfolding afterRead
 returns-8 c = simp (c .enum-told8 .given .1)
 
--- src/values.rt
 returns-9 : tie.Need-returns-9
 unfolding afterRead
 returns-9 c = simp (c .enum-told9 .given .1)

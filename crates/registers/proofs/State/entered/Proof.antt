@@ -1,15 +1,10 @@
 use borrow.Author.Needs.{needs}
 use Rattle.registers.proofs.State.entered.Statement.{statement}
 use Rattle.registers.proofs.State.entered.Tie as tie
-use Rattle.registers.proofs.State.entered.Reads as reads
-use Rattle.registers.proofs.State.entered.Lts as lts
-use Rattle.registers.proofs.Phase.rest_status.Reads as rest-status-reads
 
--- src/resets.rt
 rest-status-requires : tie.Need-rest-status-requires
 rest-status-requires c κs = search needs
 
--- src/resets.rt
 returns : tie.Need-returns
 returns c = simp (c .before .rest-status .ensures)
 

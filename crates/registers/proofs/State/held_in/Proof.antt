@@ -2,15 +2,11 @@ use Rattle.ground.proofs.Tests.{tests}
 use Rattle.registers.specs.WellMade.{heldIn}
 use Rattle.registers.proofs.State.held_in.Statement.{statement}
 use Rattle.registers.proofs.State.held_in.Tie as tie
-use Rattle.registers.proofs.State.held_in.Reads as reads
-use Rattle.registers.proofs.State.held_in.Lts as lts
 
--- src/lib.rt
 returns : tie.Need-returns
 unfolding heldIn
 returns c = search tests
 
--- src/lib.rt
 returns-2 : tie.Need-returns-2
 unfolding heldIn
 returns-2 c = search tests

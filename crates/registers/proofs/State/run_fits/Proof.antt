@@ -2,41 +2,30 @@ use Rattle.registers.specs.WellMade.{runFits}
 use borrow.Author.Needs.{needs}
 use Rattle.registers.proofs.State.run_fits.Statement.{statement}
 use Rattle.registers.proofs.State.run_fits.Tie as tie
-use Rattle.registers.proofs.State.run_fits.Reads as reads
-use Rattle.registers.proofs.State.run_fits.Lts as lts
-use Rattle.registers.proofs.State.load_fits.Reads as load-fits-reads
 
--- src/lib.rt
 enum-told : tie.Need-enum-told
 enum-told c = search needs
 
--- src/lib.rt
 enum-known-phase : tie.Need-enum-known-phase
 enum-known-phase c = search needs
 
--- src/lib.rt
 load-fits-requires : tie.Need-load-fits-requires
 load-fits-requires c κs = search needs
 
--- src/lib.rt
 enum-known-phase-2 : tie.Need-enum-known-phase-2
 enum-known-phase-2 c = search needs
 
--- src/lib.rt
 load-fits-requires-2 : tie.Need-load-fits-requires-2
 load-fits-requires-2 c κs = search needs
 
--- src/lib.rt
 returns : tie.Need-returns
 unfolding runFits
 returns c = simp (c .enum-told .given .1)
 
--- src/lib.rt
 returns-2 : tie.Need-returns-2
 unfolding runFits
 returns-2 c = simp (c .before .before .phase .given .1, c .load-fits .ensures)
 
--- src/lib.rt
 returns-3 : tie.Need-returns-3
 unfolding runFits
 returns-3 c = simp (c .before .before .phase2 .given .1, c .load-fits2 .ensures)

@@ -1,44 +1,34 @@
 use Rattle.ground.proofs.Picks.{no, yes}
-use mathlib.Core.Path.{_≡_, sym, _∙_}
-use borrow.Author.Tests.{eq-eqb, ne-eqb, lt-ltb, le-ltb, le-leb, lt-leb}
+use mathlib.Core.Path.{sym, _∙_}
+use borrow.Author.Tests.{eq-eqb, ne-eqb, le-leb, lt-leb}
 use Rattle.ground.specs.Choice.{every}
 use Rattle.registers.specs.WellMade.{sectorsFit}
 use borrow.Author.Needs.{needs}
 use Rattle.registers.proofs.State.sectors_fit.Statement.{statement}
 use Rattle.registers.proofs.State.sectors_fit.Tie as tie
-use Rattle.registers.proofs.State.sectors_fit.Reads as reads
-use Rattle.registers.proofs.State.sectors_fit.Lts as lts
-use Rattle.registers.proofs.State.found.Reads as found-reads
 
--- src/lib.rt
 found-requires : tie.Need-found-requires
 found-requires c κs = search needs
 
--- src/lib.rt
 returns : tie.Need-returns
 unfolding sectorsFit every
 returns c = let w = sym (c .before .found .ensures) ∙ no _ (c .if1 .taken) in simp w
 
--- src/lib.rt
 returns-2 : tie.Need-returns-2
 unfolding sectorsFit every
 returns-2 c = let w = sym (c .before .before .found .ensures) ∙ yes _ (c .before .if1 .left) in simp (w, lt-leb _ _ (c .if2 .taken))
 
--- src/lib.rt
 returns-3 : tie.Need-returns-3
 unfolding sectorsFit every
 returns-3 c = let w = sym (c .before .before .before .found .ensures) ∙ yes _ (c .before .before .if1 .left) in simp (w, le-leb _ _ (c .before .if2 .left), lt-leb _ _ (c .if3 .taken))
 
--- src/lib.rt
 cast-count : tie.Need-cast-count
 cast-count c = search needs
 
--- src/lib.rt
 returns-4 : tie.Need-returns-4
 unfolding sectorsFit every
 returns-4 c = let w = sym (c .before .before .before .before .before .before .found .ensures) ∙ yes _ (c .before .before .before .before .before .if1 .left) in simp (w, le-leb _ _ (c .before .before .before .before .if2 .left), le-leb _ _ (c .before .before .before .if3 .left), ne-eqb _ _ (c .if4 .taken))
 
--- src/lib.rt
 returns-5 : tie.Need-returns-5
 unfolding sectorsFit every
 returns-5 c = let w = sym (c .before .before .before .before .before .before .found .ensures) ∙ yes _ (c .before .before .before .before .before .if1 .left) in simp (w, le-leb _ _ (c .before .before .before .before .if2 .left), le-leb _ _ (c .before .before .before .if3 .left), eq-eqb _ _ (c .if4 .left))

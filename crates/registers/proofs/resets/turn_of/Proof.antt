@@ -1,25 +1,19 @@
 use Rattle.registers.specs.Resets.{turnOf}
 use Rattle.registers.proofs.resets.turn_of.Statement.{statement}
 use Rattle.registers.proofs.resets.turn_of.Tie as tie
-use Rattle.registers.proofs.resets.turn_of.Reads as reads
-use Rattle.registers.proofs.resets.turn_of.Lts as lts
 
--- src/resets.rt
 returns : tie.Need-returns
 unfolding turnOf
 returns c = simp (c .if2 .taken, c .before .if1 .taken)
 
--- src/resets.rt
 returns-2 : tie.Need-returns-2
 unfolding turnOf
 returns-2 c = simp (c .if2 .left, c .before .if1 .taken)
 
--- src/resets.rt
 returns-3 : tie.Need-returns-3
 unfolding turnOf
 returns-3 c = simp (c .if3 .taken, c .before .if1 .left)
 
--- src/resets.rt
 returns-4 : tie.Need-returns-4
 unfolding turnOf
 returns-4 c = simp (c .if3 .left, c .before .if1 .left)

@@ -1,14 +1,10 @@
 use Rattle.ground.proofs.Tests.{tests}
 use Rattle.registers.proofs.values.drive_bits.Statement.{statement}
 use Rattle.registers.proofs.values.drive_bits.Tie as tie
-use Rattle.registers.proofs.values.drive_bits.Reads as reads
-use Rattle.registers.proofs.values.drive_bits.Lts as lts
 
--- src/values.rt
 returns : tie.Need-returns
 returns c = search tests
 
--- src/values.rt
 returns-2 : tie.Need-returns-2
 returns-2 c = search tests
 

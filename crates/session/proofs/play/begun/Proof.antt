@@ -1,85 +1,61 @@
 use Prim.Native.Nat.{_*_}
 use Rattle.geometry.specs.Limits.{capacityOf}
 use Rattle.session.specs.Play.{geometryOf, begun}
-use mathlib.Core.Path.{_≡_, sym, ap, _∙_}
-use borrow.Author.Tests.{eq-eqb, ne-eqb, lt-ltb, le-ltb, le-leb, lt-leb}
+use mathlib.Core.Path.{sym}
+use borrow.Author.Tests.{lt-ltb, le-ltb}
 use native.Mathlib.Omega.{arith}
 use lib.Seq.{length-take-le}
 use Rattle.session.proofs.Plays.{zero-part, zero-length}
 use borrow.Author.Needs.{needs}
 use Rattle.session.proofs.play.begun.Statement.{statement}
 use Rattle.session.proofs.play.begun.Tie as tie
-use Rattle.session.proofs.play.begun.Reads as reads
-use Rattle.session.proofs.play.begun.Lts as lts
-use Rattle.geometry.proofs.Geometry.capacity.Reads as capacity-reads
-use Rattle.session.proofs.play.no_tuples.Reads as no-tuples-reads
-use Rattle.session.proofs.play.opened_on.Reads as opened-on-reads
-use Rattle.session.proofs.play.unopened.Reads as unopened-reads
-use Rattle.session.proofs.play.zero_marks.Reads as zero-marks-reads
-use Rattle.session.proofs.play.zero_store.Reads as zero-store-reads
 
--- src/play.rt
 capacity-requires : tie.Need-capacity-requires
 capacity-requires c κs = search needs
 
--- src/play.rt
 unopened-requires : tie.Need-unopened-requires
 unopened-requires c κs = search needs
 
--- src/play.rt
 same-length : tie.Need-same-length
 same-length c = search needs
 
--- src/play.rt
 returns : tie.Need-returns
 unfolding begun
 returns c = simp (lt-ltb _ _ (rw (c .before .before .before .before .before .capacity .ensures) at (c .before .before .before .before .if1 .taken))) (c .before .before .unopened .ensures)
 
--- src/play.rt
 mul-size : tie.Need-mul-size
 mul-size c = search needs
 
--- src/play.rt
 zero-store-requires : tie.Need-zero-store-requires
 zero-store-requires c κs = search needs
 
--- src/play.rt
 zero-marks-requires : tie.Need-zero-marks-requires
 zero-marks-requires c κs = search needs
 
--- src/play.rt
 no-tuples-requires : tie.Need-no-tuples-requires
 no-tuples-requires c κs = search needs
 
--- src/play.rt
 slice-aggregate-opened-on : tie.Need-slice-aggregate-opened-on
 slice-aggregate-opened-on c = search needs
 
--- src/play.rt
 array-borrow-prefix-store : tie.Need-array-borrow-prefix-store
 array-borrow-prefix-store c = search needs
 
--- src/play.rt
 slice-aggregate-opened-on-2 : tie.Need-slice-aggregate-opened-on-2
 slice-aggregate-opened-on-2 c = sym (length-take-le _ _ (rw (c .before .before .before .before .zero-store .ensures, zero-length) (omega arith)))
 
--- src/play.rt
 array-borrow-prefix-marks : tie.Need-array-borrow-prefix-marks
 array-borrow-prefix-marks c = search needs
 
--- src/play.rt
 slice-aggregate-opened-on-3 : tie.Need-slice-aggregate-opened-on-3
 slice-aggregate-opened-on-3 c = sym (length-take-le _ _ (rw (c .before .before .before .before .zero-marks .ensures, zero-length) (omega arith)))
 
--- src/play.rt
 opened-on-requires : tie.Need-opened-on-requires
 opened-on-requires c κs = search needs
 
--- src/play.rt
 same-length-2 : tie.Need-same-length-2
 same-length-2 c = search needs
 
--- src/play.rt
 returns-2 : tie.Need-returns-2
 unfolding begun
 returns-2 c =

@@ -2,10 +2,7 @@ use mathlib.Core.Path.{refl}
 use Rattle.session.specs.Play.{noTuples}
 use Rattle.session.proofs.play.no_tuples.Statement.{statement}
 use Rattle.session.proofs.play.no_tuples.Tie as tie
-use Rattle.session.proofs.play.no_tuples.Reads as reads
-use Rattle.session.proofs.play.no_tuples.Lts as lts
 
--- src/play.rt
 returns : tie.Need-returns
 unfolding noTuples
 returns c = refl

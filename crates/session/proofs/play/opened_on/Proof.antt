@@ -1,4 +1,4 @@
-use mathlib.Core.Path.{_≡_, sym, ap, _∙_}
+use mathlib.Core.Path.{sym, ap, _∙_}
 use Rattle.answers.specs.declared.Outcome.{Outcome}
 use Rattle.card.specs.declared.Answer.{Answer}
 use Rattle.text.specs.Output.{output}
@@ -7,45 +7,31 @@ use Rattle.session.specs.Play.{opensAs, openedOn, printedAt}
 use borrow.Author.Needs.{needs}
 use Rattle.session.proofs.play.opened_on.Statement.{statement}
 use Rattle.session.proofs.play.opened_on.Tie as tie
-use Rattle.session.proofs.play.opened_on.Reads as reads
-use Rattle.session.proofs.play.opened_on.Lts as lts
-use Rattle.card.proofs.Card.open.Reads as open-reads
-use Rattle.session.proofs.play.unopened.Reads as unopened-reads
-use Rattle.session.proofs.run.run_from.Reads as run-from-reads
 
--- src/play.rt
 open-requires : tie.Need-open-requires
 open-requires c κs = search needs
 
--- src/play.rt
 enum-told : tie.Need-enum-told
 enum-told c = search needs
 
--- src/play.rt
 run-from-requires : tie.Need-run-from-requires
 run-from-requires c κs = search needs
 
--- src/play.rt
 enum-known-outcome : tie.Need-enum-known-outcome
 enum-known-outcome c = search needs
 
--- src/play.rt
 unopened-requires : tie.Need-unopened-requires
 unopened-requires c κs = search needs
 
--- src/play.rt
 same-length : tie.Need-same-length
 same-length c = search needs
 
--- src/play.rt
 same-length-2 : tie.Need-same-length-2
 same-length-2 c = search needs
 
--- src/play.rt
 same-length-3 : tie.Need-same-length-3
 same-length-3 c = search needs
 
--- src/play.rt
 returns : tie.Need-returns
 unfolding openedOn
 returns c =
@@ -55,19 +41,15 @@ returns c =
     ∙ ap (λ (x : Outcome). printedAt o (opensAs x (c .before .before .before .before .before .before .before .before .before .before .before .before .before .«open» .result .card) (a .file .now) (a .store .now) (a .marks .now) (a .tuples .now))) (sym (c .before .before .before .before .before .before .before .before .before .before .enum-told .given .1))
     ∙ ap (λ (x : Answer). printedAt o (opensAs (x .outcome) (x .card) (a .file .now) (a .store .now) (a .marks .now) (a .tuples .now))) (c .before .before .before .before .before .before .before .before .before .before .before .before .before .«open» .ensures .0)
 
--- src/play.rt
 same-length-4 : tie.Need-same-length-4
 same-length-4 c = search needs
 
--- src/play.rt
 same-length-5 : tie.Need-same-length-5
 same-length-5 c = search needs
 
--- src/play.rt
 same-length-6 : tie.Need-same-length-6
 same-length-6 c = search needs
 
--- src/play.rt
 returns-2 : tie.Need-returns-2
 unfolding openedOn
 returns-2 c =

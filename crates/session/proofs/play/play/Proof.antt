@@ -1,28 +1,20 @@
 use Rattle.session.proofs.Plays.{after-header, text-counts}
-use mathlib.Core.Path.{_≡_, sym, ap, _∙_}
+use mathlib.Core.Path.{ap, _∙_}
 use Rattle.text.specs.Output.{Output}
 use Rattle.session.specs.Play.{sessionOf, printedAt}
 use borrow.Author.Needs.{needs}
 use Rattle.session.proofs.play.play.Statement.{statement}
 use Rattle.session.proofs.play.play.Tie as tie
-use Rattle.session.proofs.play.play.Reads as reads
-use Rattle.session.proofs.play.play.Lts as lts
-use Rattle.session.proofs.play.session.Reads as session-reads
-use Rattle.text.proofs.put_header.Reads as put-header-reads
 
--- src/play.rt
 put-header-requires : tie.Need-put-header-requires
 put-header-requires c κs = search needs
 
--- src/play.rt
 session-requires : tie.Need-session-requires
 session-requires c κs = search needs
 
--- src/play.rt
 same-length : tie.Need-same-length
 same-length c = search needs
 
--- src/play.rt
 returns : tie.Need-returns
 returns c =
     let a = c .before .before .before .before .before .before .before .before .before .before .args in

@@ -1,81 +1,59 @@
-use mathlib.Core.Path.{_≡_, sym, ap, _∙_}
-use borrow.Author.Tests.{eq-eqb, ne-eqb, lt-ltb, le-ltb, le-leb, lt-leb}
-use Rattle.session.specs.Record.{firstOf}
+use mathlib.Core.Path.{sym, ap, _∙_}
+use borrow.Author.Tests.{eq-eqb, ne-eqb, lt-ltb, le-ltb}
+use Rattle.records.specs.Record.{firstOf}
 use Rattle.session.specs.Play.{sessionOf}
 use borrow.Author.Needs.{needs}
 use Rattle.session.proofs.play.session.Statement.{statement}
 use Rattle.session.proofs.play.session.Tie as tie
-use Rattle.session.proofs.play.session.Reads as reads
-use Rattle.session.proofs.play.session.Lts as lts
-use Rattle.session.proofs.Record.first.Reads as first-reads
-use Rattle.session.proofs.play.bad.Reads as bad-reads
-use Rattle.session.proofs.play.begun.Reads as begun-reads
-use Rattle.session.proofs.records.first_record.Reads as first-record-reads
 
--- src/play.rt
 bad-requires : tie.Need-bad-requires
 bad-requires c κs = search needs
 
--- src/play.rt
 same-length : tie.Need-same-length
 same-length c = search needs
 
--- src/play.rt
 returns : tie.Need-returns
 unfolding sessionOf
 returns c = simp (lt-ltb _ _ (c .before .before .before .before .if1 .taken)) (c .before .before .bad .ensures)
 
--- src/play.rt
 bad-requires-2 : tie.Need-bad-requires-2
 bad-requires-2 c κs = search needs
 
--- src/play.rt
 same-length-2 : tie.Need-same-length-2
 same-length-2 c = search needs
 
--- src/play.rt
 returns-2 : tie.Need-returns-2
 unfolding sessionOf
 returns-2 c = simp (le-ltb _ _ (c .before .before .before .before .before .if1 .left), eq-eqb _ _ (c .before .before .before .before .if2 .taken)) (c .before .before .bad2 .ensures)
 
--- src/play.rt
 first-record-requires : tie.Need-first-record-requires
 first-record-requires c κs = search needs
 
--- src/play.rt
 first-requires : tie.Need-first-requires
 first-requires c κs = search needs
 
--- src/play.rt
 enum-known-sizes : tie.Need-enum-known-sizes
 enum-known-sizes c = search needs
 
--- src/play.rt
 begun-requires : tie.Need-begun-requires
 begun-requires c κs = search needs
 
--- src/play.rt
 enum-known-why : tie.Need-enum-known-why
 enum-known-why c = search needs
 
--- src/play.rt
 bad-requires-3 : tie.Need-bad-requires-3
 bad-requires-3 c κs = search needs
 
--- src/play.rt
 same-length-3 : tie.Need-same-length-3
 same-length-3 c = search needs
 
--- src/play.rt
 returns-3 : tie.Need-returns-3
 unfolding sessionOf
 returns-3 c = let e = sym (ap firstOf (c .before .before .before .before .before .before .before .before .first-record .ensures)) ∙ sym (c .before .before .before .before .before .before .before .first .ensures) ∙ c .before .before .before .before .before .sizes .given .1 in simp (le-ltb _ _ (c .before .before .before .before .before .before .before .before .before .before .if1 .left), ne-eqb _ _ (c .before .before .before .before .before .before .before .before .before .if2 .left), e) (c .before .before .begun .ensures)
 
--- src/play.rt
 same-length-4 : tie.Need-same-length-4
 same-length-4 c = search needs
 
--- src/play.rt
 returns-4 : tie.Need-returns-4
 unfolding sessionOf
 returns-4 c = let e = sym (ap firstOf (c .before .before .before .before .before .before .before .before .first-record .ensures)) ∙ sym (c .before .before .before .before .before .before .before .first .ensures) ∙ c .before .before .before .before .before .why .given .1 in simp (le-ltb _ _ (c .before .before .before .before .before .before .before .before .before .before .if1 .left), ne-eqb _ _ (c .before .before .before .before .before .before .before .before .before .if2 .left), e) (c .before .before .bad3 .ensures)

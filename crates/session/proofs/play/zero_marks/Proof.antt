@@ -2,10 +2,7 @@ use mathlib.Core.Path.{refl}
 use Rattle.session.specs.Play.{zeroBytes}
 use Rattle.session.proofs.play.zero_marks.Statement.{statement}
 use Rattle.session.proofs.play.zero_marks.Tie as tie
-use Rattle.session.proofs.play.zero_marks.Reads as reads
-use Rattle.session.proofs.play.zero_marks.Lts as lts
 
--- src/play.rt
 returns : tie.Need-returns
 unfolding zeroBytes
 returns c = refl

@@ -2,10 +2,7 @@ use mathlib.Core.Path.{refl}
 use Rattle.session.specs.Play.{zeroBytes}
 use Rattle.session.proofs.play.zero_store.Statement.{statement}
 use Rattle.session.proofs.play.zero_store.Tie as tie
-use Rattle.session.proofs.play.zero_store.Reads as reads
-use Rattle.session.proofs.play.zero_store.Lts as lts
 
--- src/play.rt
 returns : tie.Need-returns
 unfolding zeroBytes
 returns c = refl

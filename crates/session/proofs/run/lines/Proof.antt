@@ -5,7 +5,7 @@ use Prim.Native.Nat.{ℕ, _+_, _-_, _^_, _<_, _≤_}
 use lib.ListN.{length}
 use Rattle.registers.specs.State.{machine}
 use Rattle.session.specs.declared.Ending.the-variants.{Broken}
-use Rattle.session.specs.Record.{turnOf}
+use Rattle.records.specs.Record.{turnOf}
 use Rattle.text.specs.declared.Four.{Four}
 use Rattle.text.specs.Text.{bad}
 use Rattle.text.specs.Digits.{fourOf, fourAfter}
@@ -13,25 +13,11 @@ use Rattle.text.specs.Output.{Output, output, put}
 use Rattle.session.specs.Verdict.{verdictOf}
 use Rattle.session.specs.Run.{accessOf, wrapped, scriptFrom, resultOf, shown}
 use Rattle.text.proofs.Digits.{counts-round}
-use Rattle.session.proofs.Fits.{access-fits}
+use Rattle.records.proofs.Fits.{access-fits}
 use Rattle.session.proofs.Verdicts.{steady}
 use Rattle.session.proofs.Runs.{lines-end, lines-none, lines-stop, lines-turn}
 use Rattle.session.proofs.run.lines.Statement.{statement}
 use Rattle.session.proofs.run.lines.Tie as tie
-use Rattle.session.proofs.run.lines.Reads as reads
-use Rattle.session.proofs.run.lines.Lts as lts
-use Rattle.ground.proofs.told.Reads as told-reads
-use Rattle.session.proofs.Record.turn.Reads as turn-reads
-use Rattle.session.proofs.records.record_at.Reads as record-at-reads
-use Rattle.session.proofs.run.answer.Reads as answer-reads
-use Rattle.session.proofs.run.count_known.Reads as count-known-reads
-use Rattle.session.proofs.run.put_answer.Reads as put-answer-reads
-use Rattle.session.proofs.run.ran.Reads as ran-reads
-use Rattle.session.proofs.run.size_of.Reads as size-of-reads
-use Rattle.text.proofs.Four.next.Reads as next-reads
-use Rattle.text.proofs.Four.of.Reads as of-reads
-use Rattle.text.proofs.put_bad.Reads as put-bad-reads
-use Rattle.std.proofs.num.wrapping_add_u64.Reads as wrapping-add-u64-reads
 
 abbrev Inv-loop : tie.InvT-loop
 Inv-loop verdict part from first number tuples store₀ marks₀ out₀ start buffer₀ core₀ at₀ four₀ done₀ text₀ left₀ store marks out buffer core at four done text left =
@@ -48,76 +34,59 @@ Inv-loop verdict part from first number tuples store₀ marks₀ out₀ start bu
 abbrev μ-loop : tie.MeasureT-loop
 μ-loop verdict part from first number tuples store₀ marks₀ out₀ start buffer₀ core₀ at₀ four₀ done₀ text₀ left₀ store marks out buffer core at four done text left = left
 
--- src/run.rt
 of-requires : tie.Need-of-requires Inv-loop μ-loop
 of-requires c κs = search needs
 
--- src/run.rt
 loop-holds : tie.Need-loop-holds Inv-loop μ-loop
 loop-holds c =
     let e = c .of .ensures in
     (search needs, search needs, refl, refl, refl, c .before .before .before .before .before .before .before .before .pre, rw e (search needs), e ∙ ap (λ (f : Four). fourOf (f .number)) (sym e), rw e refl)
 
--- src/run.rt
 ran-requires : tie.Need-ran-requires Inv-loop μ-loop
 ran-requires c κs = search needs
 
--- src/run.rt
 same-length : tie.Need-same-length Inv-loop μ-loop
 same-length c = search needs
 
--- src/run.rt
 same-length-2 : tie.Need-same-length-2 Inv-loop μ-loop
 same-length-2 c = search needs
 
--- src/run.rt
 same-length-3 : tie.Need-same-length-3 Inv-loop μ-loop
 same-length-3 c = search needs
 
--- src/run.rt
 returns : tie.Need-returns Inv-loop μ-loop
 returns c =
     let l = c .before .before .before .loop in
     let a = c .before .before .before .before .before .before .before .before .before .before .before .before .args in
     rw (c .ran .ensures) (sym (lines-end (output (l .out) (l .text)) (a .first) (l .four .number) (l .done) (l .left) (l .at) (a .part .now) (a .tuples .now) (machine (l .core) (l .buffer) (l .store) (l .marks)) (c .before .if1 .taken)) ∙ l .inv .8)
 
--- src/run.rt
 record-at-requires : tie.Need-record-at-requires Inv-loop μ-loop
 record-at-requires c κs = search needs
 
--- src/run.rt
 turn-requires : tie.Need-turn-requires Inv-loop μ-loop
 turn-requires c κs = search needs
 
--- src/run.rt
 enum-known-why : tie.Need-enum-known-why Inv-loop μ-loop
 enum-known-why c = search needs
 
--- src/run.rt
 wrapping-add-u64-requires : tie.Need-wrapping-add-u64-requires Inv-loop μ-loop
 wrapping-add-u64-requires c κs = search needs
 
--- src/run.rt
 put-bad-requires : tie.Need-put-bad-requires Inv-loop μ-loop
 put-bad-requires c κs = search needs
 
--- src/run.rt
 ran-requires-2 : tie.Need-ran-requires-2 Inv-loop μ-loop
 ran-requires-2 c κs = search needs
 
--- src/run.rt
 same-length-4 : tie.Need-same-length-4 Inv-loop μ-loop
 same-length-4 c = c .before .before .before .before .before .before .before .before .before .before .before .before .before .loop .inv .2
 
--- src/run.rt
 same-length-5 : tie.Need-same-length-5 Inv-loop μ-loop
 same-length-5 c = c .before .before .before .before .before .before .before .before .before .before .before .before .before .loop .inv .3
 
--- src/run.rt
 same-length-6 : tie.Need-same-length-6 Inv-loop μ-loop
 same-length-6 c = c .before .before .before .put-bad .kept .0 ∙ c .before .before .before .before .before .before .before .before .before .before .before .before .before .loop .inv .4
 
--- src/run.rt
 returns-2 : tie.Need-returns-2 Inv-loop μ-loop
 returns-2 c =
     let l = c .before .before .before .before .before .before .before .before .before .before .before .before .before .loop in
@@ -131,54 +100,45 @@ returns-2 c =
     ∙ sym (lines-stop o (a .first) (l .four .number) (l .done) (l .left) (l .at) (a .part .now) (a .tuples .now) m (c .before .before .before .before .before .before .before .why .given .0 .0) (c .before .before .before .before .before .before .before .before .before .before .before .before .loop-test .taken) (c .before .before .before .before .before .before .before .before .before .before .before .if1 .left) e)
     ∙ l .inv .8)
 
--- src/run.rt
 enum-known-write : tie.Need-enum-known-write Inv-loop μ-loop
 enum-known-write c = search needs
 
--- src/run.rt
 told-requires : tie.Need-told-requires Inv-loop μ-loop
 told-requires c κs = search needs
 
--- src/run.rt
 count-known-requires : tie.Need-count-known-requires Inv-loop μ-loop
 count-known-requires c κs = search needs
 
--- src/run.rt
 answer-requires : tie.Need-answer-requires Inv-loop μ-loop
 answer-requires c κs = search needs
 
--- src/run.rt
 put-answer-requires : tie.Need-put-answer-requires Inv-loop μ-loop
 put-answer-requires c κs = c .before .before .before .before .before .before .before .before .before .before .before .before .before .before .before .before .before .before .before .before .loop .inv .7
 
--- src/run.rt
 next-requires : tie.Need-next-requires Inv-loop μ-loop
 next-requires c κs = search needs
 
--- src/run.rt
 size-of-requires : tie.Need-size-of-requires Inv-loop μ-loop
 size-of-requires c κs = search needs
 
--- src/run.rt
+cast-at : tie.Need-cast-at Inv-loop μ-loop
+cast-at c = search needs
+
 add-at : tie.Need-add-at Inv-loop μ-loop
 add-at c =
     let l = c .before .before .before .before .before .before .before .before .before .before .before .before .before .before .before .before .before .before .before .before .before .before .before .before .before .loop in
     let f = access-fits _ _ (c .before .before .before .before .before .before .before .before .before .before .before .before .before .before .before .before .before .before .before .before .before .before .before .before .before .before .before .before .before .before .before .before .before .before .args .part .now) (l .at) (c .before .before .before .before .before .before .before .before .before .before .before .before .before .before .before .before .before .before .before .before .before .before .before .if1 .left) (sym (ap turnOf (c .before .before .before .before .before .before .before .before .before .before .before .before .before .before .before .before .before .before .before .before .before .before .record-at .ensures)) ∙ sym (c .before .before .before .before .before .before .before .before .before .before .before .before .before .before .before .before .before .before .before .before .before .turn .ensures) ∙ c .before .before .before .before .before .before .before .before .before .before .before .before .before .before .before .before .before .before .before .write .given .1) in
-    omega (arith, f, c .size-of .ensures, l .inv .1)
+    omega (arith, f, c .size-of .ensures .0, l .inv .1)
 
--- src/run.rt
 add-done : tie.Need-add-done Inv-loop μ-loop
 add-done c = omega (arith, c .before .before .before .before .before .before .before .before .before .before .before .before .before .before .before .before .before .before .before .before .before .before .before .before .before .loop .inv .0, c .before .before .before .before .before .before .before .before .before .before .before .before .before .before .before .before .before .before .before .before .before .before .before .before .before .loop .inv .1, c .before .before .before .before .before .before .before .before .before .before .before .before .before .before .before .before .before .before .before .before .before .before .before .before .loop-test .taken)
 
--- src/run.rt
 sub-left : tie.Need-sub-left Inv-loop μ-loop
 sub-left c = omega (arith, c .before .before .before .before .before .before .before .before .before .before .before .before .before .before .before .before .before .before .before .before .before .before .before .before .before .loop .inv .0, c .before .before .before .before .before .before .before .before .before .before .before .before .before .before .before .before .before .before .before .before .before .before .before .before .before .loop .inv .1, c .before .before .before .before .before .before .before .before .before .before .before .before .before .before .before .before .before .before .before .before .before .before .before .before .loop-test .taken)
 
--- src/run.rt
 loop-less : tie.Need-loop-less Inv-loop μ-loop
 loop-less c = omega (arith, c .before .before .before .before .before .before .before .before .before .before .before .before .before .before .before .before .before .before .before .before .before .before .before .before .before .loop .inv .0, c .before .before .before .before .before .before .before .before .before .before .before .before .before .before .before .before .before .before .before .before .before .before .before .before .before .loop .inv .1, c .before .before .before .before .before .before .before .before .before .before .before .before .before .before .before .before .before .before .before .before .before .before .before .before .loop-test .taken)
 
--- src/run.rt
 loop-again : tie.Need-loop-again Inv-loop μ-loop
 loop-again c =
     let l = c .before .before .before .before .before .before .before .before .before .before .before .before .before .before .before .before .before .before .before .before .before .before .before .before .before .loop in
@@ -198,26 +158,21 @@ loop-again c =
       t .1,
       rw g (omega arith),
       g ∙ ap (λ (f : Four). fourOf (f .number)) (sym g),
-      rw (g, c .size-of .ensures) (f ∙ l .inv .8),
+      rw (g, c .size-of .ensures .0) (f ∙ l .inv .8),
     )
 
--- src/run.rt
 ran-requires-3 : tie.Need-ran-requires-3 Inv-loop μ-loop
 ran-requires-3 c κs = search needs
 
--- src/run.rt
 same-length-7 : tie.Need-same-length-7 Inv-loop μ-loop
 same-length-7 c = search needs
 
--- src/run.rt
 same-length-8 : tie.Need-same-length-8 Inv-loop μ-loop
 same-length-8 c = search needs
 
--- src/run.rt
 same-length-9 : tie.Need-same-length-9 Inv-loop μ-loop
 same-length-9 c = search needs
 
--- src/run.rt
 returns-3 : tie.Need-returns-3 Inv-loop μ-loop
 returns-3 c =
     let l = c .before .before .loop in
@@ -254,6 +209,7 @@ lines-spec =
     put-answer-requires
     next-requires
     size-of-requires
+    cast-at
     add-at
     add-done
     sub-left

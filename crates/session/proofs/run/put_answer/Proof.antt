@@ -6,56 +6,40 @@ use Rattle.text.proofs.Digits.{numeral-of}
 use borrow.Author.Needs.{needs}
 use Rattle.session.proofs.run.put_answer.Statement.{statement}
 use Rattle.session.proofs.run.put_answer.Tie as tie
-use Rattle.session.proofs.run.put_answer.Reads as reads
-use Rattle.session.proofs.run.put_answer.Lts as lts
-use Rattle.answers.proofs.Refusal.number.Reads as number-reads
-use Rattle.session.proofs.run.shown_value.Reads as shown-value-reads
-use Rattle.text.proofs.put_accepted.Reads as put-accepted-reads
-use Rattle.text.proofs.put_line.Reads as put-line-reads
 
 digits-print : (f : Four) → f ≡ fourOf (f .number) → numeral f ≡ decimal (f .number)
 digits-print f e = ap numeral e ∙ numeral-of (f .number)
 
--- src/run.rt
 enum-known-outcome : tie.Need-enum-known-outcome
 enum-known-outcome c = search needs
 
--- src/run.rt
 shown-value-requires : tie.Need-shown-value-requires
 shown-value-requires c κs = search needs
 
--- src/run.rt
 put-accepted-requires : tie.Need-put-accepted-requires
 put-accepted-requires c κs = search needs
 
--- src/run.rt
 enum-known-outcome-2 : tie.Need-enum-known-outcome-2
 enum-known-outcome-2 c = search needs
 
--- src/run.rt
 number-requires : tie.Need-number-requires
 number-requires c κs = search needs
 
--- src/run.rt
 put-line-requires : tie.Need-put-line-requires
 put-line-requires c κs = search needs
 
--- src/run.rt
 same-length : tie.Need-same-length
 same-length c = search needs
 
--- src/run.rt
 returns : tie.Need-returns
 returns c =
     let b = c .before .before .before .before .before .before .before .before .before in
     let e = digits-print (b .args .four) (b .pre) in
     simp (c .before .before .before .before .before .before .outcome .given .1) (rw (c .before .before .before .before .shown-value .ensures, e) at (c .before .before .put-accepted .ensures))
 
--- src/run.rt
 same-length-2 : tie.Need-same-length-2
 same-length-2 c = search needs
 
--- src/run.rt
 returns-2 : tie.Need-returns-2
 returns-2 c =
     let b = c .before .before .before .before .before .before .before .before .before in

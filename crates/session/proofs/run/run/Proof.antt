@@ -1,4 +1,4 @@
-use mathlib.Core.Path.{_≡_, sym, ap, _∙_}
+use mathlib.Core.Path.{ap, _∙_}
 use lib.ListN.{length}
 use Rattle.card.specs.Doors.{machineOf}
 use Rattle.text.specs.Output.{Output}
@@ -7,27 +7,19 @@ use Rattle.text.proofs.Outputs.{put-holds}
 use borrow.Author.Needs.{needs}
 use Rattle.session.proofs.run.run.Statement.{statement}
 use Rattle.session.proofs.run.run.Tie as tie
-use Rattle.session.proofs.run.run.Reads as reads
-use Rattle.session.proofs.run.run.Lts as lts
-use Rattle.session.proofs.run.run_from.Reads as run-from-reads
 
--- src/run.rt
 run-from-requires : tie.Need-run-from-requires
 run-from-requires c κs = search needs
 
--- src/run.rt
 same-length : tie.Need-same-length
 same-length c = search needs
 
--- src/run.rt
 same-length-2 : tie.Need-same-length-2
 same-length-2 c = search needs
 
--- src/run.rt
 same-length-3 : tie.Need-same-length-3
 same-length-3 c = search needs
 
--- src/run.rt
 returns : tie.Need-returns
 returns c =
     let a = c .before .before .before .before .before .before .before .before .before .before .before .before .before .before .before .args in

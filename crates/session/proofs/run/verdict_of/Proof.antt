@@ -1,39 +1,29 @@
-use mathlib.Core.Path.{_≡_, sym, ap, _∙_}
-use borrow.Author.Tests.{eq-eqb, ne-eqb, lt-ltb, le-ltb, le-leb, lt-leb}
+use mathlib.Core.Path.{sym, _∙_}
+use borrow.Author.Tests.{eq-eqb, ne-eqb}
 use Rattle.ground.proofs.Picks.{no, yes}
 use Rattle.session.specs.Verdict.{verdictOf}
 use borrow.Author.Needs.{needs}
 use Rattle.session.proofs.run.verdict_of.Statement.{statement}
 use Rattle.session.proofs.run.verdict_of.Tie as tie
-use Rattle.session.proofs.run.verdict_of.Reads as reads
-use Rattle.session.proofs.run.verdict_of.Lts as lts
-use Rattle.geometry.proofs.Geometry.total.Reads as total-reads
-use Rattle.registers.proofs.Core.well_made.Reads as well-made-reads
 
--- src/run.rt
 total-requires : tie.Need-total-requires
 total-requires c κs = search needs
 
--- src/run.rt
 cast-total : tie.Need-cast-total
 cast-total c = search needs
 
--- src/run.rt
 well-made-requires : tie.Need-well-made-requires
 well-made-requires c κs = search needs
 
--- src/run.rt
 returns : tie.Need-returns
 unfolding verdictOf
 returns c =
     let w = sym (c .before .well-made .ensures) ∙ no _ (c .if1 .taken) in
     simp (w)
 
--- src/run.rt
 mul-if2 : tie.Need-mul-if2
 mul-if2 c = search needs
 
--- src/run.rt
 returns-2 : tie.Need-returns-2
 unfolding verdictOf
 returns-2 c =
@@ -41,7 +31,6 @@ returns-2 c =
     let h2 = rw (c .before .before .before .total .ensures) at (c .if2 .taken) in
     simp (w, ne-eqb _ _ h2)
 
--- src/run.rt
 returns-3 : tie.Need-returns-3
 unfolding verdictOf
 returns-3 c =
@@ -50,7 +39,6 @@ returns-3 c =
     let h3 = rw (c .before .before .before .before .total .ensures) at (c .if3 .taken) in
     simp (w, eq-eqb _ _ h2, ne-eqb _ _ h3)
 
--- src/run.rt
 returns-4 : tie.Need-returns-4
 unfolding verdictOf
 returns-4 c =
@@ -60,7 +48,6 @@ returns-4 c =
     let h4 = c .if4 .taken in
     simp (w, eq-eqb _ _ h2, eq-eqb _ _ h3, ne-eqb _ _ h4)
 
--- src/run.rt
 returns-5 : tie.Need-returns-5
 unfolding verdictOf
 returns-5 c =

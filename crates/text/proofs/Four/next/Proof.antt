@@ -1,59 +1,45 @@
-use mathlib.Core.Path.{_≡_, ap, _∙_}
+use mathlib.Core.Path.{ap, _∙_}
 use borrow.Author.Tests.{eq-eqb, ne-eqb, lt-ltb, le-ltb}
 use Rattle.text.specs.Digits.{counted, afterFour, fourAfter}
 use borrow.Author.Needs.{needs}
 use Rattle.text.proofs.Four.next.Statement.{statement}
 use Rattle.text.proofs.Four.next.Tie as tie
-use Rattle.text.proofs.Four.next.Reads as reads
-use Rattle.text.proofs.Four.next.Lts as lts
-use Rattle.std.proofs.num.wrapping_add_u64.Reads as wrapping-add-u64-reads
 
--- src/lib.rt
 wrapping-add-u64-requires : tie.Need-wrapping-add-u64-requires
 wrapping-add-u64-requires c κs = search needs
 
--- src/lib.rt
 returns : tie.Need-returns
 unfolding fourAfter counted
 returns c = search (needs, eq-eqb, ne-eqb, lt-ltb, le-ltb) ∙ ap (afterFour (c .before .before .args .self)) (c .before .wrapping-add-u64 .ensures)
 
--- src/lib.rt
 add-self : tie.Need-add-self
 add-self c = search needs
 
--- src/lib.rt
 returns-2 : tie.Need-returns-2
 unfolding fourAfter counted
 returns-2 c = search (needs, eq-eqb, ne-eqb, lt-ltb, le-ltb) ∙ ap (afterFour (c .before .before .before .before .before .args .self)) (c .before .before .before .before .wrapping-add-u64 .ensures)
 
--- src/lib.rt
 add-self-2 : tie.Need-add-self-2
 add-self-2 c = search needs
 
--- src/lib.rt
 returns-3 : tie.Need-returns-3
 unfolding fourAfter counted
 returns-3 c = search (needs, eq-eqb, ne-eqb, lt-ltb, le-ltb) ∙ ap (afterFour (c .before .before .before .before .before .before .before .args .self)) (c .before .before .before .before .before .before .wrapping-add-u64 .ensures)
 
--- src/lib.rt
 add-self-3 : tie.Need-add-self-3
 add-self-3 c = search needs
 
--- src/lib.rt
 returns-4 : tie.Need-returns-4
 unfolding fourAfter counted
 returns-4 c = search (needs, eq-eqb, ne-eqb, lt-ltb, le-ltb) ∙ ap (afterFour (c .before .before .before .before .before .before .before .before .before .args .self)) (c .before .before .before .before .before .before .before .before .wrapping-add-u64 .ensures)
 
--- src/lib.rt
 add-self-4 : tie.Need-add-self-4
 add-self-4 c = search needs
 
--- src/lib.rt
 returns-5 : tie.Need-returns-5
 unfolding fourAfter counted
 returns-5 c = search (needs, eq-eqb, ne-eqb, lt-ltb, le-ltb) ∙ ap (afterFour (c .before .before .before .before .before .before .before .before .before .before .before .args .self)) (c .before .before .before .before .before .before .before .before .before .before .wrapping-add-u64 .ensures)
 
--- src/lib.rt
 returns-6 : tie.Need-returns-6
 unfolding fourAfter counted
 returns-6 c = search (needs, eq-eqb, ne-eqb, lt-ltb, le-ltb) ∙ ap (afterFour (c .before .before .before .before .before .before .before .before .before .before .args .self)) (c .before .before .before .before .before .before .before .before .before .wrapping-add-u64 .ensures)

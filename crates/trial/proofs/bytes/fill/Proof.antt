@@ -11,59 +11,45 @@ Inv-loop store₀ start step value₀ k₀ store value k = (k ≤ 512) × (start
 abbrev μ-loop : tie.MeasureT-loop
 μ-loop store₀ start step value₀ k₀ store value k = 512 - k
 
--- src/bytes.rt
 returns : tie.Need-returns Inv-loop μ-loop
 returns c = search needs
 
--- src/bytes.rt
 cast-start : tie.Need-cast-start Inv-loop μ-loop
 cast-start c = search needs
 
--- src/bytes.rt
 mul-start : tie.Need-mul-start Inv-loop μ-loop
 mul-start c = search needs
 
--- src/bytes.rt
 low-requires : tie.Need-low-requires Inv-loop μ-loop
 low-requires c κs = search needs
 
--- src/bytes.rt
 low-requires-2 : tie.Need-low-requires-2 Inv-loop μ-loop
 low-requires-2 c κs = search needs
 
--- src/bytes.rt
 loop-holds : tie.Need-loop-holds Inv-loop μ-loop
 loop-holds c = search needs
 
--- src/bytes.rt
 add-set : tie.Need-add-set Inv-loop μ-loop
 add-set c = search needs
 
--- src/bytes.rt
 set-requires : tie.Need-set-requires Inv-loop μ-loop
 set-requires c κs = search needs
 
--- src/bytes.rt
 wrapping-add-u8-requires : tie.Need-wrapping-add-u8-requires Inv-loop μ-loop
 wrapping-add-u8-requires c κs = search needs
 
--- src/bytes.rt
 add-k : tie.Need-add-k Inv-loop μ-loop
 add-k c = search needs
 
--- src/bytes.rt
 loop-less : tie.Need-loop-less Inv-loop μ-loop
 loop-less c = search needs
 
--- src/bytes.rt
 loop-again : tie.Need-loop-again Inv-loop μ-loop
 loop-again c = search needs
 
--- src/bytes.rt
 same-length : tie.Need-same-length Inv-loop μ-loop
 same-length c = search needs
 
--- src/bytes.rt
 returns-2 : tie.Need-returns-2 Inv-loop μ-loop
 returns-2 c = search needs
 

@@ -11,51 +11,39 @@ Inv-loop row₀ w start n k₀ row k = (k ≤ n) × (n ≤ 8) × (start ≤ 6553
 abbrev μ-loop : tie.MeasureT-loop
 μ-loop row₀ w start n k₀ row k = n - k
 
--- src/bytes.rt
 cast-start : tie.Need-cast-start Inv-loop μ-loop
 cast-start c = search needs
 
--- src/bytes.rt
 cast-at-most : tie.Need-cast-at-most Inv-loop μ-loop
 cast-at-most c = search needs
 
--- src/bytes.rt
 at-most-requires : tie.Need-at-most-requires Inv-loop μ-loop
 at-most-requires c κs = search needs
 
--- src/bytes.rt
 loop-holds : tie.Need-loop-holds Inv-loop μ-loop
 loop-holds c = search needs
 
--- src/bytes.rt
 add-set : tie.Need-add-set Inv-loop μ-loop
 add-set c = search needs
 
--- src/bytes.rt
 byte-requires : tie.Need-byte-requires Inv-loop μ-loop
 byte-requires c κs = search needs
 
--- src/bytes.rt
 set-requires : tie.Need-set-requires Inv-loop μ-loop
 set-requires c κs = search needs
 
--- src/bytes.rt
 add-k : tie.Need-add-k Inv-loop μ-loop
 add-k c = search needs
 
--- src/bytes.rt
 loop-less : tie.Need-loop-less Inv-loop μ-loop
 loop-less c = search needs
 
--- src/bytes.rt
 loop-again : tie.Need-loop-again Inv-loop μ-loop
 loop-again c = search needs
 
--- src/bytes.rt
 same-length : tie.Need-same-length Inv-loop μ-loop
 same-length c = search needs
 
--- src/bytes.rt
 returns : tie.Need-returns Inv-loop μ-loop
 returns c = search needs
 

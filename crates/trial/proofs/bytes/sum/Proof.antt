@@ -10,35 +10,27 @@ Inv-loop bytes sum₀ i₀ sum i = i ≤ length bytes
 abbrev μ-loop : tie.MeasureT-loop
 μ-loop bytes sum₀ i₀ sum i = length bytes - i
 
--- src/rows.rt
 loop-holds : tie.Need-loop-holds Inv-loop μ-loop
 loop-holds c = search needs
 
--- src/rows.rt
 shared-slice-read-mixed : tie.Need-shared-slice-read-mixed Inv-loop μ-loop
 shared-slice-read-mixed c = search needs
 
--- src/rows.rt
 mixed-requires : tie.Need-mixed-requires Inv-loop μ-loop
 mixed-requires c κs = search needs
 
--- src/rows.rt
 add-i : tie.Need-add-i Inv-loop μ-loop
 add-i c = search needs
 
--- src/rows.rt
 loop-less : tie.Need-loop-less Inv-loop μ-loop
 loop-less c = search needs
 
--- src/rows.rt
 loop-again : tie.Need-loop-again Inv-loop μ-loop
 loop-again c = search needs
 
--- src/rows.rt
 cast-result : tie.Need-cast-result Inv-loop μ-loop
 cast-result c = search needs
 
--- src/rows.rt
 returns : tie.Need-returns Inv-loop μ-loop
 returns c = search needs
 

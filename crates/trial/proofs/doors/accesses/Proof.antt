@@ -11,51 +11,39 @@ Inv-loop w chain store₀ marks₀ space width n c₀ value₀ i₀ store marks 
 abbrev μ-loop : tie.MeasureT-loop
 μ-loop w chain store₀ marks₀ space width n c₀ value₀ i₀ store marks c value i = n - i
 
--- src/doors.rt
 low-requires : tie.Need-low-requires Inv-loop μ-loop
 low-requires c κs = search needs
 
--- src/doors.rt
 low-requires-2 : tie.Need-low-requires-2 Inv-loop μ-loop
 low-requires-2 c κs = search needs
 
--- src/doors.rt
 times-requires : tie.Need-times-requires Inv-loop μ-loop
 times-requires c κs = search needs
 
--- src/doors.rt
 loop-holds : tie.Need-loop-holds Inv-loop μ-loop
 loop-holds c = search needs
 
--- src/doors.rt
 access-requires : tie.Need-access-requires Inv-loop μ-loop
 access-requires c κs = search needs
 
--- src/doors.rt
 next-value-requires : tie.Need-next-value-requires Inv-loop μ-loop
 next-value-requires c κs = search needs
 
--- src/doors.rt
 add-i : tie.Need-add-i Inv-loop μ-loop
 add-i c = search needs
 
--- src/doors.rt
 loop-less : tie.Need-loop-less Inv-loop μ-loop
 loop-less c = search needs
 
--- src/doors.rt
 loop-again : tie.Need-loop-again Inv-loop μ-loop
 loop-again c = search needs
 
--- src/doors.rt
 same-length : tie.Need-same-length Inv-loop μ-loop
 same-length c = search needs
 
--- src/doors.rt
 same-length-2 : tie.Need-same-length-2 Inv-loop μ-loop
 same-length-2 c = search needs
 
--- src/doors.rt
 returns : tie.Need-returns Inv-loop μ-loop
 returns c = search needs
 

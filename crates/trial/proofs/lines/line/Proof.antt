@@ -13,59 +13,45 @@ Inv-loop pattern numbers n out₀ number₀ i₀ out number i = (i ≤ n) × (n 
 abbrev μ-loop : tie.MeasureT-loop
 μ-loop pattern numbers n out₀ number₀ i₀ out number i = n - i
 
--- src/lib.rt
 at-most-requires : tie.Need-at-most-requires Inv-loop μ-loop
 at-most-requires c κs = search needs
 
--- src/lib.rt
 loop-holds : tie.Need-loop-holds Inv-loop μ-loop
 loop-holds c = search needs
 
--- src/lib.rt
 byte-or-zero-requires : tie.Need-byte-or-zero-requires Inv-loop μ-loop
 byte-or-zero-requires c κs = search needs
 
--- src/lib.rt
 number-or-zero-requires : tie.Need-number-or-zero-requires Inv-loop μ-loop
 number-or-zero-requires c κs = search needs
 
--- src/lib.rt
 shown-requires : tie.Need-shown-requires Inv-loop μ-loop
 shown-requires c κs = search needs
 
--- src/lib.rt
 array-write-out : tie.Need-array-write-out Inv-loop μ-loop
 array-write-out c = search needs
 
--- src/lib.rt
 next-requires : tie.Need-next-requires Inv-loop μ-loop
 next-requires c κs = search needs
 
--- src/lib.rt
 add-i : tie.Need-add-i Inv-loop μ-loop
 add-i c = search needs
 
--- src/lib.rt
 loop-less : tie.Need-loop-less Inv-loop μ-loop
 loop-less c = search needs
 
--- src/lib.rt
 loop-again : tie.Need-loop-again Inv-loop μ-loop
 loop-again c = search needs
 
--- src/lib.rt
 array-share-prefix-out : tie.Need-array-share-prefix-out Inv-loop μ-loop
 array-share-prefix-out c = search needs
 
--- src/lib.rt
 slice-aggregate-write-all : tie.Need-slice-aggregate-write-all Inv-loop μ-loop
 slice-aggregate-write-all c = sym (length-take-le _ _ (omega arith))
 
--- src/lib.rt
 write-all-requires : tie.Need-write-all-requires Inv-loop μ-loop
 write-all-requires c κs = search needs
 
--- src/lib.rt
 returns : tie.Need-returns Inv-loop μ-loop
 returns c = search needs
 

@@ -9,59 +9,45 @@ Inv-loop chain places held n i₀ i = i ≤ n
 abbrev μ-loop : tie.MeasureT-loop
 μ-loop chain places held n i₀ i = n - i
 
--- src/lists.rt
 cast-places : tie.Need-cast-places Inv-loop μ-loop
 cast-places c = search needs
 
--- src/lists.rt
 entry-requires : tie.Need-entry-requires Inv-loop μ-loop
 entry-requires c κs = search needs
 
--- src/lists.rt
 read-held-requires : tie.Need-read-held-requires Inv-loop μ-loop
 read-held-requires c κs = search needs
 
--- src/lists.rt
 slice-aggregate-outcome-line : tie.Need-slice-aggregate-outcome-line Inv-loop μ-loop
 slice-aggregate-outcome-line c = search needs
 
--- src/lists.rt
 outcome-line-requires : tie.Need-outcome-line-requires Inv-loop μ-loop
 outcome-line-requires c κs = search needs
 
--- src/lists.rt
 value-requires : tie.Need-value-requires Inv-loop μ-loop
 value-requires c κs = search needs
 
--- src/lists.rt
 shown-requires : tie.Need-shown-requires Inv-loop μ-loop
 shown-requires c κs = search needs
 
--- src/lists.rt
 loop-holds : tie.Need-loop-holds Inv-loop μ-loop
 loop-holds c = search needs
 
--- src/lists.rt
 read-held-requires-2 : tie.Need-read-held-requires-2 Inv-loop μ-loop
 read-held-requires-2 c κs = search needs
 
--- src/lists.rt
 entry-line-requires : tie.Need-entry-line-requires Inv-loop μ-loop
 entry-line-requires c κs = search needs
 
--- src/lists.rt
 add-i : tie.Need-add-i Inv-loop μ-loop
 add-i c = search needs
 
--- src/lists.rt
 loop-less : tie.Need-loop-less Inv-loop μ-loop
 loop-less c = search needs
 
--- src/lists.rt
 loop-again : tie.Need-loop-again Inv-loop μ-loop
 loop-again c = search needs
 
--- src/lists.rt
 returns : tie.Need-returns Inv-loop μ-loop
 returns c = search needs
 

@@ -1,0 +1,46 @@
+use mathlib.Core.Path.{sym, _∙_}
+use Rattle.transfers.specs.Steps.{readSector}
+use borrow.Author.Needs.{needs}
+use Rattle.transfers.proofs.read_sector.Statement.{statement}
+use Rattle.transfers.proofs.read_sector.Tie as tie
+
+read-test-requires : tie.Need-read-test-requires
+read-test-requires c κs = search needs
+
+enum-known-spot : tie.Need-enum-known-spot
+enum-known-spot c = search needs
+
+read-sector-requires : tie.Need-read-sector-requires
+read-sector-requires c κs = search needs
+
+begun-requires : tie.Need-begun-requires
+begun-requires c κs = search needs
+
+enum-known-end : tie.Need-enum-known-end
+enum-known-end c = search needs
+
+ended-requires : tie.Need-ended-requires
+ended-requires c κs = search needs
+
+returns : tie.Need-returns
+unfolding readSector
+returns c =
+    let e = sym (c .before .before .before .before .before .before .read-test .ensures) ∙ c .before .before .before .before .spot .given .1 in
+    simp (e, c .begun .ensures, c .before .read-sector .ensures)
+
+returns-2 : tie.Need-returns-2
+unfolding readSector
+returns-2 c = let e = sym (c .before .before .before .before .read-test .ensures) ∙ c .before .before .end .given .1 in simp (e, c .ended .ensures)
+
+pub read-sector-spec : {M : Type 1} → statement M
+read-sector-spec =
+    tie.close
+    (tie.spec
+    read-test-requires
+    enum-known-spot
+    read-sector-requires
+    begun-requires
+    enum-known-end
+    ended-requires
+    returns
+    returns-2)

@@ -1,0 +1,51 @@
+use mathlib.Core.Path.{sym, _∙_}
+use Rattle.transfers.specs.Before.{storeTest}
+use borrow.Author.Needs.{needs}
+use Rattle.transfers.proofs.store_test.Statement.{statement}
+use Rattle.transfers.proofs.store_test.Tie as tie
+
+address-test-requires : tie.Need-address-test-requires
+address-test-requires c κs = search needs
+
+enum-known-spot : tie.Need-enum-known-spot
+enum-known-spot c = search needs
+
+mark-at-requires : tie.Need-mark-at-requires
+mark-at-requires c κs = search needs
+
+writable-requires : tie.Need-writable-requires
+writable-requires c κs = search needs
+
+returns : tie.Need-returns
+unfolding storeTest
+returns c =
+    let e = sym (c .before .before .before .before .before .before .address-test .ensures) ∙ c .before .before .before .before .spot .given .1 in
+    let w = simp (c .before .before .mark-at .ensures) at (sym (c .before .writable .ensures) ∙ c .if1 .taken) in
+    simp (e, w)
+
+enum-known-end : tie.Need-enum-known-end
+enum-known-end c = search needs
+
+returns-2 : tie.Need-returns-2
+unfolding storeTest
+returns-2 c =
+    let e = sym (c .before .before .before .before .before .before .address-test .ensures) ∙ c .before .before .before .before .spot .given .1 in
+    let w = simp (c .before .before .mark-at .ensures) at (sym (c .before .writable .ensures) ∙ c .if1 .left) in
+    simp (e, w)
+
+returns-3 : tie.Need-returns-3
+unfolding storeTest
+returns-3 c = let e = sym (c .before .before .before .address-test .ensures) ∙ c .before .end .given .1 in simp e
+
+pub store-test-spec : {M : Type 1} → statement M
+store-test-spec =
+    tie.close
+    (tie.spec
+    address-test-requires
+    enum-known-spot
+    mark-at-requires
+    writable-requires
+    returns
+    enum-known-end
+    returns-2
+    returns-3)

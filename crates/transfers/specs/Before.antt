@@ -1,0 +1,53 @@
+-- 01, "Commands": "Address, then mark, is tested before each sector (a write's mark at its last byte)."
+use Prim.Native.Nat.{ℕ}
+use mathlib.Core.Bool.{Bool}
+use mathlib.Core.List.{List}
+use lib.ListN.{getD}
+use Rattle.ground.specs.Choice.{pick}
+use Rattle.geometry.specs.declared.Located.{Located}
+use Rattle.sectors.specs.Marks.{readable, writable}
+use Rattle.sectors.specs.Sectors.{stored}
+use Rattle.registers.specs.declared.State.{State}
+use Rattle.registers.specs.WellMade.{locatedIn}
+use Rattle.transfers.specs.declared.End.{End}
+use Rattle.transfers.specs.declared.Tested.{Tested}
+use Rattle.transfers.specs.declared.Tested.the-variants.{Passes, Fails}
+
+abbrev pub testedOf : Located → Tested
+testedOf (Located.Good spot) = Passes spot
+testedOf Located.BadHeadOrSector = Fails End.BadHeadOrSector
+testedOf Located.BadCylinder = Fails End.BadCylinder
+testedOf Located.BadLba = Fails End.BadLba
+
+-- the address
+unfoldable pub addressTest : State → Tested
+addressTest s = testedOf (locatedIn s)
+
+-- then the mark
+abbrev pub markTested : (ℕ → Bool) → End → Tested → List ℕ → Tested
+markTested allows e (Passes spot) marks = pick (allows (getD marks (spot .index) 0)) (Passes spot) (Fails e)
+markTested allows e (Fails f) marks = Fails f
+
+-- of a sector to be read or verified: "mark 1: UNC, 11H"
+unfoldable pub readTest : State → List ℕ → Tested
+readTest s marks = markTested readable End.Unreadable (addressTest s) marks
+
+-- of a sector to be stored: "mark 2: ABRT and DWF, 03H"
+unfoldable pub storeTest : State → List ℕ → Tested
+storeTest s marks = markTested writable End.WriteFault (addressTest s) marks
+
+-- a sector is stored, and its mark set to 0, unless a test fails
+pub record StoreTested : Type 0 where
+  pub tested : Tested
+  pub store : List ℕ
+  pub marks : List ℕ
+
+abbrev pub storeTested : Tested → List ℕ → List ℕ → StoreTested
+storeTested t store marks = record { tested = t; store = store; marks = marks }
+
+abbrev pub storedBy : Tested → List ℕ → List ℕ → List ℕ → StoreTested
+storedBy (Passes spot) bytes store marks = storeTested (Passes spot) (stored store marks (spot .index) bytes .store) (stored store marks (spot .index) bytes .marks)
+storedBy (Fails e) bytes store marks = storeTested (Fails e) store marks
+
+unfoldable pub sectorStored : State → List ℕ → List ℕ → List ℕ → StoreTested
+sectorStored s bytes store marks = storedBy (storeTest s marks) bytes store marks

@@ -1,0 +1,47 @@
+-- How a command ends: 01, "Registers" (Status, Error), and the codes of the command table.
+use Prim.Native.Nat.{ℕ}
+use mathlib.Core.Bool.{Bool}
+use Rattle.registers.specs.declared.Phase.the-variants.{Idle}
+use Rattle.registers.specs.declared.State.{State}
+use Rattle.registers.specs.declared.Core.{Core}
+use Rattle.registers.specs.State.{core, withStatus, withError, withCode, withMark}
+use Rattle.transfers.specs.declared.End.{End}
+use Rattle.transfers.specs.declared.End.the-variants.{Good, BadHeadOrSector, BadCylinder, BadLba, Unreadable, WriteFault, BadGeometry, NoSuchCommand}
+
+-- "Status: 80H BSY, 40H RDY, 20H DWF, 10H DSC, 08H DRQ, 01H ERR. Idle 50H, data 58H, error 51H, write fault 71H."
+abbrev pub endStatus : End → ℕ
+endStatus Good = 0x50
+endStatus BadHeadOrSector = 0x51
+endStatus BadCylinder = 0x51
+endStatus BadLba = 0x51
+endStatus Unreadable = 0x51
+endStatus WriteFault = 0x71
+endStatus BadGeometry = 0x51
+endStatus NoSuchCommand = 0x51
+
+-- "Error: 40H UNC, 10H IDNF, 04H ABRT"; at a good end Error is as the command set it
+abbrev pub endError : End → ℕ → ℕ
+endError Good error = error
+endError BadHeadOrSector error = 0x10
+endError BadCylinder error = 0x10
+endError BadLba error = 0x10
+endError Unreadable error = 0x40
+endError WriteFault error = 0x04
+endError BadGeometry error = 0x04
+endError NoSuchCommand error = 0x04
+
+-- "Bad head or sector: code 21H. Otherwise bad cylinder or LBA: 2FH. Both are IDNF." Mark 1: 11H; mark 2: 03H; 91H: 21H; others: 20H
+abbrev pub endCode : End → ℕ → ℕ
+endCode Good code = code
+endCode BadHeadOrSector code = 0x21
+endCode BadCylinder code = 0x2F
+endCode BadLba code = 0x2F
+endCode Unreadable code = 0x11
+endCode WriteFault code = 0x03
+endCode BadGeometry code = 0x21
+endCode NoSuchCommand code = 0x20
+
+-- a command ends, with the interrupt mark as given: it is set "at each command end except a good end of reading data"; the registers that
+-- name the sector and Count are left as they stand
+abbrev pub ended : End → Bool → State → Core
+ended e mark s = core Idle (withMark mark (withCode (endCode e (s .code)) (withError (endError e (s .registers .error)) (withStatus (endStatus e) s))))

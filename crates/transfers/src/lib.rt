@@ -1,0 +1,333 @@
+// Sectors and the transfer that moves them: how a command ends, the tests before a sector, a transfer's start, and what the last byte of a sector does.
+use geometry::Located;
+use geometry::Spot;
+use registers::Core;
+use registers::Half;
+use registers::Load;
+use registers::Phase;
+use registers::State;
+use registers::Transfer;
+ghost use mathlib.Core.Path.{_≡_};
+ghost use Prim.Native.Nat.{_-_};
+ghost use Rattle.registers.specs.State.{machine};
+ghost use Rattle.transfers.specs.Ends.{endStatus, endError, endCode, ended};
+ghost use Rattle.transfers.specs.Before.{addressTest, readTest, storeTest, storeTested, sectorStored};
+ghost use Rattle.transfers.specs.Steps.{idle, markBegun, phaseOf, begun, passed, readSector, nextRead, loadRead, askSector, nextAsked, loadWritten};
+
+// How a command ends: well, or by the test of the command table that failed.
+pub enum End {
+    Good,
+    BadHeadOrSector,
+    BadCylinder,
+    BadLba,
+    Unreadable,
+    WriteFault,
+    BadGeometry,
+    NoSuchCommand,
+}
+
+// What the tests before a sector say.
+pub enum Tested {
+    Passes(Spot),
+    Fails(End),
+}
+
+// Which way data moves, as the host sees it.
+pub enum Way {
+    In,
+    Out,
+}
+
+impl End {
+    fn status(self) -> u8
+        ensures { λ r. ⌜ r ≡ endStatus self ⌝ }
+    {
+        match self {
+            End::Good => 0x50,
+            End::BadHeadOrSector => 0x51,
+            End::BadCylinder => 0x51,
+            End::BadLba => 0x51,
+            End::Unreadable => 0x51,
+            End::WriteFault => 0x71,
+            End::BadGeometry => 0x51,
+            End::NoSuchCommand => 0x51,
+        }
+    }
+
+    fn error(self, error: u8) -> u8
+        ensures { λ r. ⌜ r ≡ endError self error ⌝ }
+    {
+        match self {
+            End::Good => error,
+            End::BadHeadOrSector => 0x10,
+            End::BadCylinder => 0x10,
+            End::BadLba => 0x10,
+            End::Unreadable => 0x40,
+            End::WriteFault => 0x04,
+            End::BadGeometry => 0x04,
+            End::NoSuchCommand => 0x04,
+        }
+    }
+
+    fn code(self, code: u8) -> u8
+        ensures { λ r. ⌜ r ≡ endCode self code ⌝ }
+    {
+        match self {
+            End::Good => code,
+            End::BadHeadOrSector => 0x21,
+            End::BadCylinder => 0x2F,
+            End::BadLba => 0x2F,
+            End::Unreadable => 0x11,
+            End::WriteFault => 0x03,
+            End::BadGeometry => 0x21,
+            End::NoSuchCommand => 0x20,
+        }
+    }
+}
+
+// A command ends, with the interrupt mark as given.
+pub fn ended(state: State, end: End, mark: bool) -> Core
+    ensures { λ r. ⌜ r ≡ ended end mark state ⌝ }
+{
+    let registers = state.registers;
+    let status = end.status();
+    let error = end.error(registers.error);
+    let code = end.code(state.code);
+    let mut s = state;
+    s.registers.status = status;
+    s.registers.error = error;
+    s.code = code;
+    s.mark = mark;
+    Core {
+        phase: Phase::Idle,
+        state: s,
+    }
+}
+
+// ---- the tests before a sector
+
+fn address_test(state: State) -> Tested
+    ensures { λ r. ⌜ r ≡ addressTest state ⌝ }
+{
+    let registers = state.registers;
+    let address = registers.address;
+    let made = state.made;
+    let default = made.default;
+    let current = state.current;
+    match address.locate(current, default.total()) {
+        Located::Good(spot) => Tested::Passes(spot),
+        Located::BadHeadOrSector => Tested::Fails(End::BadHeadOrSector),
+        Located::BadCylinder => Tested::Fails(End::BadCylinder),
+        Located::BadLba => Tested::Fails(End::BadLba),
+    }
+}
+
+// Of a sector to be read or verified.
+pub fn read_test(state: State, marks: &[u8]) -> Tested
+    ensures { λ r. ⌜ r ≡ readTest state (now (marks .entry)) ⌝ }
+{
+    match address_test(state) {
+        Tested::Passes(spot) => {
+            let i = spot.index;
+            if sectors::readable(sectors::mark_at(marks, i)) {
+                return Tested::Passes(spot);
+            }
+            Tested::Fails(End::Unreadable)
+        }
+        Tested::Fails(end) => Tested::Fails(end),
+    }
+}
+
+// Of a sector to be stored.
+fn store_test(state: State, marks: &[u8]) -> Tested
+    ensures { λ r. ⌜ r ≡ storeTest state (now (marks .entry)) ⌝ }
+{
+    match address_test(state) {
+        Tested::Passes(spot) => {
+            let i = spot.index;
+            if sectors::writable(sectors::mark_at(marks, i)) {
+                return Tested::Passes(spot);
+            }
+            Tested::Fails(End::WriteFault)
+        }
+        Tested::Fails(end) => Tested::Fails(end),
+    }
+}
+
+// The sector is stored and its mark cleared, unless a test fails: for a write and for Erase.
+pub fn store_tested(state: State, bytes: &[u8; 512], store: &mut [u8], marks: &mut [u8]) -> Tested
+    ensures { λ r. ⌜ storeTested r (now (store .exit)) (now (marks .exit)) ≡ sectorStored state (now (bytes .entry)) (now (store .entry)) (now (marks .entry)) ⌝ }
+{
+    match store_test(state, marks) {
+        Tested::Passes(spot) => {
+            let i = spot.index;
+            sectors::store_sector(store, marks, i, bytes);
+            Tested::Passes(spot)
+        }
+        Tested::Fails(end) => Tested::Fails(end),
+    }
+}
+
+// ---- a transfer's start, and the sector after this one
+
+fn mark_begun(way: Way, first: bool, mark: bool) -> bool
+    ensures { λ r. ⌜ r ≡ markBegun way first mark ⌝ }
+{
+    match way {
+        Way::In => true,
+        Way::Out => {
+            if first {
+                return mark;
+            }
+            true
+        }
+    }
+}
+
+fn phase_of(way: Way, transfer: Transfer) -> Phase
+    ensures { λ r. ⌜ r ≡ phaseOf way transfer ⌝ }
+{
+    match way {
+        Way::In => Phase::DataIn(transfer),
+        Way::Out => Phase::DataOut(transfer),
+    }
+}
+
+// A sector or the buffer is ready to be read, or asked for.
+pub fn begun(state: State, way: Way, load: Load, first: bool) -> Core
+    ensures { λ r. ⌜ r ≡ begun way load first state ⌝ }
+{
+    let transfer = Transfer {
+        load: load,
+        half: Half::Nothing,
+        words: 0,
+    };
+    let mark = mark_begun(way, first, state.mark);
+    let mut s = state;
+    s.registers.status = 0x58;
+    s.mark = mark;
+    let phase = phase_of(way, transfer);
+    Core {
+        phase: phase,
+        state: s,
+    }
+}
+
+// A sector is done, and `left` are still to do.
+pub fn passed(state: State, left: u16) -> State
+    ensures { λ r. ⌜ r ≡ passed left state ⌝ }
+{
+    let mut registers = state.registers;
+    let mut s = state;
+    if left == 0 {
+        registers.count = 0;
+        s.registers = registers;
+        return s;
+    }
+    let address = registers.address;
+    let current = state.current;
+    let next = address.next(current);
+    let count = (left % 256) as u8;
+    registers.address = next;
+    registers.count = count;
+    s.registers = registers;
+    s
+}
+
+fn less_one(left: u16) -> u16
+    ensures { λ r. ⌜ r ≡ left - 1 ⌝ }
+{
+    if left == 0 {
+        return 0;
+    }
+    left - 1
+}
+
+// ---- reading
+
+// A sector is to be read: its tests, then its bytes come into the buffer.
+pub fn read_sector(
+    state: State,
+    left: u16,
+    buffer: &mut [u8; 512],
+    store: &[u8],
+    marks: &[u8],
+) -> Core
+    ensures { λ r. ⌜ machine r (now (buffer .exit)) (now (store .entry)) (now (marks .entry)) ≡ readSector left (idle state (now (buffer .entry)) (now (store .entry)) (now (marks .entry))) ⌝ }
+{
+    match read_test(state, marks) {
+        Tested::Passes(spot) => {
+            let i = spot.index;
+            sectors::read_sector(buffer, store, i);
+            begun(state, Way::In, Load::Sectors(left), true)
+        }
+        Tested::Fails(end) => ended(state, end, true),
+    }
+}
+
+fn next_read(state: State, left: u16, buffer: &mut [u8; 512], store: &[u8], marks: &[u8]) -> Core
+    ensures { λ r. ⌜ machine r (now (buffer .exit)) (now (store .entry)) (now (marks .entry)) ≡ nextRead left (idle state (now (buffer .entry)) (now (store .entry)) (now (marks .entry))) ⌝ }
+{
+    let next = passed(state, left);
+    if left == 0 {
+        return ended(next, End::Good, state.mark);
+    }
+    read_sector(next, left, buffer, store, marks)
+}
+
+// The last byte of a sector or of the buffer has gone.
+pub fn load_read(
+    state: State,
+    load: Load,
+    buffer: &mut [u8; 512],
+    store: &[u8],
+    marks: &[u8],
+) -> Core
+    ensures { λ r. ⌜ machine r (now (buffer .exit)) (now (store .entry)) (now (marks .entry)) ≡ loadRead load (idle state (now (buffer .entry)) (now (store .entry)) (now (marks .entry))) ⌝ }
+{
+    match load {
+        Load::Buffer => ended(state, End::Good, state.mark),
+        Load::Sectors(left) => next_read(state, less_one(left), buffer, store, marks),
+    }
+}
+
+// ---- writing
+
+// A sector is asked for, or its address fails.
+pub fn ask_sector(state: State, left: u16, first: bool) -> Core
+    ensures { λ r. ⌜ r ≡ askSector left first state ⌝ }
+{
+    match address_test(state) {
+        Tested::Passes(_) => begun(state, Way::Out, Load::Sectors(left), first),
+        Tested::Fails(end) => ended(state, end, true),
+    }
+}
+
+fn next_asked(state: State, left: u16) -> Core
+    ensures { λ r. ⌜ r ≡ nextAsked left state ⌝ }
+{
+    let next = passed(state, left);
+    if left == 0 {
+        return ended(next, End::Good, true);
+    }
+    ask_sector(next, left, false)
+}
+
+// The last byte of a sector or of the buffer has come: the sector is stored, and the next is asked for.
+pub fn load_written(
+    state: State,
+    load: Load,
+    buffer: &[u8; 512],
+    store: &mut [u8],
+    marks: &mut [u8],
+) -> Core
+    ensures { λ r. ⌜ machine r (now (buffer .entry)) (now (store .exit)) (now (marks .exit)) ≡ loadWritten load (idle state (now (buffer .entry)) (now (store .entry)) (now (marks .entry))) ⌝ }
+{
+    match load {
+        Load::Buffer => ended(state, End::Good, true),
+        Load::Sectors(left) => match store_tested(state, buffer, store, marks) {
+            Tested::Passes(_) => next_asked(state, less_one(left)),
+            Tested::Fails(end) => ended(state, end, true),
+        },
+    }
+}
