@@ -1,4 +1,4 @@
-//! The card as one mutable device: opening, what is refused, registers, resets and data.
+//! The card as one mutable device: its parts, opening, power-on, what is well made, what is refused.
 
 use crate::cover;
 use crate::maps::{self, Mode, Place};
@@ -168,7 +168,7 @@ impl Card {
 
     /// Power-on, with the map setting given.
     pub fn power_on(&mut self, setting: u8) {
-        self.first_registers();
+        self.power_on_registers();
         self.buffer = [0; 512];
         self.hold = false;
         self.mask = false;
@@ -177,7 +177,7 @@ impl Card {
     }
 
     /// The power-on registers, code 00H and default geometry; no transfer, no mark.
-    pub fn first_registers(&mut self) {
+    pub fn power_on_registers(&mut self) {
         self.stop_transfer();
         self.status = IDLE;
         self.error = 1;

@@ -386,7 +386,9 @@ impl Card {
         match (self.phase, self.sectors) {
             (Phase::In, true) => self.sector_was_read(lent),
             (Phase::Out, true) => self.sector_was_written(lent),
-            (Phase::In, false) => self.good_read(if self.identity { Row::Identify } else { Row::ReadBuffer }),
+            (Phase::In, false) => {
+                self.good_read(if self.identity { Row::Identify } else { Row::ReadBuffer })
+            }
             _ => self.good(Row::WriteBuffer),
         }
     }

@@ -392,8 +392,16 @@ fn groups() -> Vec<Group> {
         group("Refusal 9", FORM, split(&["width", "byte value", "word"], &["width", "byte value"])),
         group("Device Control writes", CONTROL, control_rows()),
         group("Configuration Option writes", OPTION, option_rows()),
-        group("Registers in a Device Control hold", HELD, held_rows()),
-        group("Register writes in a transfer", BUSY, busy_rows()),
+        group(
+            "Registers in a Device Control hold",
+            HELD,
+            offset_rows([("read ", ""), ("write ", "")]),
+        ),
+        group(
+            "Register writes in a transfer",
+            BUSY,
+            offset_rows([("", " in data in"), ("", " in data out")]),
+        ),
         group("Breaks of a session file", BREAK, break_rows()),
         group("Limits an opening breaks", OPENING, opening_rows()),
         group("Just one condition of the well-made list fails", CONDITION, condition_rows()),
@@ -482,28 +490,25 @@ fn attribute_rows() -> Vec<(String, Need)> {
 
 const TOUCHES: [&str; 3] = ["byte at 0, 8", "byte at 9", "word"];
 
-fn half_rows() -> Vec<(String, Need)> {
+/// A row for each way, state of the card and touch of the data register.
+fn touch_rows(ways: [&str; 2], states: &[&str]) -> Vec<(String, Need)> {
     let mut rows = Vec::new();
-    for way in ["in", "out"] {
-        for half in ["nothing", "low", "high"] {
-            for touch in TOUCHES {
-                rows.push((format!("{way}: {half}, {touch}"), Need::Session));
-            }
-        }
-    }
-    rows
-}
-
-fn against_rows() -> Vec<(String, Need)> {
-    let mut rows = Vec::new();
-    for way in ["read", "write"] {
-        for state in ["idle", "in the other"] {
+    for way in ways {
+        for state in states {
             for touch in TOUCHES {
                 rows.push((format!("{way} {state}, {touch}"), Need::Session));
             }
         }
     }
     rows
+}
+
+fn half_rows() -> Vec<(String, Need)> {
+    touch_rows(["in:", "out:"], &["nothing", "low", "high"])
+}
+
+fn against_rows() -> Vec<(String, Need)> {
+    touch_rows(["read", "write"], &["idle", "in the other"])
 }
 
 fn refusal_rows() -> Vec<(String, Need)> {
@@ -572,22 +577,14 @@ fn option_rows() -> Vec<(String, Need)> {
     named(&names, Need::Session)
 }
 
-fn held_rows() -> Vec<(String, Need)> {
+/// Two rows for each offset: what stands before it and after it in each.
+fn offset_rows(ways: [(&str, &str); 2]) -> Vec<(String, Need)> {
     let mut rows = Vec::new();
     for offset in 0..16 {
         let need = if (0xA..=0xC).contains(&offset) { Need::Nobody } else { Need::Session };
-        rows.push((format!("read {offset:X}"), need));
-        rows.push((format!("write {offset:X}"), need));
-    }
-    rows
-}
-
-fn busy_rows() -> Vec<(String, Need)> {
-    let mut rows = Vec::new();
-    for offset in 0..16 {
-        let need = if (0xA..=0xC).contains(&offset) { Need::Nobody } else { Need::Session };
-        rows.push((format!("{offset:X} in data in"), need));
-        rows.push((format!("{offset:X} in data out"), need));
+        for (before, after) in ways {
+            rows.push((format!("{before}{offset:X}{after}"), need));
+        }
     }
     rows
 }

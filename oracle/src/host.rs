@@ -150,16 +150,21 @@ impl Host {
         trial::set_field(&mut self.card, field, value);
     }
 
-    /// Sets up to eight bytes of the card's buffer (trials only).
-    pub fn set_buffer(&mut self, place: usize, bytes: &[u8]) {
-        let mut words = [13, place as u16, bytes.len() as u16, 0, 0, 0, 0];
-        for (i, &byte) in bytes.iter().enumerate() {
-            words[3 + i / 2] |= (byte as u16) << (8 * (i % 2));
-            if let Some(cell) = self.card.buffer.get_mut(place + i) {
-                *cell = byte;
+    /// Sets bytes of a row, eight with each record of the kind that sets them (trials only).
+    pub fn bytes_record(&mut self, kind: u16, place: usize, bytes: &[u8]) {
+        for (k, part) in bytes.chunks(8).enumerate() {
+            let mut words = [kind, (place + 8 * k) as u16, part.len() as u16, 0, 0, 0, 0];
+            for (i, &byte) in part.iter().enumerate() {
+                words[3 + i / 2] |= (byte as u16) << (8 * (i % 2));
             }
+            self.record(&words);
         }
-        self.record(&words);
+    }
+
+    /// Sets bytes of the card's buffer (trials only).
+    pub fn set_buffer(&mut self, place: usize, bytes: &[u8]) {
+        self.bytes_record(13, place, bytes);
+        trial::put_all(&mut self.card.buffer, place, bytes);
     }
 
     /// Writes down an access and does it.

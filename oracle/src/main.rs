@@ -83,8 +83,13 @@ fn write_files(seed: &str, dir: &str) -> bool {
         return false;
     };
     match compare::write_files(seed, dir) {
-        Ok(count) => println!("{count} inputs in {dir}"),
-        Err(e) => eprintln!("{dir}: {e}"),
+        Ok(count) => {
+            println!("{count} inputs in {dir}");
+            true
+        }
+        Err(e) => {
+            eprintln!("{dir}: {e}");
+            false
+        }
     }
-    true
 }

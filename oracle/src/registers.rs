@@ -146,7 +146,7 @@ impl Card {
 
     fn leave_hold(&mut self) {
         let (code, current) = (self.code, self.current);
-        self.first_registers();
+        self.power_on_registers();
         self.hold = false;
         if on(19) {
             self.code = code;

@@ -37,16 +37,24 @@ impl Host {
         }
     }
 
-    fn read_some_register(&mut self) {
+    /// Where something stands that is neither data nor Status nor Device Control.
+    fn some_register(&mut self) -> u8 {
         let wide = self.wide_map() && self.rng.percent(15);
-        let offset = if wide { 0xD } else { self.rng.pick(&[1, 2, 3, 4, 5, 6, 0xF]) };
+        if wide {
+            0xD
+        } else {
+            self.rng.pick(&[1, 2, 3, 4, 5, 6, 0xF])
+        }
+    }
+
+    fn read_some_register(&mut self) {
+        let offset = self.some_register();
         self.get(offset);
     }
 
     /// While DRQ is set these have no effect.
     fn write_some_register(&mut self) {
-        let wide = self.wide_map() && self.rng.percent(15);
-        let offset = if wide { 0xD } else { self.rng.pick(&[1, 2, 3, 4, 5, 6, 0xF]) };
+        let offset = self.some_register();
         let value = self.rng.byte();
         self.put(offset, value);
     }

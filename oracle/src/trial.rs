@@ -236,7 +236,7 @@ fn put(row: &mut [u8], place: usize, value: u8) {
     }
 }
 
-fn put_all(row: &mut [u8], place: usize, bytes: &[u8]) {
+pub fn put_all(row: &mut [u8], place: usize, bytes: &[u8]) {
     for (k, &byte) in bytes.iter().enumerate() {
         put(row, place + k, byte);
     }

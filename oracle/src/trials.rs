@@ -560,17 +560,6 @@ fn set_back(host: &mut Host, whole: &crate::card::Card) {
 
 // ---------------------------------------------------------------- tuples
 
-fn bytes_record(host: &mut Host, kind: u16, place: usize, bytes: &[u8]) {
-    for (k, part) in bytes.chunks(8).enumerate() {
-        let mut words = [0u16; 7];
-        (words[0], words[1], words[2]) = (kind, (place + 8 * k) as u16, part.len() as u16);
-        for (i, &b) in part.iter().enumerate() {
-            words[3 + i / 2] |= (b as u16) << (8 * (i % 2));
-        }
-        host.record(&words);
-    }
-}
-
 fn lend_tuples(host: &mut Host, tuples: usize, bodies: usize) {
     host.record(&[8, 0, 0, 0, tuples as u16, bodies as u16]);
 }
@@ -578,7 +567,7 @@ fn lend_tuples(host: &mut Host, tuples: usize, bodies: usize) {
 /// Chains to be read: good ones, ones that end badly, short lists, wrong lengths.
 fn chains(seed: u64, all: &mut Vec<Case>) {
     let mut host = small(3, 0);
-    bytes_record(&mut host, 9, 0, &[0x18, 0x02, 0xDF, 0x01, 0x14, 0x00, 0xFF]);
+    host.bytes_record(9, 0, &[0x18, 0x02, 0xDF, 0x01, 0x14, 0x00, 0xFF]);
     for (tuples, places) in
         [(256, 127), (256, 126), (255, 127), (257, 126), (256, 256), (256, 257), (0, 0)]
     {
@@ -592,8 +581,8 @@ fn chains(seed: u64, all: &mut Vec<Case>) {
         let mut host = small(4, 0);
         for _ in 0..12 {
             let chain = some_chain(&mut rng);
-            bytes_record(&mut host, 9, 0, &chain);
-            bytes_record(&mut host, 10, 0, &chain);
+            host.bytes_record(9, 0, &chain);
+            host.bytes_record(10, 0, &chain);
             let tuples = rng.pick(&[256, 256, 256, 256, 255, 257]);
             let bodies = rng.pick(&[256, 256, 256, 256, 255, 257]);
             lend_tuples(&mut host, tuples, bodies);
@@ -610,16 +599,16 @@ fn chains(seed: u64, all: &mut Vec<Case>) {
 fn edges(all: &mut Vec<Case>) {
     let mut host = small(6, 0);
     lend_tuples(&mut host, 256, 256);
-    bytes_record(&mut host, 9, 0, &[0; 256]);
+    host.bytes_record(9, 0, &[0; 256]);
     for place in (0..=256).rev().step_by(15) {
         host.record(&[9, place, 1, 0xFF]);
         host.record(&[6, 127, 0x55]);
     }
-    bytes_record(&mut host, 9, 0, &[0xFF; 256]);
+    host.bytes_record(9, 0, &[0xFF; 256]);
     for start in [0, 2, 100, 250, 252, 253, 254, 255] {
         let mut chain = vec![0x14, 0].repeat(start / 2);
         chain.resize(start, 0);
-        bytes_record(&mut host, 9, 0, &chain);
+        host.bytes_record(9, 0, &chain);
         for past in 0..5 {
             let link = (256 - start + past).saturating_sub(4) as u16;
             host.record(&[9, start as u16, 2, 0x21 | link.min(255) << 8]);
@@ -628,7 +617,7 @@ fn edges(all: &mut Vec<Case>) {
                 host.record(&[6, 128, 0x66, 0xFFFF, 0xFFFF]);
             }
         }
-        bytes_record(&mut host, 9, 0, &[0xFF; 256]);
+        host.bytes_record(9, 0, &[0xFF; 256]);
     }
     full_chain(&mut host);
     finish("chain-edges".into(), host, all);
@@ -637,8 +626,8 @@ fn edges(all: &mut Vec<Case>) {
 /// 127 empty tuples and the end mark, into lists about that long.
 fn full_chain(host: &mut Host) {
     let chain = [&[0x40, 0].repeat(127)[..], &[0xFF, 0xFF]].concat();
-    bytes_record(host, 9, 0, &chain);
-    bytes_record(host, 10, 0, &chain);
+    host.bytes_record(9, 0, &chain);
+    host.bytes_record(10, 0, &chain);
     for places in [126, 127, 128, 129, 256] {
         host.record(&[6, places, 0x77, 1, 2]);
     }
@@ -688,7 +677,7 @@ fn lists(seed: u64, all: &mut Vec<Case>) {
         let mut rng = Rng::new(sub_seed(seed, 29, number));
         let mut host = small(5, 0);
         let bodies: Vec<u8> = (0..1024).map(|_| rng.byte()).collect();
-        bytes_record(&mut host, 10, 0, &bodies);
+        host.bytes_record(10, 0, &bodies);
         for _ in 0..20 {
             one_list(&mut host, &mut rng);
         }

@@ -127,3 +127,15 @@ def register_name(offset, write):
 
 def command_name(code):
     return COMMANDS.get(code, "no command of the card")
+
+
+def access_words(access, spaces):
+    """An access without its value, the space by its name in the list given."""
+    width = " word" if access.width == 2 else ""
+    digits = 2 if access.space == 3 and access.address <= 0xFF else 3
+    return f"{'write' if access.write else 'read'}{width} {spaces[access.space]} {access.address:0{digits}X}"
+
+
+def opening_words(opening):
+    """How large the card of an opening is, and its mode."""
+    return f"{opening.c * opening.h * opening.s} sectors, {MODES.get(opening.mode, f'mode {opening.mode}')}"

@@ -195,17 +195,15 @@ def refusal(number, access, follower):
 
 # ---- lines
 
-def access_words(access, follower):
-    width = " word" if access.width == 2 else ""
-    digits = 2 if access.space == 3 and access.address <= 0xFF else 3
-    words = f"{'write' if access.write else 'read'}{width} {card.SPACE_NAMES[access.space]} {access.address:0{digits}X}H"
+def place_words(access, follower):
+    words = card.access_words(access, card.SPACE_NAMES) + "H"
     name = follower.name(access)
     return f"{words}, {name}" if name else words
 
 
 def explained(access, answer, value, follower):
     """One access with its answer, in words."""
-    words = access_words(access, follower)
+    words = place_words(access, follower)
     if answer:
         return f"{words}: {refusal(answer, access, follower)}"
     says = meaning(access, value, follower)
@@ -213,9 +211,8 @@ def explained(access, answer, value, follower):
     return f"{words}: {shown}, {says}" if says else f"{words}: {shown}"
 
 
-def opening_words(opening):
-    mode = card.MODES.get(opening.mode, f"mode {opening.mode}")
-    return f"opening: C {opening.c}, H {opening.h}, S {opening.s}, {opening.c * opening.h * opening.s} sectors, {mode}"
+def opening_told(opening):
+    return f"opening: C {opening.c}, H {opening.h}, S {opening.s}, {card.opening_words(opening)}"
 
 
 def opening_fault(opening):
@@ -260,7 +257,7 @@ def pairs_of(records, broken, printed):
     """Every printed line with its explanation; Mismatch where they do not belong to this session."""
     if not printed or printed[0] != HEADER:
         raise Mismatch(f"printed line 1: a run begins with the header '{HEADER}'")
-    yield printed[0], opening_words(records[0]) if records else "no opening in the file", None
+    yield printed[0], opening_told(records[0]) if records else "no opening in the file", None
     done = 1
     if records and len(printed) > 1 and printed[1].startswith("open "):
         row = int(printed[1][5:]) if printed[1][5:].isdigit() else 0

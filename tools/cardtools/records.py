@@ -42,7 +42,7 @@ class Broken(Exception):
 
 
 def record_at(file, place):
-    """The record that begins at a place, and its length; Broken where it is none."""
+    """The record that begins at a place, and its length; Broken where it is none, by the card's tests in the card's order."""
     left = len(file) - place
     first = place == 0
     if left == 0:
@@ -50,6 +50,10 @@ def record_at(file, place):
     if left < 4:
         raise Broken(f"only {left} of its bytes are there, and a record's length and kind take 4")
     length, kind = struct.unpack_from("<2H", file, place)
+    if left < length:
+        raise Broken(f"it takes {length} bytes, and {left} are left")
+    if length < 4:
+        raise Broken(f"its length is {length}, and a record's length and kind take 4")
     if kind not in KINDS:
         raise Broken(f"its kind is {kind}, which is none of 1 (opening), 2 (write), 3 (read)")
     if first and kind != 1:
@@ -58,8 +62,6 @@ def record_at(file, place):
         raise Broken("it is a second opening")
     if length != LENGTHS[kind]:
         raise Broken(f"its length is {length}, and {KINDS[kind]} has {LENGTHS[kind]}")
-    if left < length:
-        raise Broken(f"it takes {length} bytes, and {left} are left")
     if kind == 1:
         return Opening(*struct.unpack_from("<4H", file, place + 4)), length
     space, width, address = struct.unpack_from("<2BH", file, place + 4)

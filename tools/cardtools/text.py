@@ -2,7 +2,7 @@
 import re
 from itertools import groupby
 
-from .card import MODES
+from .card import access_words, opening_words
 from .explain import Follower
 from .records import LONGEST, SPACES, Access, Opening, file_of, records_of, size_of
 
@@ -168,12 +168,6 @@ def file_from(text):
 
 # ---- to text
 
-def place_words(access):
-    width = " word" if access.width == 2 else ""
-    digits = 2 if access.space == 3 and access.address <= 0xFF else 3
-    return f"{'write' if access.write else 'read'}{width} {SPACES[access.space]} {access.address:0{digits}X}"
-
-
 def noted_accesses(accesses, follower):
     """Each access with the name of what stands there, in the map in force."""
     for access in accesses:
@@ -204,10 +198,10 @@ def access_lines(accesses, follower):
     for (access, note), group in groupby(noted_accesses(accesses, follower), key=lambda noted: noted[:2]):
         values = [value for _, _, value in group]
         if not access.write:
-            yield place_words(access) + repeat_words(len(values)), note
+            yield access_words(access, SPACES) + repeat_words(len(values)), note
             continue
         for some, times in chunks_of(values):
-            yield place_words(access) + write_words(access, some) + repeat_words(times), note
+            yield access_words(access, SPACES) + write_words(access, some) + repeat_words(times), note
 
 
 def repeat_words(times):
@@ -216,10 +210,6 @@ def repeat_words(times):
 
 def opening_line(opening):
     return f"open {opening.c} {opening.h} {opening.s} {MODE_NAMES.get(opening.mode, opening.mode)}"
-
-
-def opening_note(opening):
-    return f"{opening.c * opening.h * opening.s} sectors, {MODES.get(opening.mode, 'no mode')}"
 
 
 def byte_lines(rest):
@@ -231,7 +221,7 @@ def text_of(file, notes=True):
     records, broken = records_of(file)
     lines = []
     if records:
-        lines.append((opening_line(records[0]), opening_note(records[0])))
+        lines.append((opening_line(records[0]), opening_words(records[0])))
         lines += access_lines(records[1:], Follower(records[0].mode))
     text = [f"{line:<32}# {note}" if notes and note else line for line, note in lines]
     if broken:

@@ -9,6 +9,7 @@ sys.path.append("bench")
 import plot  # noqa: E402
 import sessions  # noqa: E402
 from cardtools.records import LONGEST, records_of  # noqa: E402
+from faults import fault_of  # noqa: E402
 
 LOADER = importlib.machinery.SourceFileLoader("bench_run", "bench/run")
 bench = importlib.util.module_from_spec(importlib.util.spec_from_loader("bench_run", LOADER))
@@ -29,14 +30,9 @@ def test_sessions_are_well_formed_and_equal_each_time():
 
 def test_the_line_is_straight_or_told():
     line = [(x, 5000 + 200 * x) for x in (1, 800, 1600, 2400, 3200)]
-    assert bench.straight("a", "b", line) == 0 and bench.each(line) == 200
+    assert bench.straight("a", "b", line) == 0 and bench.per_access(line) == 200
     for bent in ([(x, x * x) for x, _ in line], [(x, 200 * x + (90000 if x > 1000 else 0)) for x, _ in line]):
-        try:
-            bench.straight("a", "b", bent)
-        except bench.Fault as fault:
-            assert "no straight line" in str(fault)
-        else:
-            raise AssertionError("a bent line passed")
+        assert "no straight line" in str(fault_of(bench.Fault, bench.straight, "a", "b", bent))
 
 
 def test_data_transfers_keep_to_their_bound():
@@ -45,12 +41,19 @@ def test_data_transfers_keep_to_their_bound():
 
     for kind, cost in (("words", 240), ("polling", 900)):
         bench.bounded(Counted, kind, [(0, 5000), (1000, 5000 + 1000 * cost)])
-    try:
-        bench.bounded(Counted, "bytes", [(0, 5000), (1000, 5000 + 1000 * 241)])
-    except bench.Fault as fault:
-        assert "241.0" in str(fault)
-    else:
-        raise AssertionError("a transfer above the bound passed")
+    assert "241.0" in str(fault_of(bench.Fault, bench.bounded, Counted, "bytes", [(0, 5000), (1000, 5000 + 1000 * 241)]))
+
+
+def test_what_stands_by_hand_on_the_page_is_kept():
+    with open("bench/RESULTS.md", encoding="utf-8") as file:
+        page = file.read()
+    by_hand = page[page.index("## Kept by hand"):]
+    for before in (page, bench.page_of("other numbers", page)):
+        after = bench.page_of("new numbers", before)
+        assert after.startswith("# Results") and "new numbers\n" in after and "other numbers" not in after
+        assert after.endswith(f"\n\n{by_hand}") and after.count("## Kept by hand") == 1
+    assert bench.page_of("numbers", "").endswith("(cost.svg)\n")
+    assert all(part in page for part in bench.page_of("", "").split("\n\n")), "the page has another head or foot than --write gives it"
 
 
 def test_the_plot_is_svg():

@@ -12,7 +12,7 @@ TREE = {
     "crates/low/proofs/Law.antt": "use x.{y}\n-- why\nlaw : a\nlaw = b\n",
     "crates/low/proofs/one/Proof.antt": "use x.{y}\n\n-- src/lib.rt:1:1\nadd : tie.Need-add\nadd c = search needs\n\nreturns : tie.Need-returns I\nreturns c =\n    let d = c in\n    search needs d\n\npub one-spec : {M : Type 1} → statement M\none-spec =\n    tie.close\n    (tie.spec\n    add\n    returns)\n",
     "crates/low/must-fail/wrong.edit": "# x\n",
-    "crates/high/src/main.rt": "fn main() {\n}\n",
+    "crates/high/src/main.rt": "fn main() {\n}\n\npub(crate) fn inner() {\n}\n",
 }
 LOG = "rt: low proved (8 s)\nrt: high proved (11 s)\nrt: must-fail low/wrong: refused, as it must be (first at proofs/one/Proof.antt:75:5; 16 s)\n2 passed, 0 failed\n"
 
@@ -33,8 +33,8 @@ def test_a_tree_with_known_numbers():
                 file.write(text)
         lines = call(os.path.join(root, "log"), "--root", root).stdout.splitlines()
         assert cells(lines[2]) == "low 2 1 6 4 2 14 3 2 1 8 16".split(), lines[2]
-        assert cells(lines[3]) == "high 1 0 2 0 0 0 0 0 0 11 –".split(), lines[3]
-        assert cells(lines[4]) == "**all** 3 1 8 4 2 14 3 2 1 19 16".split(), lines[4]
+        assert cells(lines[3]) == "high 2 0 4 0 0 0 0 0 0 11 –".split(), lines[3]
+        assert cells(lines[4]) == "**all** 4 1 10 4 2 14 3 2 1 19 16".split(), lines[4]
         assert cells(call("--root", root).stdout.splitlines()[2])[-2:] == ["–", "–"]
         for wrong, status in (("other", 1), ("failed", 1), ("none", 2)):
             done = call(os.path.join(root, wrong), "--root", root)
