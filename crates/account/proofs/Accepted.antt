@@ -4,46 +4,42 @@ use mathlib.Core.Bool.{Bool, true, false, true≢false}
 use mathlib.Core.Path.{_≡_, refl, ap, _∙_}
 use native.Mathlib.Nat.{div-le-self}
 use native.Mathlib.Omega.{arith}
-use lib.Dec.{eqb}
 use lib.ListN.{length}
-use borrow.Author.Tests.{eqb-true}
 use Rattle.ground.specs.Choice.{pick}
 use Rattle.answers.specs.declared.Refusal.{Refusal}
 use Rattle.ground.proofs.Every.{each}
 use Rattle.geometry.proofs.Limits.{fits-facts, total-fits, current-facts}
 use Rattle.maps.specs.declared.Register.{Register}
-use Rattle.registers.specs.State.{Machine, sresetIn}
-use Rattle.registers.specs.WellMade.{totalIn, heldIn, wellMade}
+use Rattle.registers.specs.State.{sresetIn, totalIn}
+use Rattle.registers.specs.Machine.{Machine}
+use Rattle.registers.specs.WellMade.{heldIn, wellMade}
 use Rattle.card.specs.declared.Meaning.{Meaning}
 use Rattle.card.specs.declared.Meaning.the-variants.{TupleByte, ReadOption, WriteOption, ReadRegister, WriteRegister, ReadData, WriteData}
 use Rattle.card.specs.Access.{Access, meaning}
+use Rattle.kept.proofs.Decided.{meaning-elim}
 use Rattle.account.specs.Claim.{Typed}
 use Rattle.account.proofs.Commands.{Given}
 
-abbrev pub refuses : Meaning → Bool
-refuses (Meaning.Refused r) = true
-refuses (TupleByte b) = false
-refuses ReadOption = false
-refuses (WriteOption v) = false
-refuses (ReadRegister r) = false
-refuses (WriteRegister r v) = false
-refuses (ReadData p) = false
-refuses (WriteData p v) = false
+abbrev pub meansRefusal : Meaning → Bool
+meansRefusal (Meaning.Refused r) = true
+meansRefusal (TupleByte b) = false
+meansRefusal ReadOption = false
+meansRefusal (WriteOption v) = false
+meansRefusal (ReadRegister r) = false
+meansRefusal (WriteRegister r v) = false
+meansRefusal (ReadData p) = false
+meansRefusal (WriteData p v) = false
 
--- one row of the refusals
-passes : (b : Bool) (x y : Meaning) (r : Refusal) → refuses y ≡ false → pick b x (Meaning.Refused r) ≡ y → (b ≡ true) × (x ≡ y)
-passes true x y r n e = (refl, e)
-passes false x y r n e = absurd (true≢false (ap refuses e ∙ n))
+no : {A : Type 0} {r : Refusal} (y : Meaning) → meansRefusal y ≡ false → Meaning.Refused r ≡ y → A
+no y n e = absurd (true≢false (ap meansRefusal e ∙ n))
 
 -- rows 12, 2 and 3
-pub lent-facts : (m : Machine) (a : Access) (y : Meaning) → refuses y ≡ false → meaning m a ≡ y →
+pub lent-facts : (m : Machine) (a : Access) (y : Meaning) → meansRefusal y ≡ false → meaning m a ≡ y →
     (wellMade (m .phase) (m .state) ≡ true) × (length (m .store) ≡ 512 * totalIn (m .state)) × (length (m .marks) ≡ totalIn (m .state))
-unfolding meaning
-lent-facts m a y n e =
-    let p = passes (wellMade (m .phase) (m .state)) _ y _ n e in
-    let q = passes (eqb (length (m .store)) (512 * totalIn (m .state))) _ y _ n (p .1) in
-    let r = passes (eqb (length (m .marks)) (totalIn (m .state))) _ y _ n (q .1) in
-    (p .0, eqb-true _ _ (q .0), eqb-true _ _ (r .0))
+lent-facts m a y n =
+    meaning-elim
+    (λ (k : Meaning). k ≡ y → (wellMade (m .phase) (m .state) ≡ true) × (length (m .store) ≡ 512 * totalIn (m .state)) × (length (m .marks) ≡ totalIn (m .state))) m a
+    (no y n) (no y n) (no y n) (no y n) (λ w s k t e. (w, s, k))
 
 pub neither : (o h : Bool) → pick o true h ≡ false → (o ≡ false) × (h ≡ false)
 neither true h e = absurd (true≢false e)

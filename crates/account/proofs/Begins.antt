@@ -1,5 +1,5 @@
 -- A sector command begins: the first address is decided, and the account of the rest is the account of the command.
-use Prim.Native.Nat.{ℕ, zero, suc, _-_, _%_, _<_}
+use Prim.Native.Nat.{ℕ, zero, suc, _%_, _<_}
 use mathlib.Core.Bool.{true}
 use mathlib.Core.Path.{_≡_, refl, _∙_}
 use mathlib.Core.List.{List}
@@ -9,8 +9,8 @@ use borrow.Author.Tests.{lt-ltb, ne-eqb}
 use Rattle.geometry.specs.declared.Located.{Located}
 use Rattle.geometry.proofs.Kept.{Bytes}
 use Rattle.registers.specs.declared.State.{State}
-use Rattle.registers.specs.State.{Machine, withCore}
-use Rattle.registers.specs.WellMade.{locatedIn}
+use Rattle.registers.specs.State.{locatedIn}
+use Rattle.registers.specs.Machine.{Machine, withCore}
 use Rattle.transfers.specs.Before.{addressTest, readTest, storeTest, sectorStored}
 use Rattle.transfers.specs.Steps.{readSector, askSector}
 use Rattle.commands.specs.Runs.{verifyFrom, eraseFrom}
@@ -19,7 +19,8 @@ use Rattle.account.specs.Plain.{silent}
 use Rattle.account.specs.Course.{courseOf}
 use Rattle.account.specs.Runs.{readSectors, writeSectors, verifySectors, eraseSectors}
 use Rattle.account.specs.Table.{asked, fromFirst}
-use Rattle.account.specs.Host.{plainOf, plainIn, None}
+use Rattle.account.specs.Host.{plainOf, plainIn}
+use Rattle.account.specs.Notes.{None}
 use Rattle.account.proofs.Seats.{courseIn, Shaped, Seated, Where, seat-room, seat-address}
 use Rattle.account.proofs.Verifying.{verify-is}
 use Rattle.account.proofs.Erasing.{erase-is, erasedPlain}

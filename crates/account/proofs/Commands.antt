@@ -1,5 +1,5 @@
 -- Every command begins as its account says.
-use Prim.Native.Nat.{ℕ, _+_, _-_, _*_, _%_, _≤_}
+use Prim.Native.Nat.{ℕ, _+_, _*_, _%_, _≤_}
 use mathlib.Core.Bool.{Bool, true, false, _||_}
 use mathlib.Core.Path.{_≡_, refl, sym, ap}
 use mathlib.Core.List.{List}
@@ -11,13 +11,12 @@ use Rattle.geometry.specs.declared.Sought.{Sought}
 use Rattle.geometry.specs.declared.Reshaped.{Reshaped}
 use Rattle.geometry.specs.Limits.{totalOf, currentFor}
 use Rattle.geometry.specs.Address.{locate, seek, byLba, lbaOf, headOf, cylinderOf}
-use Rattle.geometry.specs.Shape.{reshaped}
-use Rattle.geometry.specs.Codes.{currentAfter}
+use Rattle.geometry.specs.Shape.{reshaped, currentAfter}
 use Rattle.registers.specs.declared.Phase.the-variants.{Idle}
 use Rattle.registers.specs.declared.State.{State}
 use Rattle.registers.specs.declared.Core.{Core}
-use Rattle.registers.specs.State.{Machine, machine, core, withCore}
-use Rattle.registers.specs.WellMade.{locatedIn, totalIn}
+use Rattle.registers.specs.State.{locatedIn, totalIn}
+use Rattle.registers.specs.Machine.{Machine, machine, core, withCore}
 use Rattle.transfers.specs.declared.Way.{Way}
 use Rattle.transfers.specs.declared.Way.the-variants.{In, Out}
 use Rattle.transfers.specs.Steps.{readSector, askSector}
@@ -27,11 +26,12 @@ use Rattle.account.specs.Plain.{sectorsOf, withCurrent, Well, NotFound, 
 use Rattle.account.specs.Course.{courseOf}
 use Rattle.account.specs.Runs.{readSectors, writeSectors, verifySectors, eraseSectors}
 use Rattle.account.specs.Table.{asked, first, fromFirst, reads, writes, verifies, erases, shaped, setsGeometry, seeks, account}
-use Rattle.account.specs.Host.{plainOf, plainIn, None, blank}
-use Rattle.account.specs.Claim.{Bytes}
+use Rattle.account.specs.Host.{plainOf, plainIn}
+use Rattle.account.specs.Notes.{None, noNotes}
+use Rattle.account.specs.Claim.{AllBytes}
 use Rattle.account.proofs.Seats.{Shaped}
 use Rattle.account.proofs.Tried.{endingOf}
-use Rattle.account.proofs.Stored.{Lent}
+use Rattle.account.proofs.Stored.{LentFor}
 use Rattle.account.proofs.Settled.{Settled}
 use Rattle.account.proofs.Rest.{ByteWise, restAt, rest, Ground, Rel, Between}
 use Rattle.account.proofs.Begins.{asked-elim, Eight, read-begins, read-begins-held, write-begins, write-begins-held, verify-begins, erase-begins}
@@ -42,7 +42,7 @@ Given m =
     Ground In m
     × Eight (m .state)
     × (length (m .buffer) ≡ 512)
-    × Bytes (m .buffer)
+    × AllBytes (m .buffer)
     × (m .state .made .default .cylinders ≤ 65535) × (m .state .made .default .heads ≤ 65535) × (m .state .made .default .sectors ≤ 65535)
     × (m .state .current .cylinders ≤ 65535) × (m .state .current .heads ≤ 65535) × (m .state .current .sectors ≤ 65535)
 
@@ -51,12 +51,12 @@ outward m g = (g .0, g .1, tt, g .3, g .4)
 
 -- a command that is over at once
 pub over : (plain : List ℕ → Account) (way : Way) (k : Core) (b t s : List ℕ) → k .phase ≡ Idle → Ground way (machine k b t s) → ((d : List ℕ) → plain d ≡ silent (plainIn (k .state) b t s)) →
-    Rel way plain (machine k b t s) blank
+    Rel way plain (machine k b t s) noNotes
 unfolding restAt
 over plain In k b t s e g a = record { account = λ d. rw e (a d); ground = g; held = rw e refl }
 over plain Out k b t s e g a = record { account = λ d. rw e (a d); ground = g; held = rw e refl }
 
-pub settled-ground : (way : Way) (s : State) (k : Core) (b t x y z w : List ℕ) → Settled s k → Ground way (machine (core Idle s) b t x) → Lent (totalOf (s .made .default)) z w → ByteWise way z →
+pub settled-ground : (way : Way) (s : State) (k : Core) (b t x y z w : List ℕ) → Settled s k → Ground way (machine (core Idle s) b t x) → LentFor (totalOf (s .made .default)) z w → ByteWise way z →
     Ground way (machine k y z w)
 settled-ground way s k b t x y z w h g l q = rw (h .1, h .2, h .3, h .4) (g .0, l, q, g .3, g .4)
 

@@ -6,13 +6,14 @@ use mathlib.Core.List.{List, []}
 use Rattle.geometry.specs.declared.Located.{Located}
 use Rattle.geometry.specs.Shape.{reshaped}
 use Rattle.maps.specs.declared.Register.the-variants.{StatusCommand}
-use Rattle.registers.specs.State.{Machine, sresetIn}
+use Rattle.registers.specs.State.{sresetIn, totalIn}
+use Rattle.registers.specs.Machine.{Machine}
 use Rattle.registers.specs.declared.State.{State}
 use Rattle.registers.specs.declared.Phase.the-variants.{Idle}
-use Rattle.registers.specs.WellMade.{heldIn, totalIn}
+use Rattle.registers.specs.WellMade.{heldIn}
 use Rattle.commands.specs.declared.Command.{Command}
 use Rattle.commands.specs.declared.Command.the-variants.{Read, Write, Verify, Erase, Identify, ReadBuffer, WriteBuffer, SetGeometry, Diagnose, Recalibrate, Seek, Sense, Other}
-use Rattle.transfers.specs.Steps.{withState}
+use Rattle.transfers.specs.Steps.{dropped}
 use Rattle.commands.specs.Table.{commandOf, obeyed, started, countOf, quiet, commandGiven}
 use Rattle.card.specs.declared.Meaning.the-variants.{WriteRegister}
 use Rattle.card.specs.Access.{Access, meaning}
@@ -22,7 +23,8 @@ use Rattle.account.specs.Rows.{Row, Reads, Writes, Verifies, Erases, Ide
 use Rattle.account.specs.Course.{courseOf}
 use Rattle.account.specs.Runs.{readRun, readSectors}
 use Rattle.account.specs.Table.{asked, first, fromFirst, account}
-use Rattle.account.specs.Host.{plainOf, blank, wayOf, asks, Moves, Hosted, hosted}
+use Rattle.account.specs.Host.{plainOf, asks, Moves, Hosted, hosted}
+use Rattle.account.specs.Notes.{noNotes, wayOf}
 use Rattle.account.specs.Claim.{Typed}
 use Rattle.account.proofs.SameRow.{rowFor, same-row}
 use Rattle.account.proofs.Settled.{verify-settled, erase-idle}
@@ -31,17 +33,17 @@ use Rattle.account.proofs.Accepted.{neither}
 use Rattle.account.proofs.Theorem.{command-given, as-the-account}
 
 -- a Command write that the theorem speaks of
-pub record Command-write (m : Machine) (a : Access) (v : ℕ) : Type 0 where
+pub record AcceptedCommand (m : Machine) (a : Access) (v : ℕ) : Type 0 where
   pub accepted : meaning m a ≡ WriteRegister StatusCommand v
   pub free : heldIn (m .state) ≡ false
   pub typed : Typed m
 
 -- the host after it
 abbrev pub after : Machine → Access → ℕ → List Access → Hosted
-after m a v l = hosted (wayOf (rowOf v)) (step m a .next) blank l
+after m a v l = hosted (wayOf (rowOf v)) (step m a .next) noNotes l
 
 -- Two hosts that move the same data end the same, whatever the order and the map.
-pub same-data-same-end : (m : Machine) (a : Access) (v : ℕ) (l k : List Access) → Command-write m a v → Moves (step m a .next) l → Moves (step m a .next) k →
+pub same-data-same-end : (m : Machine) (a : Access) (v : ℕ) (l k : List Access) → AcceptedCommand m a v → Moves (step m a .next) l → Moves (step m a .next) k →
     after m a v l .notes .done ≡ after m a v k .notes .done → plainOf (after m a v l .machine) ≡ plainOf (after m a v k .machine)
 same-data-same-end m a v l k w x y e =
     let p = as-the-account m a v l (w .accepted) (w .free) (w .typed) x in
@@ -83,10 +85,10 @@ asks-not : (v : ℕ) (m : Machine) → dataless (rowOf v) ≡ true → asks (com
 unfolding commandGiven
 asks-not v m e = rw (over-at-once (commandOf v) (started (quiet m .state)) (quiet m) (ap dataless (sym (same-row v)) ∙ e))
 
-pub no-host-needed : (m : Machine) (a : Access) (v : ℕ) → Command-write m a v → dataless (rowOf v) ≡ true → Moves (step m a .next) []
+pub no-host-needed : (m : Machine) (a : Access) (v : ℕ) → AcceptedCommand m a v → dataless (rowOf v) ≡ true → Moves (step m a .next) []
 no-host-needed m a v w e =
     let f : m .state .control .held ≡ false = unfold heldIn in neither (sresetIn (m .state .option)) (m .state .control .held) (w .free) .1 in
-    subst (λ (x : Machine). asks x ≡ false) (sym (command-given m a v (w .accepted) f)) (asks-not v (withState (m .state) m) e)
+    subst (λ (x : Machine). asks x ≡ false) (sym (command-given m a v (w .accepted) f)) (asks-not v (dropped m) e)
 
 -- A read never changes the store or the marks.
 pub ends-store : (e : Ending) (p : Plain) → (ends e p .store ≡ p .store) × (ends e p .marks ≡ p .marks)
@@ -110,7 +112,7 @@ reads-untouched : (p : Plain) (d : List ℕ) → Untouched p (account Reads p d 
 unfolding account
 reads-untouched p d = read-untouched (first (starts p)) (asked (p .registers .count)) (starts p)
 
-pub read-changes-no-sector : (m : Machine) (a : Access) (v : ℕ) (l : List Access) → Command-write m a v → rowOf v ≡ Reads → Moves (step m a .next) l →
+pub read-changes-no-sector : (m : Machine) (a : Access) (v : ℕ) (l : List Access) → AcceptedCommand m a v → rowOf v ≡ Reads → Moves (step m a .next) l →
     (after m a v l .machine .store ≡ m .store) × (after m a v l .machine .marks ≡ m .marks)
 read-changes-no-sector m a v l w e x =
     let p = as-the-account m a v l (w .accepted) (w .free) (w .typed) x in

@@ -6,13 +6,14 @@ use mathlib.Core.List.{List, [], _∷_, _++_}
 use native.Mathlib.Nat.{le-of-suc-le-suc, not-suc-le-zero}
 use native.Mathlib.Omega.{arith}
 use lib.Dec.{ltb}
-use lib.ListN.{length, take, drop, set, getD, replicate, length-append, length-take, length-drop}
+use lib.ListN.{length, take, drop, set, getD, replicate, length-drop}
 use lib.Seq.{getD-set-other, length-take-le, getD-append-add, getD-take, getD-drop}
 use borrow.Author.Tests.{ltb-true}
 use Rattle.ground.specs.Choice.{pick}
 use Rattle.account.specs.Plain.{Ending, Well, NotFound, Unreadable, WriteFault, Aborted}
 use Rattle.account.specs.Course.{Course}
 use Rattle.account.specs.Runs.{Run, tried, runFrom, tests, putSector, replaced, blanked, cleared}
+use Rattle.account.proofs.Stored.{put-length}
 
 -- the same below one place and from another one on
 abbrev pub Same : ℕ → ℕ → List ℕ → List ℕ → Type 0
@@ -42,9 +43,6 @@ put-behind i b s k l f h =
     ∙ in-second b (drop (512 * (i + 1)) s) (k - length a) (omega arith)
     ∙ getD-drop (512 * (i + 1)) s (k - length a - length b) 0
     ∙ ap (λ (n : ℕ). getD s n 0) z
-
-put-length : (i n : ℕ) (b s : List ℕ) → i < n → length b ≡ 512 → length s ≡ 512 * n → length (putSector i b s) ≡ 512 * n
-put-length i n b s h e f = simp (length-append, length-take, length-drop) (omega arith)
 
 -- one sector put, and then sectors behind it
 put-then : (i k n : ℕ) (b s t : List ℕ) → i + suc k ≤ n → length b ≡ 512 → length s ≡ 512 * n → Same (512 * (i + 1)) (512 * (i + 1 + k)) (putSector i b s) t → Same (512 * i) (512 * (i + suc k)) s t

@@ -1,5 +1,5 @@
 -- Erase: sector after sector in the machine, one run of indices in the account.
-use Prim.Native.Nat.{ℕ, zero, suc, _+_, _-_}
+use Prim.Native.Nat.{ℕ, zero, suc, _+_}
 use mathlib.Core.Bool.{true}
 use mathlib.Core.Path.{_≡_, refl}
 use mathlib.Core.List.{List}
@@ -9,15 +9,15 @@ use Rattle.geometry.specs.Limits.{totalOf}
 use Rattle.registers.specs.declared.State.{State}
 use Rattle.transfers.specs.declared.Tested.{Tested}
 use Rattle.transfers.specs.Before.{storedBy, sectorStored}
-use Rattle.transfers.specs.Steps.{passed}
-use Rattle.commands.specs.Runs.{goesOn, eraseFrom, Erased, erased, blank}
+use Rattle.transfers.specs.Steps.{sectorDone}
+use Rattle.commands.specs.Runs.{goesOn, eraseFrom, Erased, erased, allFF}
 use Rattle.account.specs.Plain.{Plain, Ending, Well, WriteFault}
 use Rattle.account.specs.Course.{Course}
 use Rattle.account.specs.Runs.{tried, stopped, runFrom, tests, unwritable, putSector, blanked, cleared, eraseSectors, eraseDone}
 use Rattle.account.specs.Host.{plainIn}
 use Rattle.account.proofs.Seats.{Shaped, Seated, Where, onward, passed-on, seat-next, room-total}
 use Rattle.account.proofs.Tried.{stops-run, stops-ends, store-tested}
-use Rattle.account.proofs.Stored.{Lent, stored-is, stored-lent, run-later}
+use Rattle.account.proofs.Stored.{LentFor, stored-is, stored-lent, run-later}
 use Rattle.account.proofs.Verifying.{where-good, seated-last}
 
 abbrev pub erasedPlain : Erased → List ℕ → Plain
@@ -26,16 +26,16 @@ erasedPlain e b = plainIn (e .core .state) b (e .store) (e .marks)
 -- a sector of Erase by its tests, with n to come
 abbrev erasesOn : Tested → ℕ → State → List ℕ → List ℕ → Erased
 erasesOn x n s t k =
-    goesOn (storedBy x blank t k .tested) (λ c. erased c (storedBy x blank t k .store) (storedBy x blank t k .marks)) s (eraseFrom n (passed n s) (storedBy x blank t k .store) (storedBy x blank t k .marks))
+    goesOn (storedBy x allFF t k .tested) (λ c. erased c (storedBy x allFF t k .store) (storedBy x allFF t k .marks)) s (eraseFrom n (sectorDone n s) (storedBy x allFF t k .store) (storedBy x allFF t k .marks))
 
-pub erase-is : (n : ℕ) (c : Course) (i : ℕ) (s : State) (b t k : List ℕ) → Shaped (s .made) (s .current) → Lent (totalOf (s .made .default)) t k → Seated c i (suc n) s → Where c i s →
+pub erase-is : (n : ℕ) (c : Course) (i : ℕ) (s : State) (b t k : List ℕ) → Shaped (s .made) (s .current) → LentFor (totalOf (s .made .default)) t k → Seated c i (suc n) s → Where c i s →
     erasedPlain (eraseFrom (suc n) s t k) b ≡ eraseSectors c i (suc n) (plainIn s b t k)
-unfolding eraseFrom eraseSectors runFrom sectorStored blanked cleared blank
+unfolding eraseFrom eraseSectors runFrom sectorStored blanked cleared allFF
 erase-is zero c i s b t k h l q w =
     store-tested c i s k
     (λ (x : Tested) (e : Ending). erasedPlain (erasesOn x 0 s t k) b ≡ eraseDone c i (tried e 1 i (stopped Well 0 (i + 1))) (plainIn s b t k))
     w
-    (λ r. let m = room-total c s h (q .2) in unfold passed in rw (stored-is (totalOf (s .made .default)) i t k (replicate 512 0xFF) (omega arith) l, seated-last c i 1 s q))
+    (λ r. let m = room-total c s h (q .2) in unfold sectorDone in rw (stored-is (totalOf (s .made .default)) i t k (replicate 512 0xFF) (omega arith) l, seated-last c i 1 s q))
     (λ f z. rw (stops-run f z c 1 i (stopped Well 0 (i + 1)) (plainIn s b t k)) (stops-ends f true z c 1 i s b t k q))
 erase-is (suc n) c i s b t k h l q w =
     store-tested c i s k

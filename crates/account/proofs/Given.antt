@@ -9,20 +9,21 @@ use Rattle.geometry.specs.Shape.{reshaped}
 use Rattle.geometry.proofs.Shapes.{after-current}
 use Rattle.identify.specs.Words.{identifyBytes}
 use Rattle.identify.proofs.Made.{identify-length}
-use Rattle.registers.specs.State.{Machine, core}
-use Rattle.registers.specs.WellMade.{totalIn}
+use Rattle.registers.specs.State.{totalIn}
+use Rattle.registers.specs.Machine.{Machine, core}
 use Rattle.commands.specs.declared.Command.{Command}
 use Rattle.commands.specs.declared.Command.the-variants.{Read, Write, Verify, Erase, Identify, ReadBuffer, WriteBuffer, SetGeometry, Diagnose, Recalibrate, Seek, Sense, Other}
 use Rattle.transfers.specs.declared.End.{End}
 use Rattle.transfers.specs.declared.Way.the-variants.{In, Out}
-use Rattle.transfers.specs.Steps.{withState}
+use Rattle.transfers.specs.Steps.{idleWith}
 use Rattle.commands.specs.Runs.{verifyFrom, eraseFrom}
 use Rattle.commands.specs.Table.{commandOf, started, countOf, factsOf, geometrySet, soughtEnd, obeyed}
 use Rattle.account.specs.Plain.{withBuffer, starts, ends, Ending, Well, silent, moving}
 use Rattle.account.specs.Rows.{Row, rowOf}
 use Rattle.account.specs.Words.{identifyData}
 use Rattle.account.specs.Table.{diagnoses, account}
-use Rattle.account.specs.Host.{plainOf, blank, wayOf}
+use Rattle.account.specs.Host.{plainOf}
+use Rattle.account.specs.Notes.{noNotes, wayOf}
 use Rattle.account.proofs.SameRow.{rowFor, same-row}
 use Rattle.account.proofs.Settled.{verify-settled, erase-settled}
 use Rattle.account.proofs.Identifying.{identify-is, identify-bytes}
@@ -30,24 +31,24 @@ use Rattle.account.proofs.Rest.{restAt, Rel}
 use Rattle.account.proofs.Commands.{Given, outward, over, settled-ground, read-all, read-all-held, write-all, write-all-held, verify-all, erase-all, set-is, set-idle, set-ground, seek-is}
 use Rattle.account.proofs.StartsEnds.{started-starts, starts-ends, diagnosed-is, sensed-is, buffer-read, buffer-written}
 
-pub begins : (k : Command) (m : Machine) → Given m → Rel (wayOf (rowFor k)) (account (rowFor k) (plainOf m)) (obeyed k (started (m .state)) m) blank
+pub begins : (k : Command) (m : Machine) → Given m → Rel (wayOf (rowFor k)) (account (rowFor k) (plainOf m)) (obeyed k (started (m .state)) m) noNotes
 unfolding account restAt
 begins Read m h =
-    let x = withState (started (m .state)) m in
+    let x = idleWith (started (m .state)) m in
     let z = read-all-held x (h .0) (h .1) in
     record { account = λ d. read-all x d (h .0) (h .1); ground = z .0; held = z .1 }
 begins Write m h =
-    let x = withState (started (m .state)) m in
+    let x = idleWith (started (m .state)) m in
     let z = write-all-held x (h .2) (outward m (h .0)) (h .1) in
     record { account = λ d. write-all x d (outward m (h .0)) (h .1); ground = z .0; held = z .1 }
 begins Verify m h =
-    let x = withState (started (m .state)) m in
+    let x = idleWith (started (m .state)) m in
     let k = verifyFrom (countOf (x .state)) (x .state) (m .marks) in
     let z = verify-settled (countOf (x .state)) (x .state) (m .marks) in
     over _ In k (m .buffer) (m .store) (m .marks) (z .0) (settled-ground In (x .state) k (m .buffer) (m .store) (m .marks) (m .buffer) (m .store) (m .marks) z (h .0) (h .0 .1) (h .0 .2))
     (λ d. ap silent (verify-all x (h .0) (h .1)))
 begins Erase m h =
-    let x = withState (started (m .state)) m in
+    let x = idleWith (started (m .state)) m in
     let k = eraseFrom (countOf (x .state)) (x .state) (m .store) (m .marks) in
     let z = erase-settled (countOf (x .state)) (totalOf (m .state .made .default)) (x .state) (m .store) (m .marks) (h .0 .1) in
     over _ Out (k .core) (m .buffer) (k .store) (k .marks) (z .0 .0)
@@ -91,5 +92,5 @@ begins Sense m h = record { account = λ d. ap silent (sym (sensed-is (m .state)
 begins Other m h = record { account = λ d. ap silent (sym (starts-ends End.NoSuchCommand (m .state) (m .buffer) (m .store) (m .marks))); ground = h .0; held = refl }
 
 -- by the account's own row of the code
-pub begins-row : (v : ℕ) (m : Machine) → Given m → Rel (wayOf (rowOf v)) (account (rowOf v) (plainOf m)) (obeyed (commandOf v) (started (m .state)) m) blank
-begins-row v m h = subst (λ (r : Row). Rel (wayOf r) (account r (plainOf m)) (obeyed (commandOf v) (started (m .state)) m) blank) (sym (same-row v)) (begins (commandOf v) m h)
+pub begins-row : (v : ℕ) (m : Machine) → Given m → Rel (wayOf (rowOf v)) (account (rowOf v) (plainOf m)) (obeyed (commandOf v) (started (m .state)) m) noNotes
+begins-row v m h = subst (λ (r : Row). Rel (wayOf r) (account r (plainOf m)) (obeyed (commandOf v) (started (m .state)) m) noNotes) (sym (same-row v)) (begins (commandOf v) m h)

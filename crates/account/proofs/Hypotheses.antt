@@ -9,11 +9,11 @@ use lib.ListN.{length}
 use borrow.Author.Tests.{not-true, ltb-true, eqb-true}
 use Rattle.ground.specs.Choice.{every}
 use Rattle.ground.proofs.Every.{each, and-left, and-right}
-use Rattle.registers.specs.State.{Machine}
+use Rattle.registers.specs.Machine.{Machine}
 use Rattle.card.specs.Access.{Access, meaning}
 use Rattle.card.specs.Step.{step}
 use Rattle.account.specs.Host.{calm, asks, Moves}
-use Rattle.account.specs.Claim.{Bytes, Typed}
+use Rattle.account.specs.Claim.{AllBytes, Typed}
 
 -- the host's conduct as a test
 unfoldable pub moves : Machine → List Access → Bool
@@ -32,7 +32,7 @@ unfoldable pub bytes : List ℕ → Bool
 bytes [] = true
 bytes (x ∷ l) = let rest = bytes l in ltb x 256 && rest
 
-pub bytes-true : (l : List ℕ) → bytes l ≡ true → Bytes l
+bytes-true : (l : List ℕ) → bytes l ≡ true → AllBytes l
 unfolding bytes
 bytes-true [] e i = omega arith
 bytes-true (x ∷ l) e zero = ltb-true x 256 (and-left (ltb x 256) (bytes l) e)

@@ -1,5 +1,5 @@
 -- Identify: the account's list of words is the machine's table of bytes.
-use Prim.Native.Nat.{ℕ, zero, suc, _+_, _/_, _%_, _≤_, _<_}
+use Prim.Native.Nat.{ℕ, zero, suc, _/_, _%_, _≤_, _<_}
 use mathlib.Core.Path.{_≡_}
 use mathlib.Core.List.{List, [], _∷_, _++_}
 use native.Mathlib.Omega.{arith}
@@ -12,17 +12,17 @@ use Rattle.commands.specs.Table.{factsOf}
 use Rattle.account.specs.Plain.{Plain, sectorsOf}
 use Rattle.account.specs.Words.{bytesOf, identifyWords, identifyData}
 use Rattle.account.specs.Host.{plainIn}
-use Rattle.account.specs.Claim.{Bytes}
+use Rattle.account.specs.Claim.{AllBytes}
 
 pub identify-is : (s : State) (b t k : List ℕ) → totalOf (s .made .default) ≡ sectorsOf (s .made .default) → identifyBytes (factsOf s) ≡ identifyData (plainIn s b t k)
-unfolding firstWord laterWord identifyWord identifyByte identifyBytes Rattle.identify.specs.Words.blank bytesOf identifyWords
+unfolding firstWord laterWord identifyWord identifyByte identifyBytes Rattle.identify.specs.Words.blankWord bytesOf identifyWords
 identify-is s b t k e = rw e
 
 -- words of 16 bits give bytes
 abbrev Narrow : List ℕ → Type 0
 Narrow l = (i : ℕ) → getD l i 0 < 65536
 
-bytes-of : (l : List ℕ) → Narrow l → Bytes (bytesOf l)
+bytes-of : (l : List ℕ) → Narrow l → AllBytes (bytesOf l)
 unfolding bytesOf
 bytes-of [] h i = omega arith
 bytes-of (w ∷ l) h zero = omega arith
@@ -46,7 +46,7 @@ same (suc n) w h = more w (replicate n w) h (same n w h)
 
 -- a list of words, each below 65536
 pub identify-bytes : (p : Plain) → p .made .default .cylinders ≤ 65535 → p .made .default .heads ≤ 65535 → p .made .default .sectors ≤ 65535 →
-    p .current .cylinders ≤ 65535 → p .current .heads ≤ 65535 → p .current .sectors ≤ 65535 → Bytes (identifyData p)
+    p .current .cylinders ≤ 65535 → p .current .heads ≤ 65535 → p .current .sectors ≤ 65535 → AllBytes (identifyData p)
 unfolding identifyWords
 identify-bytes p a b c d e f =
     let t6 : List ℕ = replicate 194 0 in

@@ -1,16 +1,16 @@
 -- Every access that is no reset and no command keeps the account, whatever it means.
 use Prim.Native.Nat.{ℕ}
 use mathlib.Core.Bool.{Bool, true, false, not, false≢true, true≢false}
-use mathlib.Core.Path.{_≡_, refl}
+use mathlib.Core.Path.{_≡_, refl, sym, subst, _∙_}
 use mathlib.Core.List.{List, _++_, append-nil}
-use Rattle.ground.proofs.Picks.{no}
+use Rattle.ground.proofs.Picks.{un-not}
 use Rattle.maps.specs.declared.Port.{Port}
 use Rattle.maps.specs.declared.Register.{Register}
-use Rattle.maps.specs.declared.Register.the-variants.{ErrorFeature, SectorCount, SectorNumber, CylinderLow, CylinderHigh, DriveHead, StatusCommand, AlternateControl, DriveAddress}
 use Rattle.registers.specs.declared.Phase.{Phase}
 use Rattle.registers.specs.declared.Phase.the-variants.{Idle, DataIn, DataOut}
-use Rattle.registers.specs.declared.Core.{Core}
-use Rattle.registers.specs.State.{Machine, machine, core, coreOf, withCore, runs, sresetIn}
+use Rattle.registers.specs.declared.State.{State}
+use Rattle.registers.specs.State.{runs, sresetIn}
+use Rattle.registers.specs.Machine.{Machine, machine, core, withCore}
 use Rattle.registers.specs.Resets.{turnOf, optionTurned, bufferTurned, controlTurned, bitTwo, bitOne}
 use Rattle.registers.specs.Values.{afterRead}
 use Rattle.port.specs.Data.{dataRead, dataWritten, phaseRead, phaseWritten}
@@ -18,9 +18,11 @@ use Rattle.transfers.specs.declared.Way.{Way}
 use Rattle.transfers.specs.declared.Way.the-variants.{In, Out}
 use Rattle.card.specs.declared.Meaning.{Meaning}
 use Rattle.card.specs.declared.Meaning.the-variants.{TupleByte, ReadOption, WriteOption, ReadRegister, WriteRegister, ReadData, WriteData}
-use Rattle.card.specs.Perform.{optionWritten, plainCore, plainWritten, registerWritten, perform}
+use Rattle.card.specs.Perform.{optionWritten, registerWritten, perform}
+use Rattle.kept.proofs.RegisterElim.{read-elim, written-elim}
 use Rattle.account.specs.Plain.{Account, moving}
-use Rattle.account.specs.Host.{plainOf, Waiting, None, Notes, note, noteRead, noteWritten, calm, calmRegister, asks}
+use Rattle.account.specs.Host.{plainOf, calm, calmRegister, asks}
+use Rattle.account.specs.Notes.{Waiting, None, Notes, note, noteRead, noteWritten}
 use Rattle.account.proofs.Rest.{restAt, outcome, Held, Rel}
 use Rattle.account.proofs.ReadKeeps.{read-keeps}
 use Rattle.account.proofs.WriteKeeps.{write-keeps}
@@ -43,40 +45,20 @@ module _ (plain : List ℕ → Account) (way : Way) where
 
   -- a register is read
   read-register : (r : Register) (m : Machine) (q : Notes) → Rel way plain m q → Rel way plain (machine (core (m .phase) (afterRead r (m .state))) (m .buffer) (m .store) (m .marks)) q
-  unfolding afterRead
-  read-register ErrorFeature m q z = z
-  read-register SectorCount m q z = z
-  read-register SectorNumber m q z = z
-  read-register CylinderLow m q z = z
-  read-register CylinderHigh m q z = z
-  read-register DriveHead m q z = z
-  read-register StatusCommand m q z = record { account = z .account; ground = z .ground; held = z .held }
-  read-register AlternateControl m q z = z
-  read-register DriveAddress m q z = z
+  read-register r m q z =
+      read-elim (λ (s : State). Rel way plain (machine (core (m .phase) s) (m .buffer) (m .store) (m .marks)) q) r (m .state) z (record { account = z .account; ground = z .ground; held = z .held })
 
   -- "While DRQ is set, writes to 1..6 and D have no effect"
-  plain-same : (r : Register) (v : ℕ) (k : Core) → runs (k .phase) ≡ true → k .state .control .held ≡ false → plainCore r v k ≡ k
-  unfolding plainCore
-  plain-same r v k e h = rw (h, e)
-
-  write-plain : (r : Register) (v : ℕ) (m : Machine) (q : Notes) → asks m ≡ true → Rel way plain m q → Rel way plain (plainWritten r v m) q
-  write-plain r v m q e z = rw (plain-same r v (coreOf m) e (z .ground .3)) z
-
   write-register : (r : Register) (v : ℕ) (m : Machine) (q : Notes) → calmRegister r v ≡ true → asks m ≡ true → Rel way plain m q → Rel way plain (registerWritten r v m) q
-  unfolding registerWritten
-  write-register ErrorFeature v m q c e z = write-plain ErrorFeature v m q e z
-  write-register SectorCount v m q c e z = write-plain SectorCount v m q e z
-  write-register SectorNumber v m q c e z = write-plain SectorNumber v m q e z
-  write-register CylinderLow v m q c e z = write-plain CylinderLow v m q e z
-  write-register CylinderHigh v m q c e z = write-plain CylinderHigh v m q e z
-  write-register DriveHead v m q c e z = write-plain DriveHead v m q e z
-  write-register StatusCommand v m q c e z = absurd (false≢true c)
-  write-register AlternateControl v m q c e z = control-keeps (m .state .control .held) (bitTwo v) (bitOne v) m q (z .ground .3) (no (bitTwo v) c) z
-  write-register DriveAddress v m q c e z = write-plain DriveAddress v m q e z
+  write-register r v m q c e z =
+      written-elim (λ (n : Machine). Rel way plain n q) r v m z
+      (λ h i. absurd (true≢false (sym e ∙ i)))
+      (λ k h. absurd (false≢true (subst (λ (x : Register). calmRegister x v ≡ true) k c)))
+      (λ k. control-keeps (m .state .control .held) (bitTwo v) (bitOne v) m q (z .ground .3) (un-not (bitTwo v) _ (subst (λ (x : Register). calmRegister x v ≡ true) k c)) z)
 
   write-option : (v : ℕ) (m : Machine) (q : Notes) → not (sresetIn v) ≡ true → Rel way plain m q → Rel way plain (optionWritten v m) q
   unfolding optionWritten
-  write-option v m q c z = option-keeps (sresetIn (m .state .option)) (sresetIn v) v m q (z .ground .4) (no (sresetIn v) c) refl z
+  write-option v m q c z = option-keeps (sresetIn (m .state .option)) (sresetIn v) v m q (z .ground .4) (un-not (sresetIn v) _ c) refl z
 
 module _ (plain : List ℕ → Account) where
   -- data, the command's way and the other

@@ -1,5 +1,5 @@
 -- The theorem is not empty: after every accepted command there is a list of words at whose end the card stops asking.
-use Prim.Native.Nat.{ℕ, zero, suc, _-_, _≤_}
+use Prim.Native.Nat.{ℕ, zero, suc, _≤_}
 use mathlib.Core.Bool.{Bool, true, false}
 use mathlib.Core.Path.{_≡_, refl, sym, ap, _∙_, subst}
 use mathlib.Core.List.{List, [], _∷_}
@@ -11,15 +11,16 @@ use Rattle.registers.specs.declared.Half.{Half}
 use Rattle.registers.specs.declared.Transfer.{Transfer}
 use Rattle.registers.specs.declared.Phase.{Phase}
 use Rattle.registers.specs.declared.Phase.the-variants.{Idle, DataIn, DataOut}
-use Rattle.registers.specs.State.{Machine, runs, sresetIn, indexIn, withBuffer}
+use Rattle.registers.specs.State.{runs, sresetIn, indexIn}
+use Rattle.registers.specs.Machine.{Machine, withBuffer}
 use Rattle.registers.specs.WellMade.{heldIn}
 use Rattle.port.specs.declared.Part.{Part}
 use Rattle.port.specs.declared.Take.{Take}
 use Rattle.transfers.specs.declared.Way.{Way}
 use Rattle.transfers.specs.declared.Way.the-variants.{In, Out}
-use Rattle.port.specs.Halves.{takeOf, partWritten}
+use Rattle.port.specs.Halves.{takeOf, withPart}
 use Rattle.port.specs.Data.{takenRead, takenWritten}
-use Rattle.transfers.specs.Steps.{withState}
+use Rattle.transfers.specs.Steps.{dropped}
 use Rattle.commands.specs.Table.{commandGiven, quiet}
 use Rattle.card.specs.declared.Meaning.{Meaning}
 use Rattle.card.specs.declared.Meaning.the-variants.{ReadData, WriteData, WriteRegister}
@@ -27,11 +28,12 @@ use Rattle.card.specs.Access.{Access, meaning}
 use Rattle.card.specs.Perform.{perform}
 use Rattle.card.specs.Step.{step}
 use Rattle.kept.specs.Sound.{Sound}
-use Rattle.kept.proofs.Step.{sound-stepped}
+use Rattle.kept.proofs.Step.{sound-kept}
 use Rattle.account.specs.Plain.{Plain, Account}
 use Rattle.account.specs.Rows.{rowOf}
 use Rattle.account.specs.Table.{account}
-use Rattle.account.specs.Host.{plainOf, Waiting, None, Notes, blank, note, wayOf, calm, asks, Moves}
+use Rattle.account.specs.Host.{plainOf, calm, asks, Moves}
+use Rattle.account.specs.Notes.{Waiting, None, Notes, noNotes, note, wayOf}
 use Rattle.account.specs.Claim.{Typed}
 use Rattle.account.specs.Live.{wordOf, WordsOnly}
 use Rattle.account.proofs.Rest.{Rel, Running, Held, Pending, bare}
@@ -39,7 +41,7 @@ use Rattle.account.proofs.Keeps.{keeps, free-read, free-written}
 use Rattle.account.proofs.Given.{begins-row}
 use Rattle.account.proofs.Accepted.{given, neither, lent-facts}
 use Rattle.account.proofs.Theorem.{command-given}
-use Rattle.account.proofs.WordMeans.{moving, word-means, width-two}
+use Rattle.account.proofs.WordMeans.{wordMeaning, word-means, width-two}
 use Rattle.account.proofs.Sizes.{size, sizeOf, left-some, read-less, write-less}
 
 -- a list of words that a host may use, up to where the card stops asking
@@ -56,13 +58,13 @@ none-moved h q w b e p = go h (subst (λ (x : Waiting). Pending h x w b) e p)
     go Half.High p = absurd p
 
 -- one word more
-more : (m : Machine) (write : Bool) → Sound m → sresetIn (m .state .option) ≡ false → asks m ≡ true → calm (moving write) ≡ true →
-    (Sound (perform (moving write) m .next) → Ends (perform (moving write) m .next)) → Ends m
+more : (m : Machine) (write : Bool) → Sound m → sresetIn (m .state .option) ≡ false → asks m ≡ true → calm (wordMeaning write) ≡ true →
+    (Sound (perform (wordMeaning write) m .next) → Ends (perform (wordMeaning write) m .next)) → Ends m
 unfolding step
 more m write s h k c f =
     let a = wordOf (m .state .made .mode) (indexIn (m .state .option)) write in
     let e = word-means m write s h in
-    let z = f (subst (λ (y : Meaning). Sound (perform y m .next)) e (sound-stepped m a s)) in
+    let z = f (subst (λ (y : Meaning). Sound (perform y m .next)) e (sound-kept m a s)) in
     (a ∷ z .0, (width-two (m .state .made .mode) (indexIn (m .state .option)) write, z .1), (k, rw e c, subst (λ (y : Meaning). Moves (perform y m .next) (z .0)) (sym e) (z .2)))
 
 -- a word read, a word written
@@ -99,7 +101,7 @@ module _ (plain : List ℕ → Account) (n : ℕ) where
       let k = ap runs e in
       let x = written-is t m (z .ground .3) e f in
       let y = keeps plain Out (WriteData Port.Word 0) m q refl k z in
-      let b = write-less t (withBuffer (partWritten Part.Both (t .words) 0 (m .buffer)) m) (r .0) (left-some (t .load) (bare (plainOf m)) (r .4)) in
+      let b = write-less t (withBuffer (withPart Part.Both (t .words) 0 (m .buffer)) m) (r .0) (left-some (t .load) (bare (plainOf m)) (r .4)) in
       more m true s (z .ground .4) k refl
       (λ g. claim (perform (WriteData Port.Word 0) m .next) (note Out (WriteData Port.Word 0) (perform (WriteData Port.Word 0) m .outcome) q) g y
       (rw (x, w) refl)
@@ -133,16 +135,16 @@ sound-of m a v e t =
     let l = lent-facts m a (WriteRegister StatusCommand v) refl e in
     record { made = l .0; store = l .1; marks = l .2; buffer = t .buffer; bytes = t .count }
 
-given-ends : (m : Machine) (a : Access) (v : ℕ) → meaning m a ≡ WriteRegister StatusCommand v → heldIn (m .state) ≡ false → Typed m → Sound (commandGiven v (withState (m .state) m)) →
-    Ends (commandGiven v (withState (m .state) m))
+given-ends : (m : Machine) (a : Access) (v : ℕ) → meaning m a ≡ WriteRegister StatusCommand v → heldIn (m .state) ≡ false → Typed m → Sound (commandGiven v (dropped m)) →
+    Ends (commandGiven v (dropped m))
 unfolding commandGiven
 given-ends m a v e h t s =
-    ends (size (commandGiven v (withState (m .state) m) .phase)) (account (rowOf v) (plainOf m)) (wayOf (rowOf v)) (commandGiven v (withState (m .state) m)) blank s
-    (begins-row v (quiet (withState (m .state) m)) (given m a StatusCommand v e h t)) refl (le-refl _)
+    ends (size (commandGiven v (dropped m) .phase)) (account (rowOf v) (plainOf m)) (wayOf (rowOf v)) (commandGiven v (dropped m)) noNotes s
+    (begins-row v (quiet (dropped m)) (given m a StatusCommand v e h t)) refl (le-refl _)
 
 -- For every Command write that a card in neither reset accepts there is a list of words that meets the theorem's hypotheses.
 pub not-empty : (m : Machine) (a : Access) (v : ℕ) → meaning m a ≡ WriteRegister StatusCommand v → heldIn (m .state) ≡ false → Typed m → Ends (step m a .next)
 not-empty m a v e h t =
     let f : m .state .control .held ≡ false = unfold heldIn in neither (sresetIn (m .state .option)) (m .state .control .held) h .1 in
     let g = command-given m a v e f in
-    subst (λ (x : Machine). Ends x) (sym g) (given-ends m a v e h t (subst (λ (x : Machine). Sound x) g (sound-stepped m a (sound-of m a v e t))))
+    subst (λ (x : Machine). Ends x) (sym g) (given-ends m a v e h t (subst (λ (x : Machine). Sound x) g (sound-kept m a (sound-of m a v e t))))

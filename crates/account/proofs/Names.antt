@@ -19,6 +19,7 @@ use Rattle.geometry.proofs.Limits.{current-facts}
 use Rattle.geometry.proofs.Inside.{Chs, chs-facts, lba-facts}
 use Rattle.geometry.proofs.Kept.{Bytes}
 use Rattle.account.specs.Course.{lbaNamed, chsNamed}
+use Rattle.geometry.proofs.Bounds.{row-more}
 
 quotient : (q r s : ℕ) → r < s → (q * s + r) / s ≡ q
 quotient q r s h =
@@ -30,7 +31,7 @@ remainder : (q r s : ℕ) → r < s → (q * s + r) % s ≡ r
 remainder q r s h = mul-add-mod-self-right q s r ∙ mod-eq-of-lt h
 
 -- the name of a cylinder, head and sector
-abbrev pub spelled : ℕ → ℕ → ℕ → ℕ → Address
+abbrev spelled : ℕ → ℕ → ℕ → ℕ → Address
 spelled top c h s = record { sector = s; low = c % 256; high = c / 256; head = top * 16 + h }
 
 spelled-by : (top : ℕ) (g : Geometry) (i c h s : ℕ) → i % g .sectors ≡ s - 1 → i / g .sectors % g .heads ≡ h → i / g .sectors / g .heads ≡ c → 1 ≤ s → chsNamed top g i ≡ spelled top c h s
@@ -105,12 +106,6 @@ step-to a g i c h s l f e =
     let z = f .2 in
     let w = f .3 in
     spelled-at a c h s (omega arith) (omega arith) (omega arith) ∙ sym (chs-spelled (a .head / 16) g i c h s x (f .1) z e)
-
-row-more : (x h s : ℕ) → (x + (h + 1)) * s ≡ (x + h) * s + s
-row-more x h s =
-    let e : x + (h + 1) ≡ x + h + 1 = omega arith in
-    let m = add-mul (x + h) 1 s in
-    rw e (omega arith)
 
 next-chs : (a : Address) (g : Geometry) (i : ℕ) →
     (g .cylinders ≤ 65535) × (g .heads ≤ 16) × (g .sectors ≤ 255) →

@@ -1,13 +1,13 @@
 -- A write or an erase changes only sectors that it names: those from the first index on, as many as Count asks for.
-use Prim.Native.Nat.{ℕ, zero, suc, _+_, _-_, _*_, _≤_, _<_}
+use Prim.Native.Nat.{ℕ, _+_, _*_, _≤_, _<_}
 use mathlib.Core.Path.{_≡_, refl, sym, ap, _∙_, subst}
 use mathlib.Core.List.{List, _++_}
 use native.Mathlib.Omega.{arith}
-use lib.ListN.{length, replicate, length-append}
+use lib.ListN.{length, replicate, length-append, length-replicate}
 use Rattle.geometry.specs.declared.Located.{Located}
 use Rattle.geometry.specs.Limits.{totalOf}
 use Rattle.maps.specs.declared.Register.the-variants.{StatusCommand}
-use Rattle.registers.specs.State.{Machine}
+use Rattle.registers.specs.Machine.{Machine}
 use Rattle.transfers.specs.declared.Way.the-variants.{In}
 use Rattle.card.specs.Access.{Access}
 use Rattle.card.specs.Step.{step}
@@ -22,33 +22,30 @@ use Rattle.account.proofs.Rest.{Ground}
 use Rattle.account.proofs.Commands.{first-is}
 use Rattle.account.proofs.Accepted.{given}
 use Rattle.account.proofs.Theorem.{as-the-account}
-use Rattle.account.proofs.Corollaries.{Command-write, after, ends-store}
+use Rattle.account.proofs.Corollaries.{AcceptedCommand, after, ends-store}
 use Rattle.account.proofs.Elsewhere.{Same, replaced-same, blanked-same, cleared-same, run-inside, run-most}
 
 -- the bytes of the store and the marks outside n sectors from the first one are the same; with no first sector, all of them
-abbrev pub OnlyNamed : Located → ℕ → List ℕ → List ℕ → List ℕ → List ℕ → Type 0
-OnlyNamed (Located.Good spot) n store marks store′ marks′ = Same (512 * spot .index) (512 * (spot .index + n)) store store′ × Same (spot .index) (spot .index + n) marks marks′
-OnlyNamed Located.BadHeadOrSector n store marks store′ marks′ = (store′ ≡ store) × (marks′ ≡ marks)
-OnlyNamed Located.BadCylinder n store marks store′ marks′ = (store′ ≡ store) × (marks′ ≡ marks)
-OnlyNamed Located.BadLba n store marks store′ marks′ = (store′ ≡ store) × (marks′ ≡ marks)
-
-abbrev pub Kept : Located → ℕ → Plain → Plain → Type 0
-Kept l n p q = OnlyNamed l n (p .store) (p .marks) (q .store) (q .marks)
+abbrev pub OnlyNamed : Located → ℕ → Plain → Plain → Type 0
+OnlyNamed (Located.Good spot) n p q = Same (512 * spot .index) (512 * (spot .index + n)) (p .store) (q .store) × Same (spot .index) (spot .index + n) (p .marks) (q .marks)
+OnlyNamed Located.BadHeadOrSector n p q = (q .store ≡ p .store) × (q .marks ≡ p .marks)
+OnlyNamed Located.BadCylinder n p q = (q .store ≡ p .store) × (q .marks ≡ p .marks)
+OnlyNamed Located.BadLba n p q = (q .store ≡ p .store) × (q .marks ≡ p .marks)
 
 -- fewer sectors than those named
 wider : (s t u : List ℕ) (low high more : ℕ) → high ≤ more → u ≡ t → Same low high s t → Same low more s u
 wider s t u low high more h e z = rw e (z .0, λ k y. z .1 k (omega arith))
 
-length-replicate : (n x : ℕ) → length (replicate n x) ≡ n
-length-replicate zero x = refl
-length-replicate (suc n) x = ap suc (length-replicate n x)
+module _ (n total : ℕ) (o : Plain) (s : length (o .store) ≡ 512 * total) (r : courseOf o .room ≤ total) where
+  -- as the command starts
+  abbrev p : Plain
+  p = starts o
 
-module _ (n total : ℕ) (p : Plain) (s : length (p .store) ≡ 512 * total) (r : courseOf p .room ≤ total) where
   abbrev runOf : ℕ → Run
   runOf i = writeRun (courseOf p) (p .marks) i n
 
   write-named : (l : Located) (d : List ℕ) → ((i : ℕ) → l ≡ Located.Good (record { index = i }) → (i ≤ courseOf p .room) × (512 * runOf i .done ≤ length d)) →
-      Kept l n p (fromFirst l silent (λ i. writeSectors (courseOf p) i n p d) p .left)
+      OnlyNamed l n o (fromFirst l silent (λ i. writeSectors (courseOf p) i n p d) p .left)
   unfolding writeSectors
   write-named (Located.Good spot) d h =
       let k = runOf (spot .index) in
@@ -63,7 +60,7 @@ module _ (n total : ℕ) (p : Plain) (s : length (p .store) ≡ 512 * total) (r 
   write-named Located.BadCylinder d h = (refl, refl)
   write-named Located.BadLba d h = (refl, refl)
 
-  erase-named : (l : Located) → ((i : ℕ) → l ≡ Located.Good (record { index = i }) → i ≤ courseOf p .room) → Kept l n p (fromFirst l (λ q. q) (λ i. eraseSectors (courseOf p) i n p) p)
+  erase-named : (l : Located) → ((i : ℕ) → l ≡ Located.Good (record { index = i }) → i ≤ courseOf p .room) → OnlyNamed l n o (fromFirst l (λ q. q) (λ i. eraseSectors (courseOf p) i n p) p)
   unfolding eraseSectors
   erase-named (Located.Good spot) h =
       let k = runOf (spot .index) in
@@ -83,39 +80,39 @@ first-inside m i g e = seat-room (m .state) i (g .0) (first-is m (g .0) ∙ e)
 
 writes-named : (m : Machine) (done : List ℕ) → Ground In m →
     let n = asked (m .state .registers .count) in
-    Kept (first (plainOf m)) n (plainOf m) (account Writes (plainOf m) (done ++ replicate (512 * n) 0) .left)
+    OnlyNamed (first (plainOf m)) n (plainOf m) (account Writes (plainOf m) (done ++ replicate (512 * n) 0) .left)
 unfolding account
 writes-named m done g =
     let n = asked (m .state .registers .count) in
     let d = done ++ replicate (512 * n) 0 in
     let l : length d ≡ length done + 512 * n = length-append done (replicate (512 * n) 0) ∙ ap (λ (k : ℕ). length done + k) (length-replicate (512 * n) 0) in
-    write-named n (totalOf (m .state .made .default)) (starts (plainOf m)) (g .1 .0) (room-total (courseIn (m .state)) (m .state) (g .0) refl) (first (plainOf m)) d
+    write-named n (totalOf (m .state .made .default)) (plainOf m) (g .1 .0) (room-total (courseIn (m .state)) (m .state) (g .0) refl) (first (plainOf m)) d
     (λ i e.
     let y = run-most (tests unwritable WriteFault (courseOf (plainOf m)) (m .marks)) n i in
     let z = first-inside m i g e in
     (omega arith, omega arith))
 
-erases-named : (m : Machine) (d : List ℕ) → Ground In m → Kept (first (plainOf m)) (asked (m .state .registers .count)) (plainOf m) (account Erases (plainOf m) d .left)
+erases-named : (m : Machine) (d : List ℕ) → Ground In m → OnlyNamed (first (plainOf m)) (asked (m .state .registers .count)) (plainOf m) (account Erases (plainOf m) d .left)
 unfolding account
 erases-named m d g =
-    erase-named (asked (m .state .registers .count)) (totalOf (m .state .made .default)) (starts (plainOf m)) (g .1 .0) (room-total (courseIn (m .state)) (m .state) (g .0) refl) (first (plainOf m))
+    erase-named (asked (m .state .registers .count)) (totalOf (m .state .made .default)) (plainOf m) (g .1 .0) (room-total (courseIn (m .state)) (m .state) (g .0) refl) (first (plainOf m))
     (λ i e. let z = first-inside m i g e in omega arith)
 
-pub write-changes-only-named : (m : Machine) (a : Access) (v : ℕ) (l : List Access) → Command-write m a v → rowOf v ≡ Writes → Moves (step m a .next) l →
-    Kept (first (plainOf m)) (asked (m .state .registers .count)) (plainOf m) (plainOf (after m a v l .machine))
+pub write-changes-only-named : (m : Machine) (a : Access) (v : ℕ) (l : List Access) → AcceptedCommand m a v → rowOf v ≡ Writes → Moves (step m a .next) l →
+    OnlyNamed (first (plainOf m)) (asked (m .state .registers .count)) (plainOf m) (plainOf (after m a v l .machine))
 write-changes-only-named m a v l w e x =
     let g = given m a StatusCommand v (w .accepted) (w .free) (w .typed) .0 in
     let n = asked (m .state .registers .count) in
     let done = after m a v l .notes .done in
     let p = as-the-account m a v l (w .accepted) (w .free) (w .typed) x .enough (replicate (512 * n) 0) in
     let u = ap (λ (r : Row). account r (plainOf m) (done ++ replicate (512 * n) 0)) e in
-    subst (λ (q : Account). Kept (first (plainOf m)) n (plainOf m) (q .left)) (sym u ∙ p) (writes-named m done g)
+    subst (λ (q : Account). OnlyNamed (first (plainOf m)) n (plainOf m) (q .left)) (sym u ∙ p) (writes-named m done g)
 
-pub erase-changes-only-named : (m : Machine) (a : Access) (v : ℕ) (l : List Access) → Command-write m a v → rowOf v ≡ Erases → Moves (step m a .next) l →
-    Kept (first (plainOf m)) (asked (m .state .registers .count)) (plainOf m) (plainOf (after m a v l .machine))
+pub erase-changes-only-named : (m : Machine) (a : Access) (v : ℕ) (l : List Access) → AcceptedCommand m a v → rowOf v ≡ Erases → Moves (step m a .next) l →
+    OnlyNamed (first (plainOf m)) (asked (m .state .registers .count)) (plainOf m) (plainOf (after m a v l .machine))
 erase-changes-only-named m a v l w e x =
     let g = given m a StatusCommand v (w .accepted) (w .free) (w .typed) .0 in
     let done = after m a v l .notes .done in
     let p = as-the-account m a v l (w .accepted) (w .free) (w .typed) x .account in
     let u = ap (λ (r : Row). account r (plainOf m) done) e in
-    subst (λ (q : Account). Kept (first (plainOf m)) (asked (m .state .registers .count)) (plainOf m) (q .left)) (sym u ∙ p) (erases-named m done g)
+    subst (λ (q : Account). OnlyNamed (first (plainOf m)) (asked (m .state .registers .count)) (plainOf m) (q .left)) (sym u ∙ p) (erases-named m done g)

@@ -1,5 +1,5 @@
 -- Reading: each read of the data port keeps the account.
-use Prim.Native.Nat.{ℕ, _+_, _-_, _*_, _/_, _%_, _<_}
+use Prim.Native.Nat.{ℕ, _+_, _*_, _/_, _%_, _<_}
 use mathlib.Core.Path.{_≡_, refl}
 use mathlib.Core.List.{List, [], _∷_, _++_}
 use native.Mathlib.Omega.{arith}
@@ -8,14 +8,15 @@ use Rattle.maps.specs.declared.Port.{Port}
 use Rattle.registers.specs.declared.Half.{Half}
 use Rattle.registers.specs.declared.Transfer.{Transfer}
 use Rattle.registers.specs.declared.Phase.the-variants.{DataIn}
-use Rattle.registers.specs.State.{Machine}
+use Rattle.registers.specs.Machine.{Machine}
 use Rattle.port.specs.Halves.{takeOf, halved}
 use Rattle.port.specs.declared.Part.{Part}
 use Rattle.port.specs.Data.{withPhase, wordRead, takenRead, phaseRead}
 use Rattle.transfers.specs.declared.Way.the-variants.{In}
 use Rattle.account.specs.Plain.{Account, moving}
-use Rattle.account.specs.Host.{plainOf, Waiting, None, LowByte, HighByte, Notes, noteRead}
-use Rattle.account.proofs.Rest.{restAt, rest, Ground, Running, Pending, Rel, account-word}
+use Rattle.account.specs.Host.{plainOf}
+use Rattle.account.specs.Notes.{Waiting, None, LowByte, HighByte, Notes, noteRead}
+use Rattle.account.proofs.Rest.{restAt, rest, Ground, Running, Pending, Rel, notes, account-word}
 use Rattle.account.proofs.Reading.{word-rest}
 use Rattle.account.proofs.ReadHeld.{word-held}
 
@@ -24,9 +25,6 @@ word-low l h p = omega arith
 
 word-high : (l h : ℕ) → l < 256 → (l + 256 * h) / 256 ≡ h
 word-high l h p = omega arith
-
-abbrev notes : List ℕ → Waiting → Notes
-notes l w = record { done = l; waiting = w }
 
 module _ (plain : List ℕ → Account) (t : Transfer) (m : Machine) (l : List ℕ) (w : Waiting) (g : Ground In m) (r : Running In t (plainOf m) w)
     (a : (d : List ℕ) → plain (l ++ d) ≡ moving l (restAt (DataIn t) (plainOf m) d)) where
@@ -53,22 +51,22 @@ taken-keeps : (plain : List ℕ → Account) (h : Half) (w : Waiting) (port : Po
     ((d : List ℕ) → plain (l ++ d) ≡ moving l (restAt (DataIn t) (plainOf m) d)) → Rel In plain m (notes l w) →
     Rel In plain (takenRead (takeOf h port) t m .next) (noteRead (takenRead (takeOf h port) t m .outcome) port (notes l w))
 unfolding takeOf
-taken-keeps plain Half.Nothing None Port.Low t m l p g r a z = low-read plain t m l None g r a
-taken-keeps plain Half.Nothing None Port.High t m l p g r a z = high-read plain t m l None g r a
+taken-keeps plain Half.Nothing None Port.Even t m l p g r a z = low-read plain t m l None g r a
+taken-keeps plain Half.Nothing None Port.Odd t m l p g r a z = high-read plain t m l None g r a
 taken-keeps plain Half.Nothing None Port.Word t m l p g r a z =
     rw (word-low (getD (m .buffer) (2 * t .words) 0) (getD (m .buffer) (2 * t .words + 1) 0) (r .2 _), word-high (getD (m .buffer) (2 * t .words) 0) (getD (m .buffer) (2 * t .words + 1) 0) (r .2 _))
     (whole-read plain t m l None g r a)
 taken-keeps plain Half.Nothing (LowByte b) port t m l p g r a z = absurd p
 taken-keeps plain Half.Nothing (HighByte b) port t m l p g r a z = absurd p
 taken-keeps plain Half.Low None port t m l p g r a z = absurd p
-taken-keeps plain Half.Low (LowByte b) Port.Low t m l p g r a z = rw p (whole-read plain t m l (LowByte b) g r a)
-taken-keeps plain Half.Low (LowByte b) Port.High t m l p g r a z = rw p (whole-read plain t m l (LowByte b) g r a)
+taken-keeps plain Half.Low (LowByte b) Port.Even t m l p g r a z = rw p (whole-read plain t m l (LowByte b) g r a)
+taken-keeps plain Half.Low (LowByte b) Port.Odd t m l p g r a z = rw p (whole-read plain t m l (LowByte b) g r a)
 taken-keeps plain Half.Low (LowByte b) Port.Word t m l p g r a z = z
 taken-keeps plain Half.Low (HighByte b) port t m l p g r a z = absurd p
 taken-keeps plain Half.High None port t m l p g r a z = absurd p
 taken-keeps plain Half.High (LowByte b) port t m l p g r a z = absurd p
-taken-keeps plain Half.High (HighByte b) Port.Low t m l p g r a z = rw p (whole-read plain t m l (HighByte b) g r a)
-taken-keeps plain Half.High (HighByte b) Port.High t m l p g r a z = z
+taken-keeps plain Half.High (HighByte b) Port.Even t m l p g r a z = rw p (whole-read plain t m l (HighByte b) g r a)
+taken-keeps plain Half.High (HighByte b) Port.Odd t m l p g r a z = z
 taken-keeps plain Half.High (HighByte b) Port.Word t m l p g r a z = z
 
 pub read-keeps : (plain : List ℕ → Account) (t : Transfer) (port : Port) (m : Machine) (q : Notes) → Ground In m → Running In t (plainOf m) (q .waiting) →

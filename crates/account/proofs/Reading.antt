@@ -16,10 +16,10 @@ use Rattle.registers.specs.declared.Load.{Load}
 use Rattle.registers.specs.declared.Load.the-variants.{Sectors, Buffer}
 use Rattle.registers.specs.declared.Transfer.{Transfer}
 use Rattle.registers.specs.declared.Phase.the-variants.{DataIn}
-use Rattle.registers.specs.State.{Machine}
-use Rattle.registers.specs.WellMade.{locatedIn}
+use Rattle.registers.specs.State.{locatedIn}
+use Rattle.registers.specs.Machine.{Machine}
 use Rattle.transfers.specs.declared.Tested.{Tested}
-use Rattle.transfers.specs.Steps.{withState, passed, readTested, readSector, nextRead, loadRead}
+use Rattle.transfers.specs.Steps.{idleWith, sectorDone, readTested, readSector, nextRead, loadRead, dropped}
 use Rattle.port.specs.Halves.{nextWord}
 use Rattle.port.specs.Data.{withPhase}
 use Rattle.account.specs.Plain.{Plain, Ending, Unreadable, moving, withBuffer}
@@ -28,7 +28,7 @@ use Rattle.account.specs.Runs.{tried, runFrom, tests, unreadable, sector
 use Rattle.account.specs.Host.{plainOf}
 use Rattle.account.proofs.Seats.{Shaped, Seated, Where, courseIn, onward, passed-on, seat-next, room-total}
 use Rattle.account.proofs.Tried.{stops-run, stops-ends, read-tested}
-use Rattle.account.proofs.Stored.{Lent}
+use Rattle.account.proofs.Stored.{LentFor}
 use Rattle.account.proofs.Verifying.{where-good, seated-last}
 use Rattle.account.proofs.Rest.{bare, here, doneIn, restAt, rest, run-status, Loaded}
 
@@ -42,7 +42,7 @@ pub pred : (n : ℕ) → suc n - 1 ≡ n
 pred n = omega arith
 
 -- a sector to be read
-pub read-rest : (n : ℕ) (c : Course) (i : ℕ) (m : Machine) (d : List ℕ) → Shaped (m .state .made) (m .state .current) → Lent (totalOf (m .state .made .default)) (m .store) (m .marks) →
+pub read-rest : (n : ℕ) (c : Course) (i : ℕ) (m : Machine) (d : List ℕ) → Shaped (m .state .made) (m .state .current) → LentFor (totalOf (m .state .made .default)) (m .store) (m .marks) →
     Seated c i (suc n) (m .state) → Where c i (m .state) → rest (readSector (suc n) m) d ≡ readSectors c i (suc n) (plainOf m)
 unfolding readSector readSectors runFrom restAt doneIn sectorsFrom lastSector
 read-rest n c i m d h l q w =
@@ -58,16 +58,16 @@ read-rest n c i m d h l q w =
     (λ f z. rw (stops-run f z c (suc n) i (runFrom (tests unreadable Unreadable c (m .marks)) (i + 1) n) (plainOf m), stops-ends f true z c (suc n) i (m .state) (m .buffer) (m .store) (m .marks) q))
 
 -- the last byte of sector i has gone
-pub next-rest : (n : ℕ) (c : Course) (i : ℕ) (m : Machine) (d : List ℕ) → Shaped (m .state .made) (m .state .current) → Lent (totalOf (m .state .made .default)) (m .store) (m .marks) →
+next-rest : (n : ℕ) (c : Course) (i : ℕ) (m : Machine) (d : List ℕ) → Shaped (m .state .made) (m .state .current) → LentFor (totalOf (m .state .made .default)) (m .store) (m .marks) →
     Seated c i (suc n) (m .state) → locatedIn (m .state) ≡ Located.Good (record { index = i }) → rest (nextRead n m) d ≡ readSectors c (i + 1) n (plainOf m)
 unfolding nextRead
-next-rest zero c i m d h l q e = unfold passed restAt readSectors runFrom sectorsFrom lastSector in rw (seated-last c i 1 (m .state) q)
+next-rest zero c i m d h l q e = unfold sectorDone restAt readSectors runFrom sectorsFrom lastSector in rw (seated-last c i 1 (m .state) q)
 next-rest (suc n) c i m d h l q e =
     let z = seat-next c (suc n) i (m .state) h e (q .2) in
-    let y = read-rest n c (i + 1) (withState (onward (suc n) (m .state)) m) d h l (z .0) (z .1) in
+    let y = read-rest n c (i + 1) (idleWith (onward (suc n) (m .state)) m) d h l (z .0) (z .1) in
     rw (passed-on n (m .state), ne-eqb (suc n) 0 (omega arith)) (y ∙ (unfold readSectors in refl))
 
-pub load-rest : (l : Load) (m : Machine) (d : List ℕ) → Shaped (m .state .made) (m .state .current) → Lent (totalOf (m .state .made .default)) (m .store) (m .marks) → Loaded l (bare (plainOf m)) →
+load-rest : (l : Load) (m : Machine) (d : List ℕ) → Shaped (m .state .made) (m .state .current) → LentFor (totalOf (m .state .made .default)) (m .store) (m .marks) → Loaded l (bare (plainOf m)) →
     rest (loadRead l m) d ≡ doneIn l (plainOf m)
 unfolding doneIn
 load-rest Buffer m d h l k = unfold restAt in refl
@@ -83,11 +83,11 @@ drop-two b w h =
 
 -- a word has gone
 pub word-rest : (b : Bool) (t : Transfer) (m : Machine) (d e : List ℕ) → ltb (t .words) 255 ≡ b → t .words < 256 → length (m .buffer) ≡ 512 →
-    Shaped (m .state .made) (m .state .current) → Lent (totalOf (m .state .made .default)) (m .store) (m .marks) → Loaded (t .load) (bare (plainOf m)) →
+    Shaped (m .state .made) (m .state .current) → LentFor (totalOf (m .state .made .default)) (m .store) (m .marks) → Loaded (t .load) (bare (plainOf m)) →
     restAt (DataIn t) (plainOf m) e
-    ≡ moving (getD (m .buffer) (2 * t .words) 0 ∷ getD (m .buffer) (2 * t .words + 1) 0 ∷ []) (rest (pick b (withPhase (DataIn (nextWord t)) m) (loadRead (t .load) (withState (m .state) m))) d)
+    ≡ moving (getD (m .buffer) (2 * t .words) 0 ∷ getD (m .buffer) (2 * t .words + 1) 0 ∷ []) (rest (pick b (withPhase (DataIn (nextWord t)) m) (loadRead (t .load) (dropped m))) d)
 unfolding restAt
 word-rest true t m d e q w f h l k = rw (drop-two (m .buffer) (t .words) (omega (arith, ltb-true)))
 word-rest false t m d e q w f h l k =
     let z : drop (2 * (t .words + 1)) (m .buffer) ≡ [] = drop-of-length-le (m .buffer) {i = 2 * (t .words + 1)} (omega (arith, ltb-false)) in
-    rw (drop-two (m .buffer) (t .words) (omega (arith, ltb-false)), z, load-rest (t .load) (withState (m .state) m) d h l k)
+    rw (drop-two (m .buffer) (t .words) (omega (arith, ltb-false)), z, load-rest (t .load) (dropped m) d h l k)

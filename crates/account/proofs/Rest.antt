@@ -6,8 +6,7 @@ use mathlib.Core.List.{List, [], _∷_, _++_, append-assoc}
 use native.Mathlib.Omega.{arith}
 use lib.ListN.{length, take, drop, set, getD}
 use Rattle.geometry.specs.declared.Located.{Located}
-use Rattle.geometry.specs.Codes.{indexOf}
-use Rattle.geometry.specs.Address.{locate}
+use Rattle.geometry.specs.Address.{indexOf, locate}
 use Rattle.geometry.specs.Limits.{totalOf}
 use Rattle.registers.specs.declared.Half.{Half}
 use Rattle.registers.specs.declared.Load.{Load}
@@ -16,21 +15,18 @@ use Rattle.registers.specs.declared.Transfer.{Transfer}
 use Rattle.registers.specs.declared.Phase.{Phase}
 use Rattle.registers.specs.declared.Phase.the-variants.{Idle, DataIn, DataOut}
 use Rattle.registers.specs.declared.State.{State}
-use Rattle.registers.specs.State.{Machine, sresetIn}
-use Rattle.registers.specs.WellMade.{locatedIn}
+use Rattle.registers.specs.State.{sresetIn, locatedIn}
+use Rattle.registers.specs.Machine.{Machine}
 use Rattle.transfers.specs.declared.Way.{Way}
 use Rattle.transfers.specs.declared.Way.the-variants.{In, Out}
 use Rattle.account.specs.Plain.{Plain, withBuffer, withStore, withStatus, Ending, Well, NotFound, Unreadable, WriteFault, Aborted, ends, Account, silent, moving}
 use Rattle.account.specs.Course.{Course, courseOf, named}
 use Rattle.account.specs.Runs.{Run, stopped, runEnds, unwritable, putSector, readSectors, writeSectors}
-use Rattle.account.specs.Host.{plainOf, plainIn, Waiting, None, LowByte, HighByte, Notes}
-use Rattle.account.specs.Claim.{Bytes}
+use Rattle.account.specs.Host.{plainOf, plainIn}
+use Rattle.account.specs.Notes.{Waiting, None, LowByte, HighByte, Notes}
+use Rattle.account.specs.Claim.{AllBytes}
 use Rattle.account.proofs.Seats.{Shaped, Seated}
-use Rattle.account.proofs.Stored.{Lent}
-
--- the account's card with another buffer
-abbrev pub overBuffer : List ℕ → Plain → Plain
-overBuffer b p = withBuffer b p
+use Rattle.account.proofs.Stored.{LentFor}
 
 -- the sector at hand
 abbrev pub located : Plain → Located
@@ -71,7 +67,7 @@ rest m d = restAt (m .phase) (plainOf m) d
 -- ---- what holds while a transfer runs
 
 abbrev pub ByteWise : Way → List ℕ → Type 0
-ByteWise In l = Bytes l
+ByteWise In l = AllBytes l
 ByteWise Out l = Unit {0}
 
 -- what waits with the host is what stands in the buffer
@@ -99,7 +95,7 @@ Loaded (Sectors left) p =
 abbrev pub Ground : Way → Machine → Type 0
 Ground way m =
     Shaped (m .state .made) (m .state .current)
-    × Lent (totalOf (m .state .made .default)) (m .store) (m .marks)
+    × LentFor (totalOf (m .state .made .default)) (m .store) (m .marks)
     × ByteWise way (m .store)
     × (m .state .control .held ≡ false)
     × (sresetIn (m .state .option) ≡ false)
@@ -137,6 +133,9 @@ Between way m q = Ground way m × Held way (m .phase) (plainOf m) q
 
 pub loaded-of : (c : Course) (i n : ℕ) (s : State) → Seated c i (suc n) s → locatedIn s ≡ Located.Good (record { index = i }) → Loaded (Sectors (suc n)) (plainIn s [] [] [])
 loaded-of c i n s q e = (rw e refl, omega arith, q .0, rw (q .2, e) (q .1))
+
+abbrev pub notes : List ℕ → Waiting → Notes
+notes l w = record { done = l; waiting = w }
 
 -- a word moves on in the notes
 pub account-word : (plain old new : List ℕ → Account) (l : List ℕ) (a b : ℕ) →

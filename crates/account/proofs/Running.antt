@@ -1,10 +1,10 @@
 -- The theorem is about what runs: a list of calls of `Card::access`, each as the code promises, ends as the account says.
 use Prim.Native.Nat.{ℕ}
 use mathlib.Core.Bool.{false}
-use mathlib.Core.Path.{_≡_, sym, ap, _∙_}
+use mathlib.Core.Path.{_≡_, sym, ap, _∙_, subst}
 use mathlib.Core.List.{List, [], _∷_}
 use Rattle.maps.specs.declared.Register.the-variants.{StatusCommand}
-use Rattle.registers.specs.State.{Machine}
+use Rattle.registers.specs.Machine.{Machine}
 use Rattle.registers.specs.WellMade.{heldIn}
 use Rattle.transfers.specs.declared.Way.{Way}
 use Rattle.card.specs.declared.Card.{Card}
@@ -14,8 +14,9 @@ use Rattle.card.specs.Step.{Stepped, step}
 use Rattle.card.specs.Doors.{machineOf}
 use Rattle.account.specs.Rows.{rowOf}
 use Rattle.account.specs.Table.{account}
-use Rattle.account.specs.Host.{plainOf, Notes, blank, note, wayOf, Moves, hosted}
-use Rattle.account.specs.Claim.{Typed}
+use Rattle.account.specs.Host.{plainOf, Moves, hosted}
+use Rattle.account.specs.Notes.{Notes, noNotes, note, wayOf}
+use Rattle.account.specs.Claim.{Typed, Agrees}
 use Rattle.account.specs.Running.{Called}
 use Rattle.account.proofs.Theorem.{as-the-account}
 
@@ -27,18 +28,19 @@ called-is (a ∷ l) c store marks k way q e =
     let n = note way (meaning m a) (step m a .outcome) q in
     ap (λ (s : Stepped). hosted way (s .next) n l .machine) (sym (e .3)) ∙ called-is l (e .0 .card) (e .1) (e .2) k way n (e .4)
 
--- A card in neither reset, a call that writes a command, and calls that move its data: data, store, marks and card are those of the account.
+-- A card in neither reset, a call that writes a command, and calls that move its data: data, store, marks and card are those of the account, no transfer runs, and no reset holds.
+-- The notes are those of `step`, which the promise makes the answers of the calls.
 pub code-as-the-account : (c : Card) (store marks : List ℕ) (a : Access) (v : ℕ) (l : List Access) (k : Machine) →
     meaning (machineOf c store marks) a ≡ WriteRegister StatusCommand v →
     heldIn (c .state) ≡ false →
     Typed (machineOf c store marks) →
     Moves (step (machineOf c store marks) a .next) l →
     Called c store marks (a ∷ l) k →
-    let done = hosted (wayOf (rowOf v)) (step (machineOf c store marks) a .next) blank l .notes .done in
-    account (rowOf v) (plainOf (machineOf c store marks)) done ≡ record { moved = done; left = plainOf k }
+    Agrees (account (rowOf v) (plainOf (machineOf c store marks))) (record { machine = k; notes = hosted (wayOf (rowOf v)) (step (machineOf c store marks) a .next) noNotes l .notes })
 code-as-the-account c store marks a v l k e h t x z =
     let m = machineOf c store marks in
     let way = wayOf (rowOf v) in
-    let w : hosted way (step m a .next) blank l .machine ≡ k =
-    ap (λ (s : Stepped). hosted way (s .next) blank l .machine) (sym (z .3)) ∙ called-is l (z .0 .card) (z .1) (z .2) k way blank (z .4) in
-    as-the-account m a v l e h t x .account ∙ ap (λ (y : Machine). record { moved = hosted way (step m a .next) blank l .notes .done; left = plainOf y }) w
+    let w : hosted way (step m a .next) noNotes l .machine ≡ k =
+    ap (λ (s : Stepped). hosted way (s .next) noNotes l .machine) (sym (z .3)) ∙ called-is l (z .0 .card) (z .1) (z .2) k way noNotes (z .4) in
+    subst (λ (y : Machine). Agrees (account (rowOf v) (plainOf m)) (record { machine = y; notes = hosted way (step m a .next) noNotes l .notes })) w
+    (as-the-account m a v l e h t x)

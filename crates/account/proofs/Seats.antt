@@ -1,5 +1,5 @@
 -- A run's registers: at index i with n sectors left; and how they go on to the next index.
-use Prim.Native.Nat.{ℕ, suc, _+_, _-_, _%_, _≤_, _<_}
+use Prim.Native.Nat.{ℕ, suc, _+_, _%_, _≤_, _<_}
 use mathlib.Core.Bool.{Bool, true, false}
 use mathlib.Core.Path.{_≡_, refl, sym, ap, subst}
 use mathlib.Core.List.{List, []}
@@ -18,9 +18,8 @@ use Rattle.geometry.proofs.Kept.{Bytes, next-kept}
 use Rattle.geometry.proofs.Next.{next-law}
 use Rattle.registers.specs.declared.Made.{Made}
 use Rattle.registers.specs.declared.State.{State}
-use Rattle.registers.specs.State.{withCount, withAddress}
-use Rattle.registers.specs.WellMade.{locatedIn}
-use Rattle.transfers.specs.Steps.{passed}
+use Rattle.registers.specs.State.{withCount, withAddress, locatedIn}
+use Rattle.transfers.specs.Steps.{sectorDone}
 use Rattle.account.specs.Plain.{sectorsOf, withPlace}
 use Rattle.account.specs.Course.{Course, courseOf, named}
 use Rattle.account.specs.Host.{plainIn}
@@ -56,12 +55,12 @@ pub seat-address : (s : State) (i : ℕ) → Bytes (s .registers .address) → l
 unfolding named
 seat-address s i b e = sym (named-self (s .registers .address) (s .current) (totalOf (s .made .default)) (record { index = i }) b e)
 
--- the next one: `passed` moves the registers on
+-- the next one: `sectorDone` moves the registers on
 abbrev pub onward : ℕ → State → State
 onward n s = withCount (n % 256) (withAddress (nextOf (s .registers .address) (s .current)) s)
 
-pub passed-on : (n : ℕ) (s : State) → passed (suc n) s ≡ onward (suc n) s
-unfolding passed
+pub passed-on : (n : ℕ) (s : State) → sectorDone (suc n) s ≡ onward (suc n) s
+unfolding sectorDone
 passed-on n s = rw (ne-eqb (suc n) 0 (omega arith))
 
 course-kept : (n : ℕ) (s : State) → courseIn (onward n s) ≡ courseIn s

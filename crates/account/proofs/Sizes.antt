@@ -12,11 +12,11 @@ use Rattle.registers.specs.declared.Transfer.{Transfer}
 use Rattle.registers.specs.declared.Phase.{Phase}
 use Rattle.registers.specs.declared.Phase.the-variants.{Idle, DataIn, DataOut}
 use Rattle.registers.specs.declared.State.{State}
-use Rattle.registers.specs.State.{Machine}
+use Rattle.registers.specs.Machine.{Machine}
 use Rattle.transfers.specs.declared.Tested.{Tested}
 use Rattle.transfers.specs.declared.Tested.the-variants.{Passes, Fails}
 use Rattle.transfers.specs.Before.{addressTest, readTest, sectorStored}
-use Rattle.transfers.specs.Steps.{withState, passed, readTested, readSector, nextRead, loadRead, askTested, askSector, nextAsked, coreWritten, loadWritten}
+use Rattle.transfers.specs.Steps.{idleWith, sectorDone, readTested, readSector, nextRead, loadRead, askTested, askSector, nextAsked, coreWritten, loadWritten, dropped}
 use Rattle.registers.specs.declared.Core.{Core}
 use Rattle.port.specs.Halves.{nextWord}
 use Rattle.port.specs.Data.{withPhase, wordRead, wordWritten}
@@ -46,20 +46,20 @@ read-by : (x : Tested) (n : ℕ) (m : Machine) → size (readTested x n m .phase
 read-by (Passes spot) n m = omega arith
 read-by (Fails e) n m = omega arith
 
-next-by : (b : Bool) (n : ℕ) (m : Machine) (s : State) (k : Machine) → size (k .phase) ≡ 0 → size (pick b k (readSector n (withState s m)) .phase) ≤ 256 * n
+next-by : (b : Bool) (n : ℕ) (m : Machine) (s : State) (k : Machine) → size (k .phase) ≡ 0 → size (pick b k (readSector n (idleWith s m)) .phase) ≤ 256 * n
 unfolding readSector
 next-by true n m s k e = omega arith
-next-by false n m s k e = read-by (readTest s (m .marks)) n (withState s m)
+next-by false n m s k e = read-by (readTest s (m .marks)) n (idleWith s m)
 
 load-size : (l : Load) (m : Machine) → size (loadRead l m .phase) ≤ 256 * (leftIn l - 1)
 unfolding nextRead
 load-size Buffer m = omega arith
-load-size (Sectors left) m = next-by (eqb (left - 1) 0) (left - 1) m (passed (left - 1) (m .state)) _ refl
+load-size (Sectors left) m = next-by (eqb (left - 1) 0) (left - 1) m (sectorDone (left - 1) (m .state)) _ refl
 
 read-word : (b : Bool) (t : Transfer) (m : Machine) → ltb (t .words) 255 ≡ b → t .words < 256 → 1 ≤ leftIn (t .load) →
-    suc (size (pick b (withPhase (DataIn (nextWord t)) m) (loadRead (t .load) (withState (m .state) m)) .phase)) ≤ sizeOf t
+    suc (size (pick b (withPhase (DataIn (nextWord t)) m) (loadRead (t .load) (dropped m)) .phase)) ≤ sizeOf t
 read-word true t m e w l = let h : t .words < 255 = ltb-true _ _ e in omega arith
-read-word false t m e w l = let h : 255 ≤ t .words = ltb-false _ _ e in let k = load-size (t .load) (withState (m .state) m) in omega arith
+read-word false t m e w l = let h : 255 ≤ t .words = ltb-false _ _ e in let k = load-size (t .load) (dropped m) in omega arith
 
 pub read-less : (t : Transfer) (m : Machine) → t .words < 256 → 1 ≤ leftIn (t .load) → suc (size (wordRead t m .phase)) ≤ sizeOf t
 unfolding wordRead
@@ -82,7 +82,7 @@ pick-phase false x y = refl
 
 written-by : (x : Tested) (n : ℕ) (s : State) → size (coreWritten x n s .phase) ≤ 256 * n
 unfolding nextAsked
-written-by (Passes spot) n s = rw (pick-phase (eqb n 0) _ (askSector n false (passed n s))) (asked-by (eqb n 0) n (passed n s) Idle refl)
+written-by (Passes spot) n s = rw (pick-phase (eqb n 0) _ (askSector n false (sectorDone n s))) (asked-by (eqb n 0) n (sectorDone n s) Idle refl)
 written-by (Fails e) n s = omega arith
 
 written-size : (l : Load) (m : Machine) → size (loadWritten l m .phase) ≤ 256 * (leftIn l - 1)
@@ -90,9 +90,9 @@ written-size Buffer m = omega arith
 written-size (Sectors left) m = written-by (sectorStored (m .state) (m .buffer) (m .store) (m .marks) .tested) (left - 1) (m .state)
 
 write-word : (b : Bool) (t : Transfer) (m : Machine) → ltb (t .words) 255 ≡ b → t .words < 256 → 1 ≤ leftIn (t .load) →
-    suc (size (pick b (withPhase (DataOut (nextWord t)) m) (loadWritten (t .load) (withState (m .state) m)) .phase)) ≤ sizeOf t
+    suc (size (pick b (withPhase (DataOut (nextWord t)) m) (loadWritten (t .load) (dropped m)) .phase)) ≤ sizeOf t
 write-word true t m e w l = let h : t .words < 255 = ltb-true _ _ e in omega arith
-write-word false t m e w l = let h : 255 ≤ t .words = ltb-false _ _ e in let k = written-size (t .load) (withState (m .state) m) in omega arith
+write-word false t m e w l = let h : 255 ≤ t .words = ltb-false _ _ e in let k = written-size (t .load) (dropped m) in omega arith
 
 pub write-less : (t : Transfer) (m : Machine) → t .words < 256 → 1 ≤ leftIn (t .load) → suc (size (wordWritten t m .phase)) ≤ sizeOf t
 unfolding wordWritten

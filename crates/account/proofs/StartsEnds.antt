@@ -8,12 +8,13 @@ use Rattle.registers.specs.declared.Load.{Load}
 use Rattle.registers.specs.declared.Load.the-variants.{Buffer}
 use Rattle.registers.specs.declared.Phase.the-variants.{DataIn, DataOut}
 use Rattle.registers.specs.declared.State.{State}
-use Rattle.registers.specs.State.{machine, withError}
+use Rattle.registers.specs.State.{withError}
+use Rattle.registers.specs.Machine.{machine}
 use Rattle.transfers.specs.declared.End.{End}
 use Rattle.transfers.specs.declared.Way.{Way}
 use Rattle.transfers.specs.declared.Way.the-variants.{In, Out}
 use Rattle.transfers.specs.Ends.{ended}
-use Rattle.transfers.specs.Steps.{fresh, begun}
+use Rattle.transfers.specs.Steps.{newTransfer, begun}
 use Rattle.commands.specs.Table.{started, diagnosed}
 use Rattle.account.specs.Plain.{Plain, withBuffer, withStatus, starts, Ending, Well, ends, silent, moving}
 use Rattle.account.specs.Table.{diagnoses, senses}
@@ -40,11 +41,11 @@ sensed-is s b t k = ended-ends End.Good true (withError (s .code) s) b t k
 -- ---- the buffer
 
 -- of a transfer just begun all is left: the whole buffer to be read, 512 bytes to be written
-pub buffer-in : (p : Plain) (d : List ℕ) → restAt (DataIn (fresh Buffer)) p d ≡ moving (p .buffer) (silent (ends Well p))
+buffer-in : (p : Plain) (d : List ℕ) → restAt (DataIn (newTransfer Buffer)) p d ≡ moving (p .buffer) (silent (ends Well p))
 unfolding restAt doneIn
 buffer-in p d = refl
 
-pub buffer-out : (p : Plain) (d : List ℕ) → restAt (DataOut (fresh Buffer)) p d ≡ moving (take 512 d) (silent (ends Well (withBuffer (take 512 d) p)))
+buffer-out : (p : Plain) (d : List ℕ) → restAt (DataOut (newTransfer Buffer)) p d ≡ moving (take 512 d) (silent (ends Well (withBuffer (take 512 d) p)))
 unfolding restAt doneOut
 buffer-out p d = refl
 

@@ -1,5 +1,5 @@
 -- A stored sector: the machine's store and marks are the account's, their lengths stay, and the tests of later sectors see nothing of it.
-use Prim.Native.Nat.{ℕ, zero, suc, _+_, _-_, _*_, _/_, _<_}
+use Prim.Native.Nat.{ℕ, zero, suc, _+_, _*_, _/_, _<_}
 use mathlib.Core.Bool.{Bool}
 use mathlib.Core.Path.{_≡_, refl, _∙_}
 use mathlib.Core.List.{List}
@@ -7,26 +7,27 @@ use native.Mathlib.Omega.{arith}
 use lib.ListN.{length, set, length-append, length-take, length-drop, length-set}
 use lib.Seq.{getD-set-other}
 use borrow.Author.Tests.{lt-ltb}
-use Rattle.sectors.specs.Sectors.{kept, stored, withSector}
+use Rattle.sectors.specs.Sectors.{storeMarks, stored, withSector}
 use Rattle.account.specs.Plain.{Ending}
 use Rattle.account.specs.Course.{Course}
 use Rattle.account.specs.Runs.{runFrom, tests, putSector}
 
 -- a store and marks of n sectors
-abbrev pub Lent : ℕ → List ℕ → List ℕ → Type 0
-Lent n store marks = (length store ≡ 512 * n) × (length marks ≡ n)
+abbrev pub LentFor : ℕ → List ℕ → List ℕ → Type 0
+LentFor n store marks = (length store ≡ 512 * n) × (length marks ≡ n)
 
-pub stored-is : (n i : ℕ) (store marks bytes : List ℕ) → i < n → Lent n store marks → stored store marks i bytes ≡ kept (putSector i bytes store) (set marks i 0)
+pub stored-is : (n i : ℕ) (store marks bytes : List ℕ) → i < n → LentFor n store marks → stored store marks i bytes ≡ storeMarks (putSector i bytes store) (set marks i 0)
 unfolding stored withSector
 stored-is n i store marks bytes h l =
     let q : length store / 512 ≡ n = rw (l .0) (omega arith) in
     let e : 512 * (i + 1) ≡ 512 * i + 512 = omega arith in
     rw (q, l .1, lt-ltb i n h, e)
 
-pub stored-lent : (n i : ℕ) (store marks bytes : List ℕ) → i < n → Lent n store marks → length bytes ≡ 512 → Lent n (putSector i bytes store) (set marks i 0)
-stored-lent n i store marks bytes h l e =
-    let z = l .0 in
-    (simp (length-append, length-take, length-drop) (omega arith), length-set marks i 0 ∙ l .1)
+pub put-length : (i n : ℕ) (b s : List ℕ) → i < n → length b ≡ 512 → length s ≡ 512 * n → length (putSector i b s) ≡ 512 * n
+put-length i n b s h e f = simp (length-append, length-take, length-drop) (omega arith)
+
+pub stored-lent : (n i : ℕ) (store marks bytes : List ℕ) → i < n → LentFor n store marks → length bytes ≡ 512 → LentFor n (putSector i bytes store) (set marks i 0)
+stored-lent n i store marks bytes h l e = (put-length i n bytes store h e (l .0), length-set marks i 0 ∙ l .1)
 
 test-later : (forbids : ℕ → Bool) (e : Ending) (c : Course) (marks : List ℕ) (i j : ℕ) → i < j → tests forbids e c (set marks i 0) j ≡ tests forbids e c marks j
 unfolding tests

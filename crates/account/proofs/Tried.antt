@@ -15,6 +15,7 @@ use Rattle.transfers.specs.declared.Tested.{Tested}
 use Rattle.transfers.specs.declared.Tested.the-variants.{Passes, Fails}
 use Rattle.transfers.specs.Ends.{ended}
 use Rattle.transfers.specs.Before.{addressTest, testedOf, markTested, readTest, storeTest}
+use Rattle.kept.proofs.Ends.{bad}
 use Rattle.account.specs.Plain.{Plain, Ending, Well, NotFound, Unreadable, WriteFault, Aborted, ends, withPlace}
 use Rattle.account.specs.Course.{Course, named}
 use Rattle.account.specs.Runs.{Run, tried, stopped, tests, unreadable, unwritable, runEnds}
@@ -31,16 +32,6 @@ endingOf End.Unreadable = Unreadable
 endingOf End.WriteFault = WriteFault
 endingOf End.BadGeometry = Aborted 0x21
 endingOf End.NoSuchCommand = Aborted 0x20
-
-abbrev pub bad : End → Bool
-bad End.Good = false
-bad End.BadHeadOrSector = true
-bad End.BadCylinder = true
-bad End.BadLba = true
-bad End.Unreadable = true
-bad End.WriteFault = true
-bad End.BadGeometry = true
-bad End.NoSuchCommand = true
 
 pub ended-ends : (e : End) (mark : Bool) (s : State) (b t k : List ℕ) → plainIn (ended e mark s .state) b t k ≡ ends (endingOf e) (plainIn s b t k)
 ended-ends End.Good mark s b t k = refl

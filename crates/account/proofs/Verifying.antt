@@ -7,9 +7,9 @@ use native.Mathlib.Omega.{arith}
 use borrow.Author.Tests.{lt-ltb}
 use Rattle.geometry.specs.declared.Located.{Located}
 use Rattle.registers.specs.declared.State.{State}
-use Rattle.registers.specs.WellMade.{locatedIn}
+use Rattle.registers.specs.State.{locatedIn}
 use Rattle.transfers.specs.declared.Tested.{Tested}
-use Rattle.transfers.specs.Steps.{passed}
+use Rattle.transfers.specs.Steps.{sectorDone}
 use Rattle.commands.specs.Runs.{goesOn, verifyFrom}
 use Rattle.account.specs.Plain.{Ending, Well, Unreadable}
 use Rattle.account.specs.Course.{Course, named}
@@ -33,13 +33,13 @@ pub verify-is : (n : ℕ) (c : Course) (i : ℕ) (s : State) (b t k : List ℕ) 
 unfolding verifyFrom verifySectors runFrom
 verify-is zero c i s b t k h q w =
     read-tested c i s k
-    (λ (x : Tested) (e : Ending). plainIn (goesOn x (λ y. y) s (verifyFrom 0 (passed 0 s) k) .state) b t k ≡ runEnds c (tried e 1 i (stopped Well 0 (i + 1))) (plainIn s b t k))
+    (λ (x : Tested) (e : Ending). plainIn (goesOn x (λ y. y) s (verifyFrom 0 (sectorDone 0 s) k) .state) b t k ≡ runEnds c (tried e 1 i (stopped Well 0 (i + 1))) (plainIn s b t k))
     w
-    (λ r. unfold passed in rw (seated-last c i 1 s q))
+    (λ r. unfold sectorDone in rw (seated-last c i 1 s q))
     (λ f z. rw (stops-run f z c 1 i (stopped Well 0 (i + 1)) (plainIn s b t k)) (stops-ends f true z c 1 i s b t k q))
 verify-is (suc n) c i s b t k h q w =
     read-tested c i s k
-    (λ (x : Tested) (e : Ending). plainIn (goesOn x (λ y. y) s (verifyFrom (suc n) (passed (suc n) s) k) .state) b t k ≡ runEnds c (tried e (suc (suc n)) i (runFrom (tests unreadable Unreadable c k) (i + 1) (suc n))) (plainIn s b t k))
+    (λ (x : Tested) (e : Ending). plainIn (goesOn x (λ y. y) s (verifyFrom (suc n) (sectorDone (suc n) s) k) .state) b t k ≡ runEnds c (tried e (suc (suc n)) i (runFrom (tests unreadable Unreadable c k) (i + 1) (suc n))) (plainIn s b t k))
     w
     (λ r. let z = seat-next c (suc n) i s h (where-good c i s w r) (q .2) in rw (passed-on n s) (verify-is n c (i + 1) (onward (suc n) s) b t k h (z .0) (z .1)))
     (λ f z. rw (stops-run f z c (suc (suc n)) i (runFrom (tests unreadable Unreadable c k) (i + 1) (suc n)) (plainIn s b t k)) (stops-ends f true z c (suc (suc n)) i s b t k q))

@@ -4,7 +4,7 @@ use mathlib.Core.Bool.{Bool, true, false}
 use mathlib.Core.Path.{_≡_, refl, sym, ap, _∙_}
 use native.Mathlib.Omega.{arith}
 use lib.Dec.{eqb}
-use borrow.Author.Tests.{eq-eqb, leb-true}
+use borrow.Author.Tests.{leb-true}
 use Rattle.ground.specs.Choice.{pick}
 use Rattle.ground.proofs.Every.{each}
 use Rattle.maps.specs.declared.Mode.{Mode}
@@ -15,17 +15,19 @@ use Rattle.maps.specs.Offsets.{memoryAt, within, windowAt, ioAt, offsetAt}
 use Rattle.maps.specs.Places.{misfits, evenData, portAt, placeAt, registerAt}
 use Rattle.maps.specs.Maps.{standsAt}
 use Rattle.registers.specs.declared.State.{State}
-use Rattle.registers.specs.State.{Machine, sresetIn, indexIn}
+use Rattle.registers.specs.State.{sresetIn, indexIn}
+use Rattle.registers.specs.Machine.{Machine}
 use Rattle.registers.specs.WellMade.{indexFits, wellMade}
 use Rattle.card.specs.declared.Meaning.{Meaning}
 use Rattle.card.specs.declared.Meaning.the-variants.{ReadData, WriteData}
 use Rattle.card.specs.Access.{Access, standing, heldAway, decided, meaning}
 use Rattle.kept.specs.Sound.{Sound}
 use Rattle.answers.specs.declared.Refusal.the-variants
+use Rattle.kept.proofs.Decided.{meaning-decided}
 use Rattle.account.specs.Live.{wordAt, wordOf}
 
-abbrev pub moving : Bool → Meaning
-moving write = pick write (WriteData Port.Word 0) (ReadData Port.Word)
+abbrev pub wordMeaning : Bool → Meaning
+wordMeaning write = pick write (WriteData Port.Word 0) (ReadData Port.Word)
 
 abbrev answered : Mode → ℕ → Access → Bool → Meaning
 answered mode index a write =
@@ -33,7 +35,7 @@ answered mode index a write =
     (standing (standsAt (a .space) index (a .address) 2 write 0) write 0 (a .tuples))
     (Meaning.Refused Rattle.answers.specs.declared.Refusal.the-variants.SpaceSilent)
 
-by-map : (mode : Mode) (index : ℕ) (write : Bool) → index ≤ 3 → answered mode index (wordOf mode index write) write ≡ moving write
+by-map : (mode : Mode) (index : ℕ) (write : Bool) → index ≤ 3 → answered mode index (wordOf mode index write) write ≡ wordMeaning write
 unfolding wordOf answersAt cardAnswers standsAt offsetAt memoryAt ioAt windowAt within registerAt placeAt evenData portAt misfits
 by-map TrueIde index true h = refl
 by-map TrueIde index false h = refl
@@ -69,21 +71,17 @@ index-small : (m : Machine) → wellMade (m .phase) (m .state) ≡ true → inde
 unfolding wellMade indexFits
 index-small m e = leb-true _ _ (each _ e 2)
 
-past-rows : (m : Machine) (space address : ℕ) (write : Bool) → Sound m → meaning m (wordAt space address write) ≡ decided (m .state) (wordAt space address write)
-unfolding meaning
-past-rows m space address write s = rw (s .made, eq-eqb _ _ (s .store), eq-eqb _ _ (s .marks))
-
 pub width-two : (mode : Mode) (index : ℕ) (write : Bool) → wordOf mode index write .width ≡ 2
 width-two mode index write = ap (λ (a : Access). a .width) (shaped mode index write)
 
-pub word-means : (m : Machine) (write : Bool) → Sound m → sresetIn (m .state .option) ≡ false → meaning m (wordOf (m .state .made .mode) (indexIn (m .state .option)) write) ≡ moving write
+pub word-means : (m : Machine) (write : Bool) → Sound m → sresetIn (m .state .option) ≡ false → meaning m (wordOf (m .state .made .mode) (indexIn (m .state .option)) write) ≡ wordMeaning write
 word-means m write s h =
     let mode = m .state .made .mode in
     let index = indexIn (m .state .option) in
     let a = wordOf mode index write in
     let e = shaped mode index write in
     ap (meaning m) e
-    ∙ past-rows m (a .space) (a .address) write s
+    ∙ meaning-decided m (wordAt (a .space) (a .address) write) (s .made) (s .store) (s .marks) refl
     ∙ decided-word (m .state) (a .space) (a .address) write h
     ∙ ap (λ (x : Access). answered mode index x write) (sym e)
     ∙ by-map mode index write (index-small m (s .made))

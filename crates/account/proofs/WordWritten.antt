@@ -17,12 +17,12 @@ use Rattle.registers.specs.declared.Load.the-variants.{Sectors, Buffer}
 use Rattle.registers.specs.declared.Transfer.{Transfer}
 use Rattle.registers.specs.declared.Phase.the-variants.{DataOut}
 use Rattle.registers.specs.declared.State.{State}
-use Rattle.registers.specs.State.{Machine, withBuffer}
-use Rattle.registers.specs.WellMade.{locatedIn}
+use Rattle.registers.specs.State.{locatedIn}
+use Rattle.registers.specs.Machine.{Machine, withBuffer}
 use Rattle.transfers.specs.declared.End.{End}
 use Rattle.transfers.specs.declared.Tested.the-variants.{Passes, Fails}
 use Rattle.transfers.specs.Before.{addressTest, storeTest, sectorStored}
-use Rattle.transfers.specs.Steps.{withState, loadWritten}
+use Rattle.transfers.specs.Steps.{loadWritten, dropped}
 use Rattle.port.specs.Halves.{nextWord}
 use Rattle.port.specs.Data.{withPhase}
 use Rattle.account.specs.Plain.{moving}
@@ -30,7 +30,7 @@ use Rattle.account.specs.Runs.{unwritable}
 use Rattle.account.specs.Host.{plainOf}
 use Rattle.account.proofs.Seats.{Shaped, courseIn, seat-room, room-total}
 use Rattle.account.proofs.Tried.{unwrite-opposite}
-use Rattle.account.proofs.Stored.{Lent}
+use Rattle.account.proofs.Stored.{LentFor}
 use Rattle.account.proofs.Reading.{pred}
 use Rattle.account.proofs.Rest.{bare, here, doneOut, restAt, rest, Loaded}
 use Rattle.account.proofs.Writing.{done-over, marked-rest}
@@ -48,7 +48,7 @@ here-inside s h e =
     let y = room-total (courseIn s) s h refl in
     omega arith
 
-pub written-rest : (l : Load) (m : Machine) (d : List ℕ) → Shaped (m .state .made) (m .state .current) → Lent (totalOf (m .state .made .default)) (m .store) (m .marks) → Loaded l (bare (plainOf m)) →
+written-rest : (l : Load) (m : Machine) (d : List ℕ) → Shaped (m .state .made) (m .state .current) → LentFor (totalOf (m .state .made .default)) (m .store) (m .marks) → Loaded l (bare (plainOf m)) →
     rest (loadWritten l m) d ≡ doneOut l (plainOf m) (m .buffer) d
 unfolding doneOut sectorStored
 written-rest Buffer m d h l k = unfold restAt in refl
@@ -61,9 +61,9 @@ written-rest (Sectors (suc n)) m d h l k =
 -- a word has come: l and h stand in the buffer b
 pub word-written-rest : (g : Bool) (t : Transfer) (m : Machine) (b : List ℕ) (l h : ℕ) (d : List ℕ) → ltb (t .words) 255 ≡ g → t .words < 256 → length b ≡ 512 →
     take (2 * (t .words + 1)) b ≡ take (2 * t .words) (m .buffer) ++ (l ∷ h ∷ []) →
-    Shaped (m .state .made) (m .state .current) → Lent (totalOf (m .state .made .default)) (m .store) (m .marks) → Loaded (t .load) (bare (plainOf m)) →
+    Shaped (m .state .made) (m .state .current) → LentFor (totalOf (m .state .made .default)) (m .store) (m .marks) → Loaded (t .load) (bare (plainOf m)) →
     restAt (DataOut t) (plainOf m) (l ∷ h ∷ d)
-    ≡ moving (l ∷ h ∷ []) (rest (pick g (withPhase (DataOut (nextWord t)) (withBuffer b m)) (loadWritten (t .load) (withState (m .state) (withBuffer b m)))) d)
+    ≡ moving (l ∷ h ∷ []) (rest (pick g (withPhase (DataOut (nextWord t)) (withBuffer b m)) (loadWritten (t .load) (dropped (withBuffer b m)))) d)
 unfolding restAt
 word-written-rest true t m b l h d e w n o x y z =
     let q : 512 - 2 * t .words ≡ suc (suc (512 - 2 * (t .words + 1))) = omega (arith, ltb-true) in
@@ -72,7 +72,7 @@ word-written-rest false t m b l h d e w n o x y z =
     let q : 512 - 2 * t .words ≡ 2 = omega (arith, ltb-false) in
     let v : 2 * (t .words + 1) ≡ 512 = omega (arith, ltb-false) in
     let u : b ≡ take (2 * t .words) (m .buffer) ++ (l ∷ h ∷ []) = sym (take-all 512 b (omega arith)) ∙ (rw v at o) in
-    rw (q, written-rest (t .load) (withState (m .state) (withBuffer b m)) d x y z, done-over (t .load) (plainOf m) b, u)
+    rw (q, written-rest (t .load) (dropped (withBuffer b m)) d x y z, done-over (t .load) (plainOf m) b, u)
 
 -- ---- the buffer with a word, or half of one, written
 

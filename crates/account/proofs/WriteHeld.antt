@@ -1,5 +1,5 @@
 -- Writing: what holds between two accesses is kept from sector to sector.
-use Prim.Native.Nat.{ℕ, zero, suc, _+_, _-_, _<_}
+use Prim.Native.Nat.{ℕ, zero, suc, _+_, _<_}
 use mathlib.Core.Bool.{Bool, true, false}
 use mathlib.Core.Path.{_≡_, refl, sym, subst}
 use mathlib.Core.List.{List}
@@ -16,18 +16,19 @@ use Rattle.registers.specs.declared.Load.the-variants.{Sectors, Buffer}
 use Rattle.registers.specs.declared.Transfer.{Transfer}
 use Rattle.registers.specs.declared.Phase.the-variants.{DataOut}
 use Rattle.registers.specs.declared.State.{State}
-use Rattle.registers.specs.State.{Machine, machine, withBuffer}
-use Rattle.registers.specs.WellMade.{locatedIn}
+use Rattle.registers.specs.State.{locatedIn}
+use Rattle.registers.specs.Machine.{Machine, machine, withBuffer}
 use Rattle.transfers.specs.declared.End.{End}
 use Rattle.transfers.specs.declared.Tested.the-variants.{Passes, Fails}
 use Rattle.transfers.specs.Before.{addressTest, testedOf, storedBy, sectorStored}
-use Rattle.transfers.specs.Steps.{idle, withState, passed, askTested, askSector, nextAsked, writtenBy, loadWritten}
+use Rattle.transfers.specs.Steps.{idle, sectorDone, askTested, askSector, nextAsked, writtenBy, loadWritten, dropped}
 use Rattle.port.specs.Halves.{nextWord}
 use Rattle.port.specs.Data.{withPhase}
 use Rattle.transfers.specs.declared.Way.the-variants.{Out}
 use Rattle.account.specs.Course.{Course}
 use Rattle.account.specs.Runs.{putSector}
-use Rattle.account.specs.Host.{plainOf, None, Waiting}
+use Rattle.account.specs.Host.{plainOf}
+use Rattle.account.specs.Notes.{None, Waiting}
 use Rattle.account.proofs.Seats.{Seated, Where, pastEnd, courseIn, onward, passed-on, seat-next}
 use Rattle.account.proofs.Stored.{stored-is, stored-lent}
 use Rattle.account.proofs.Rest.{bare, here, Ground, Running, Between, Loaded, loaded-of}
@@ -54,7 +55,7 @@ ask-held n first c i s b t k e g q w =
 asked-held : (n : ℕ) (c : Course) (i : ℕ) (s : State) (b t k : List ℕ) → length b ≡ 512 → Ground Out (idle s b t k) → Seated c i (suc n) s → locatedIn s ≡ Located.Good (record { index = i }) →
     Between Out (machine (nextAsked n s) b t k) None
 unfolding nextAsked
-asked-held zero c i s b t k f g q e = unfold passed in (g, refl)
+asked-held zero c i s b t k f g q e = unfold sectorDone in (g, refl)
 asked-held (suc n) c i s b t k f g q e =
     let z = seat-next c (suc n) i s (g .0) e (q .2) in
     rw (passed-on n s, ne-eqb (suc n) 0 (omega arith)) (ask-held n false c (i + 1) (onward (suc n) s) b t k f g (z .0) (z .1))
@@ -77,6 +78,6 @@ written-held (Sectors (suc n)) m f g k =
     (marked-held (writable (getD (m .marks) (here (m .state)) 0)) n (courseIn (m .state)) (here (m .state)) m (here-inside (m .state) (g .0) (k .0)) f g (k .2, k .3, refl) (k .0))
 
 pub word-written-held : (v : Bool) (t : Transfer) (m : Machine) (b : List ℕ) (q : Waiting) → ltb (t .words) 255 ≡ v → length b ≡ 512 → Ground Out m → Running Out t (plainOf m) q →
-    Between Out (pick v (withPhase (DataOut (nextWord t)) (withBuffer b m)) (loadWritten (t .load) (withState (m .state) (withBuffer b m)))) None
+    Between Out (pick v (withPhase (DataOut (nextWord t)) (withBuffer b m)) (loadWritten (t .load) (dropped (withBuffer b m)))) None
 word-written-held true t m b q e f g r = let h : t .words < 255 = ltb-true _ _ e in (g, (omega arith, f, tt, tt, r .4))
-word-written-held false t m b q e f g r = written-held (t .load) (withState (m .state) (withBuffer b m)) f g (r .4)
+word-written-held false t m b q e f g r = written-held (t .load) (dropped (withBuffer b m)) f g (r .4)

@@ -1,5 +1,5 @@
 -- Writing: each write of the data port keeps the account.
-use Prim.Native.Nat.{ℕ, _+_, _-_, _*_, _/_, _%_, _<_}
+use Prim.Native.Nat.{ℕ, _+_, _*_, _/_, _%_, _<_}
 use mathlib.Core.Path.{_≡_, refl, _∙_}
 use mathlib.Core.List.{List, [], _∷_, _++_}
 use native.Mathlib.Omega.{arith}
@@ -8,20 +8,18 @@ use Rattle.maps.specs.declared.Port.{Port}
 use Rattle.registers.specs.declared.Half.{Half}
 use Rattle.registers.specs.declared.Transfer.{Transfer}
 use Rattle.registers.specs.declared.Phase.the-variants.{DataOut}
-use Rattle.registers.specs.State.{Machine, withBuffer}
+use Rattle.registers.specs.Machine.{Machine, withBuffer}
 use Rattle.port.specs.declared.Part.{Part}
 use Rattle.port.specs.Halves.{takeOf, halved}
 use Rattle.port.specs.Data.{withPhase, wordWritten, takenWritten, phaseWritten}
 use Rattle.transfers.specs.declared.Way.the-variants.{Out}
 use Rattle.account.specs.Plain.{Account, moving}
-use Rattle.account.specs.Host.{plainOf, Waiting, None, LowByte, HighByte, Notes, noteWritten}
-use Rattle.account.proofs.Rest.{restAt, rest, Ground, Running, Pending, Rel, account-word}
+use Rattle.account.specs.Host.{plainOf}
+use Rattle.account.specs.Notes.{Waiting, None, LowByte, HighByte, Notes, noteWritten}
+use Rattle.account.proofs.Rest.{restAt, rest, Ground, Running, Pending, Rel, notes, account-word}
 use Rattle.account.proofs.Writing.{done-over}
 use Rattle.account.proofs.WordWritten.{word-written-rest, set-whole, set-high, set-low, low-kept, high-kept, low-stands, high-stands}
 use Rattle.account.proofs.WriteHeld.{word-written-held}
-
-abbrev notes : List ℕ → Waiting → Notes
-notes l w = record { done = l; waiting = w }
 
 module _ (plain : List ℕ → Account) (t : Transfer) (m : Machine) (l : List ℕ) (w : Waiting) (g : Ground Out m) (r : Running Out t (plainOf m) w)
     (a : (d : List ℕ) → plain (l ++ d) ≡ moving l (restAt (DataOut t) (plainOf m) d)) where
@@ -71,20 +69,20 @@ taken-keeps : (plain : List ℕ → Account) (h : Half) (w : Waiting) (port : Po
     ((d : List ℕ) → plain (l ++ d) ≡ moving l (restAt (DataOut t) (plainOf m) d)) → Rel Out plain m (notes l w) →
     Rel Out plain (takenWritten (takeOf h port) v t m .next) (noteWritten (takenWritten (takeOf h port) v t m .outcome) port v (notes l w))
 unfolding takeOf
-taken-keeps plain Half.Nothing None Port.Low v t m l p g r a z = low-written plain t m l None g r a (v % 256)
-taken-keeps plain Half.Nothing None Port.High v t m l p g r a z = high-written plain t m l None g r a (v % 256)
+taken-keeps plain Half.Nothing None Port.Even v t m l p g r a z = low-written plain t m l None g r a (v % 256)
+taken-keeps plain Half.Nothing None Port.Odd v t m l p g r a z = high-written plain t m l None g r a (v % 256)
 taken-keeps plain Half.Nothing None Port.Word v t m l p g r a z = both plain t m l None g r a (v % 256) (v / 256)
 taken-keeps plain Half.Nothing (LowByte b) port v t m l p g r a z = absurd p
 taken-keeps plain Half.Nothing (HighByte b) port v t m l p g r a z = absurd p
 taken-keeps plain Half.Low None port v t m l p g r a z = absurd p
-taken-keeps plain Half.Low (LowByte b) Port.Low v t m l p g r a z = high-last plain t m l (LowByte b) g r a b (v % 256) p
-taken-keeps plain Half.Low (LowByte b) Port.High v t m l p g r a z = high-last plain t m l (LowByte b) g r a b (v % 256) p
+taken-keeps plain Half.Low (LowByte b) Port.Even v t m l p g r a z = high-last plain t m l (LowByte b) g r a b (v % 256) p
+taken-keeps plain Half.Low (LowByte b) Port.Odd v t m l p g r a z = high-last plain t m l (LowByte b) g r a b (v % 256) p
 taken-keeps plain Half.Low (LowByte b) Port.Word v t m l p g r a z = z
 taken-keeps plain Half.Low (HighByte b) port v t m l p g r a z = absurd p
 taken-keeps plain Half.High None port v t m l p g r a z = absurd p
 taken-keeps plain Half.High (LowByte b) port v t m l p g r a z = absurd p
-taken-keeps plain Half.High (HighByte b) Port.Low v t m l p g r a z = low-last plain t m l (HighByte b) g r a b (v % 256) p
-taken-keeps plain Half.High (HighByte b) Port.High v t m l p g r a z = z
+taken-keeps plain Half.High (HighByte b) Port.Even v t m l p g r a z = low-last plain t m l (HighByte b) g r a b (v % 256) p
+taken-keeps plain Half.High (HighByte b) Port.Odd v t m l p g r a z = z
 taken-keeps plain Half.High (HighByte b) Port.Word v t m l p g r a z = z
 
 pub write-keeps : (plain : List ℕ → Account) (t : Transfer) (port : Port) (v : ℕ) (m : Machine) (q : Notes) → Ground Out m → Running Out t (plainOf m) (q .waiting) →

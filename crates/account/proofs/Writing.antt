@@ -13,20 +13,19 @@ use Rattle.geometry.specs.Limits.{totalOf}
 use Rattle.registers.specs.declared.Load.{Load}
 use Rattle.registers.specs.declared.Load.the-variants.{Sectors, Buffer}
 use Rattle.registers.specs.declared.State.{State}
-use Rattle.registers.specs.State.{Machine, machine}
-use Rattle.registers.specs.WellMade.{locatedIn}
+use Rattle.registers.specs.State.{locatedIn}
+use Rattle.registers.specs.Machine.{Machine, machine}
 use Rattle.transfers.specs.declared.End.{End}
 use Rattle.transfers.specs.declared.Tested.the-variants.{Passes, Fails}
 use Rattle.transfers.specs.Before.{addressTest, testedOf, storedBy}
-use Rattle.transfers.specs.Steps.{passed, askTested, askSector, nextAsked, writtenBy}
-use Rattle.account.specs.Plain.{Plain, Ending, Well, NotFound, Unreadable, WriteFault, Aborted, withStatus, withStore, moving}
-use Rattle.account.proofs.Rest.{overBuffer}
+use Rattle.transfers.specs.Steps.{sectorDone, askTested, askSector, nextAsked, writtenBy}
+use Rattle.account.specs.Plain.{Plain, withBuffer, Ending, Well, NotFound, Unreadable, WriteFault, Aborted, withStatus, withStore, moving}
 use Rattle.account.specs.Course.{Course}
-use Rattle.account.specs.Runs.{tried, runFrom, tests, unwritable, firstOf, lastOf, replaced, cleared, movedBy, putSector, writeDone, writeSectors}
+use Rattle.account.specs.Runs.{tried, runFrom, tests, unwritable, firstSectors, lastSectors, replaced, cleared, movedBy, putSector, writeDone, writeSectors}
 use Rattle.account.specs.Host.{plainOf, plainIn}
 use Rattle.account.proofs.Seats.{Shaped, Seated, Where, pastEnd, onward, passed-on, seat-next}
 use Rattle.account.proofs.Tried.{stops-ends}
-use Rattle.account.proofs.Stored.{Lent, stored-is, run-later}
+use Rattle.account.proofs.Stored.{LentFor, stored-is, run-later}
 use Rattle.account.proofs.Verifying.{seated-last}
 use Rattle.account.proofs.Reading.{pred}
 use Rattle.account.proofs.Rest.{doneOut, storedThen, restAt, rest, run-status}
@@ -42,7 +41,7 @@ moved-more (Aborted code) k = refl
 
 write-marked : (u : Bool) (n : ℕ) (c : Course) (i : ℕ) (p : Plain) (d : List ℕ) →
     writeDone c i (tried (pick u WriteFault Well) (suc n) i (runFrom (tests unwritable WriteFault c (p .marks)) (i + 1) n)) p d ≡ moving (take 512 d) (storedThen u (suc n) i c p (take 512 d) (drop 512 d))
-unfolding storedThen writeSectors firstOf lastOf replaced cleared
+unfolding storedThen writeSectors firstSectors lastSectors replaced cleared
 write-marked true n c i p d = refl
 write-marked false n c i p d =
     let r = runFrom (tests unwritable WriteFault c (p .marks)) (i + 1) n in
@@ -58,17 +57,17 @@ unfolding storedThen writeSectors
 stored-status true n i c p b d v = refl
 stored-status false n i c p b d v =
     let r = runFrom (tests unwritable WriteFault c (set (p .marks) i 0)) (i + 1) (n - 1) in
-    ap (λ (x : Plain). record { moved = firstOf (movedBy (r .ending) (r .done)) d; left = x })
+    ap (λ (x : Plain). record { moved = firstSectors (movedBy (r .ending) (r .done)) d; left = x })
     (run-status c r v
-    (overBuffer (lastOf (movedBy (r .ending) (r .done)) d b)
+    (withBuffer (lastSectors (movedBy (r .ending) (r .done)) d b)
     (withStore (replaced (i + 1) (r .done) d (putSector i b (p .store))) (cleared (i + 1) (r .done) (set (p .marks) i 0)) p)))
 
-pub stored-over : (u : Bool) (n i : ℕ) (c : Course) (p : Plain) (x b d : List ℕ) → storedThen u n i c (overBuffer x p) b d ≡ storedThen u n i c p b d
+stored-over : (u : Bool) (n i : ℕ) (c : Course) (p : Plain) (x b d : List ℕ) → storedThen u n i c (withBuffer x p) b d ≡ storedThen u n i c p b d
 unfolding storedThen writeSectors
 stored-over true n i c p x b d = refl
 stored-over false n i c p x b d = refl
 
-pub done-over : (l : Load) (p : Plain) (x b d : List ℕ) → doneOut l (overBuffer x p) b d ≡ doneOut l p b d
+pub done-over : (l : Load) (p : Plain) (x b d : List ℕ) → doneOut l (withBuffer x p) b d ≡ doneOut l p b d
 unfolding doneOut
 done-over Buffer p x b d = refl
 done-over (Sectors n) p x b d = stored-over _ n _ _ p x b d
@@ -78,7 +77,7 @@ done-over (Sectors n) p x b d = stored-over _ n _ _ p x b d
 past-rest : (l : Bool) (n : ℕ) (first : Bool) (c : Course) (i : ℕ) (s : State) (b t k d : List ℕ) → Seated c i (suc n) s →
     rest (machine (askTested (testedOf (pick l Located.BadLba Located.BadCylinder)) (suc n) first s) b t k) d
     ≡ writeDone c i (tried (NotFound 0x2F) (suc n) i (runFrom (tests unwritable WriteFault c k) (i + 1) n)) (plainIn s b t k) d
-unfolding restAt firstOf lastOf replaced cleared
+unfolding restAt firstSectors lastSectors replaced cleared
 past-rest true n first c i s b t k d q = rw (stops-ends End.BadLba true refl c (suc n) i s b t k q)
 past-rest false n first c i s b t k d q = rw (stops-ends End.BadCylinder true refl c (suc n) i s b t k q)
 
@@ -100,17 +99,17 @@ ask-rest n first c i s b t k d q w =
     (ask-by _ n first c i s b t k d refl q w)
 
 -- sector i is stored
-pub asked-rest : (n : ℕ) (c : Course) (i : ℕ) (s : State) (b t k d : List ℕ) → Shaped (s .made) (s .current) → Seated c i (suc n) s → locatedIn s ≡ Located.Good (record { index = i }) →
+asked-rest : (n : ℕ) (c : Course) (i : ℕ) (s : State) (b t k d : List ℕ) → Shaped (s .made) (s .current) → Seated c i (suc n) s → locatedIn s ≡ Located.Good (record { index = i }) →
     rest (machine (nextAsked n s) b t k) d ≡ writeSectors c (i + 1) n (plainIn s b t k) d
 unfolding nextAsked
-asked-rest zero c i s b t k d h q e = unfold passed restAt writeSectors runFrom firstOf lastOf replaced cleared in rw (seated-last c i 1 s q)
+asked-rest zero c i s b t k d h q e = unfold sectorDone restAt writeSectors runFrom firstSectors lastSectors replaced cleared in rw (seated-last c i 1 s q)
 asked-rest (suc n) c i s b t k d h q e =
     let z = seat-next c (suc n) i s h e (q .2) in
     rw (passed-on n s, ne-eqb (suc n) 0 (omega arith)) (ask-rest n false c (i + 1) (onward (suc n) s) b t k d (z .0) (z .1) ∙ (unfold writeSectors in refl))
 
 -- its mark first
 pub marked-rest : (u v : Bool) (n : ℕ) (c : Course) (i : ℕ) (m : Machine) (d : List ℕ) → v ≡ not u → i < totalOf (m .state .made .default) → Shaped (m .state .made) (m .state .current) →
-    Lent (totalOf (m .state .made .default)) (m .store) (m .marks) → Seated c i (suc n) (m .state) → locatedIn (m .state) ≡ Located.Good (record { index = i }) →
+    LentFor (totalOf (m .state .made .default)) (m .store) (m .marks) → Seated c i (suc n) (m .state) → locatedIn (m .state) ≡ Located.Good (record { index = i }) →
     rest (writtenBy (storedBy (pick u (Passes (record { index = i })) (Fails End.WriteFault)) (m .buffer) (m .store) (m .marks)) n m) d
     ≡ storedThen v (suc n) i c (plainOf m) (m .buffer) d
 unfolding storedThen

@@ -4,14 +4,15 @@ use mathlib.Core.Bool.{false}
 use mathlib.Core.List.{List, _++_}
 use mathlib.Core.Path.{_≡_}
 use lib.ListN.{length, getD}
-use Rattle.registers.specs.State.{Machine}
+use Rattle.registers.specs.Machine.{Machine}
 use Rattle.registers.specs.WellMade.{heldIn}
 use Rattle.account.specs.Plain.{Account}
-use Rattle.account.specs.Host.{plainOf, None, asks, Hosted}
+use Rattle.account.specs.Host.{plainOf, asks, Hosted}
+use Rattle.account.specs.Notes.{None}
 
 -- a list of bytes
-abbrev pub Bytes : List ℕ → Type 0
-Bytes l = (i : ℕ) → getD l i 0 < 256
+abbrev pub AllBytes : List ℕ → Type 0
+AllBytes l = (i : ℕ) → getD l i 0 < 256
 
 -- what the code's types say of a card: registers of 8 bits, a buffer of 512 bytes, a store of bytes
 pub record Typed (m : Machine) : Type 0 where
@@ -21,8 +22,8 @@ pub record Typed (m : Machine) : Type 0 where
   pub high : m .state .registers .address .high < 256
   pub head : m .state .registers .address .head < 256
   pub buffer : length (m .buffer) ≡ 512
-  pub bufferBytes : Bytes (m .buffer)
-  pub storeBytes : Bytes (m .store)
+  pub bufferBytes : AllBytes (m .buffer)
+  pub storeBytes : AllBytes (m .store)
 
 -- the data that moved, the store, the marks and the card are those of the account of that data; no transfer runs, and no reset holds the card
 pub record Agrees (plain : List ℕ → Account) (h : Hosted) : Type 0 where

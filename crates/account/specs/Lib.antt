@@ -4,6 +4,7 @@ pub mod Course
 pub mod Runs
 pub mod Words
 pub mod Table
+pub mod Notes
 pub mod Host
 pub mod Claim
 pub mod Running

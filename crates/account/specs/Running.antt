@@ -2,7 +2,7 @@
 use Prim.Native.Nat.{ℕ}
 use mathlib.Core.List.{List, [], _∷_}
 use mathlib.Core.Path.{_≡_}
-use Rattle.registers.specs.State.{Machine}
+use Rattle.registers.specs.Machine.{Machine}
 use Rattle.card.specs.declared.Card.{Card}
 use Rattle.card.specs.declared.Answer.{Answer}
 use Rattle.card.specs.Access.{Access}

@@ -83,13 +83,13 @@ lastSector store i zero buffer = buffer
 lastSector store i (suc k) buffer = lastSector store (i + 1) k (sectorAt store i)
 
 -- k times 512 bytes of the host's data; and the last 512 of them, or what was in the buffer
-unfoldable pub firstOf : ℕ → List ℕ → List ℕ
-firstOf zero bytes = []
-firstOf (suc k) bytes = take 512 bytes ++ firstOf k (drop 512 bytes)
+unfoldable pub firstSectors : ℕ → List ℕ → List ℕ
+firstSectors zero bytes = []
+firstSectors (suc k) bytes = take 512 bytes ++ firstSectors k (drop 512 bytes)
 
-unfoldable pub lastOf : ℕ → List ℕ → List ℕ → List ℕ
-lastOf zero bytes buffer = buffer
-lastOf (suc k) bytes buffer = lastOf k (drop 512 bytes) (take 512 bytes)
+unfoldable pub lastSectors : ℕ → List ℕ → List ℕ → List ℕ
+lastSectors zero bytes buffer = buffer
+lastSectors (suc k) bytes buffer = lastSectors k (drop 512 bytes) (take 512 bytes)
 
 -- the store with k sectors from index i replaced by the host's data, 512 bytes each
 unfoldable pub replaced : ℕ → ℕ → List ℕ → List ℕ → List ℕ
@@ -128,8 +128,8 @@ movedBy (Aborted code) k = k
 
 abbrev pub writeDone : Course → ℕ → Run → Plain → List ℕ → Account
 writeDone c i r p bytes = record {
-  moved = firstOf (movedBy (r .ending) (r .done)) bytes;
-  left = runEnds c r (withBuffer (lastOf (movedBy (r .ending) (r .done)) bytes (p .buffer))
+  moved = firstSectors (movedBy (r .ending) (r .done)) bytes;
+  left = runEnds c r (withBuffer (lastSectors (movedBy (r .ending) (r .done)) bytes (p .buffer))
       (withStore (replaced i (r .done) bytes (p .store)) (cleared i (r .done) (p .marks)) p));
 }
 

@@ -1,5 +1,6 @@
 -- 01, "Answers": each refusal has the number of its row; an accepted access is 0 with its value; every refusal gives value 0.
 use Prim.Native.Nat.{ℕ}
+use mathlib.Core.Bool.{Bool, true, false}
 use Rattle.answers.specs.declared.Refusal.{Refusal}
 use Rattle.answers.specs.declared.Refusal.the-variants.{GeometryOrMode, StoreLength, MarksLength, MarkAboveTwo, TupleBufferLength, NoRegister, SpaceSilent, HeldBySreset, WidthOrValue, IndexAboveThree, HalfMoved, NotWellMade, ChainBroken, TuplesTooLong, TupleBad, ListTooShort, SessionBroken}
 use Rattle.answers.specs.declared.Outcome.{Outcome}
@@ -47,3 +48,7 @@ outcomeNumber (Refused refusal) = numberOf refusal
 abbrev pub outcomeValue : Outcome → ℕ
 outcomeValue (Accepted value) = value
 outcomeValue (Refused refusal) = 0
+
+abbrev pub refused : Outcome → Bool
+refused (Accepted value) = false
+refused (Refused refusal) = true

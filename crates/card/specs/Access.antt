@@ -12,8 +12,9 @@ use Rattle.maps.specs.declared.Standing.{Standing}
 use Rattle.maps.specs.Spaces.{answersAt}
 use Rattle.maps.specs.Maps.{standsAt}
 use Rattle.registers.specs.declared.State.{State}
-use Rattle.registers.specs.State.{Machine, sresetIn, indexIn}
-use Rattle.registers.specs.WellMade.{wellMade, totalIn}
+use Rattle.registers.specs.State.{sresetIn, indexIn, totalIn}
+use Rattle.registers.specs.Machine.{Machine}
+use Rattle.registers.specs.WellMade.{wellMade}
 use Rattle.card.specs.declared.Meaning.{Meaning}
 use Rattle.card.specs.declared.Meaning.the-variants.{TupleByte, ReadOption, WriteOption, ReadRegister, WriteRegister, ReadData, WriteData}
 

@@ -2,7 +2,6 @@
 use Prim.Native.Nat.{ℕ}
 use mathlib.Core.Path.{_≡_}
 use mathlib.Core.List.{List}
-use lib.Dec.{leb}
 use Rattle.ground.specs.Choice.{pick}
 use Rattle.answers.specs.declared.Outcome.{Outcome}
 use Rattle.answers.specs.Answers.{outcomeNumber, outcomeValue}
@@ -11,9 +10,10 @@ use Rattle.answers.specs.declared.Refusal.the-variants.{NotWellMade, SpaceSilen
 use Rattle.maps.specs.declared.Mode.{Mode}
 use Rattle.maps.specs.declared.Mode.the-variants.{PcCard, TrueIde}
 use Rattle.registers.specs.declared.Core.{Core}
-use Rattle.registers.specs.State.{Machine, lineOf, sresetIn, indexIn}
-use Rattle.registers.specs.WellMade.{wellMade}
-use Rattle.registers.specs.Resets.{optionTurn, optionTurned, bufferTurned, controlWritten}
+use Rattle.registers.specs.State.{lineOf, sresetIn}
+use Rattle.registers.specs.Machine.{Machine}
+use Rattle.registers.specs.WellMade.{wellMade, indexFits}
+use Rattle.registers.specs.Resets.{controlWritten, optionCore, optionBuffer}
 use Rattle.card.specs.declared.Card.{Card}
 use Rattle.card.specs.declared.Reply.{Reply}
 use Rattle.card.specs.declared.Answer.{Answer}
@@ -46,15 +46,15 @@ abbrev pub acceptedAs : Card → Answer
 acceptedAs c = record { outcome = Outcome.Accepted 0; line = lineOf (c .state); card = c }
 
 -- the option as a method: 12; 7 in True IDE mode, where attribute memory does not answer; 10; else the write
-abbrev pub optionAt : Mode → ℕ → Card → Answer
-optionAt TrueIde v c = refusedBy SpaceSilent c
-optionAt PcCard v c =
-    pick (leb (indexIn v) 3)
-    (acceptedAs (cardOf (optionTurned (optionTurn v (c .state)) v (c .phase) (c .state)) (bufferTurned (optionTurn v (c .state)) (c .buffer))))
+abbrev pub optionByMode : Mode → ℕ → Card → Answer
+optionByMode PcCard v c =
+    pick (indexFits v)
+    (acceptedAs (cardOf (optionCore v (c .phase) (c .state)) (optionBuffer v (c .state) (c .buffer))))
     (refusedBy IndexAboveThree c)
+optionByMode TrueIde v c = refusedBy SpaceSilent c
 
 unfoldable pub optionAnswered : ℕ → Card → Answer
-optionAnswered v c = pick (wellMade (c .phase) (c .state)) (optionAt (c .state .made .mode) v c) (refusedBy NotWellMade c)
+optionAnswered v c = pick (wellMade (c .phase) (c .state)) (optionByMode (c .state .made .mode) v c) (refusedBy NotWellMade c)
 
 -- Device Control as a method: 12; 8 while SRESET holds; else the write
 unfoldable pub controlAnswered : ℕ → Card → Answer

@@ -1,5 +1,6 @@
 pub mod Access
 pub mod Perform
 pub mod Step
+pub mod Verdict
 pub mod Opening
 pub mod Doors

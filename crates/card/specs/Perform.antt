@@ -5,11 +5,12 @@ use Rattle.answers.specs.declared.Outcome.{Outcome}
 use Rattle.maps.specs.declared.Register.{Register}
 use Rattle.maps.specs.declared.Register.the-variants.{ErrorFeature, SectorCount, SectorNumber, CylinderLow, CylinderHigh, DriveHead, StatusCommand, AlternateControl, DriveAddress}
 use Rattle.registers.specs.declared.Core.{Core}
-use Rattle.registers.specs.State.{Machine, machine, core, coreOf, withCore, runs}
-use Rattle.registers.specs.Resets.{optionTurn, optionTurned, bufferTurned, controlWritten}
+use Rattle.registers.specs.State.{runs}
+use Rattle.registers.specs.Machine.{Machine, machine, core, coreOf, withCore}
+use Rattle.registers.specs.Resets.{controlWritten, optionCore, optionBuffer}
 use Rattle.registers.specs.Values.{valueRead, afterRead, registerSet}
 use Rattle.port.specs.declared.Done.{Done}
-use Rattle.transfers.specs.Steps.{withState}
+use Rattle.transfers.specs.Steps.{dropped}
 use Rattle.port.specs.Data.{Effect, effect, accepted, dataRead, dataWritten}
 use Rattle.commands.specs.Table.{commandGiven}
 use Rattle.card.specs.declared.Meaning.{Meaning}
@@ -18,7 +19,7 @@ use Rattle.card.specs.declared.Meaning.the-variants.{TupleByte, ReadOpti
 -- the Configuration Option Register: in a Device Control hold it "works on"; "Reading gives the last value"
 unfoldable pub optionWritten : ℕ → Machine → Machine
 optionWritten v m =
-    machine (optionTurned (optionTurn v (m .state)) v (m .phase) (m .state)) (bufferTurned (optionTurn v (m .state)) (m .buffer)) (m .store) (m .marks)
+    machine (optionCore v (m .phase) (m .state)) (optionBuffer v (m .state) (m .buffer)) (m .store) (m .marks)
 
 -- "writes to offsets other than E have no effect" in a Device Control hold; "While DRQ is set, writes to 1..6 and D have no effect"
 unfoldable pub plainCore : Register → ℕ → Core → Core
@@ -37,7 +38,7 @@ registerWritten SectorNumber v m = plainWritten SectorNumber v m
 registerWritten CylinderLow v m = plainWritten CylinderLow v m
 registerWritten CylinderHigh v m = plainWritten CylinderHigh v m
 registerWritten DriveHead v m = plainWritten DriveHead v m
-registerWritten StatusCommand v m = pick (m .state .control .held) m (commandGiven v (withState (m .state) m))
+registerWritten StatusCommand v m = pick (m .state .control .held) m (commandGiven v (dropped m))
 registerWritten AlternateControl v m = withCore (controlWritten v (m .phase) (m .state)) m
 registerWritten DriveAddress v m = plainWritten DriveAddress v m
 

@@ -3,7 +3,8 @@ use Prim.Native.Nat.{ℕ}
 use mathlib.Core.Bool.{Bool}
 use mathlib.Core.List.{List, [], _∷_}
 use Rattle.answers.specs.declared.Outcome.{Outcome}
-use Rattle.registers.specs.State.{Machine, machine, lineOf}
+use Rattle.registers.specs.State.{lineOf}
+use Rattle.registers.specs.Machine.{Machine, machine}
 use Rattle.port.specs.declared.Done.{Done}
 use Rattle.port.specs.Data.{Effect}
 use Rattle.card.specs.declared.Reply.{Reply}

@@ -13,7 +13,7 @@ ghost use Rattle.card.specs.Doors.{machineOf, answered, Says, cardOf, an
 fn accept(core: Core) -> Reply
     ensures { λ r. ⌜ r ≡ replyOf (record { outcome = Outcome.Accepted 0; core = core }) ⌝ }
 {
-    super::replied_as(super::accepted(core, 0))
+    super::reply_of(port::accepted(core, 0))
 }
 
 // The option's rows 12, 7, 10, and the write.
@@ -27,14 +27,13 @@ fn option_reply(core: Core, value: u8, buffer: &mut [u8; 512]) -> Reply
         return super::refuse(core, Refusal::NotWellMade);
     }
     match mode {
-        Mode::TrueIde => super::refuse(core, Refusal::SpaceSilent),
         Mode::PcCard => {
-            let index = value % 64;
-            if 3 < index {
+            if !registers::index_fits(value) {
                 return super::refuse(core, Refusal::IndexAboveThree);
             }
             accept(core.write_option(value, buffer))
         }
+        Mode::TrueIde => super::refuse(core, Refusal::SpaceSilent),
     }
 }
 
@@ -46,7 +45,7 @@ fn control_reply(core: Core, value: u8, buffer: &[u8; 512]) -> Reply
     if !core.well_made() {
         return super::refuse(core, Refusal::NotWellMade);
     }
-    if state.option >= 128 {
+    if registers::sreset_in(state.option) {
         return super::refuse(core, Refusal::HeldBySreset);
     }
     accept(core.write_control(value))

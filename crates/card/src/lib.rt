@@ -10,11 +10,12 @@ use registers::Core;
 use registers::Phase;
 use registers::State;
 ghost use mathlib.Core.Path.{_≡_};
-ghost use Rattle.registers.specs.State.{machine};
+ghost use Rattle.registers.specs.Machine.{machine};
 ghost use Rattle.port.specs.Data.{effect};
 ghost use Rattle.card.specs.Access.{targeted, heldAway, decided};
 ghost use Rattle.card.specs.Perform.{plainCore, registerWritten, registerRead, perform};
 ghost use Rattle.card.specs.Step.{replyOf, replied, worked, step};
+ghost use Rattle.card.specs.Verdict.{verdictOf, byVerdict};
 
 pub mod doors;
 pub mod opening;
@@ -43,6 +44,12 @@ pub struct Reply {
     pub outcome: Outcome,
     pub line: bool,
     pub core: Core,
+}
+
+// What rows 12, 2, 3 and 5 say of every access to a card with what is lent to it: no access changes it.
+pub enum Verdict {
+    Fit,
+    Refused(Refusal),
 }
 
 // The answer of the doors: the next card is in it.
@@ -84,7 +91,7 @@ fn targeted(target: Target, write: bool, value: u16, tuples: &[u8]) -> Meaning
 fn held_away(option: u8, space: u8, address: u16) -> bool
     ensures { λ r. ⌜ r ≡ heldAway option space address ⌝ }
 {
-    if option < 128 {
+    if !registers::sreset_in(option) {
         return false;
     }
     if space == 0 {
@@ -111,7 +118,7 @@ fn decide(
     if held_away(option, space, address) {
         return Meaning::Refused(Refusal::HeldBySreset);
     }
-    let index = option % 64;
+    let index = registers::index_in(option);
     if maps::answers_at(space, mode, index) {
         return match maps::stands_at(space, index, address, width, write, value) {
             Standing::There(target) => targeted(target, write, value, tuples),
@@ -123,7 +130,7 @@ fn decide(
 
 // ---- what it does
 
-fn plain_write(core: Core, register: Register, value: u8) -> Core
+fn plain_core(core: Core, register: Register, value: u8) -> Core
     ensures { λ r. ⌜ r ≡ plainCore register value core ⌝ }
 {
     let state = core.state;
@@ -154,12 +161,12 @@ fn write_register(
     ensures { λ r. ⌜ machine r (now (buffer .exit)) (now (store .exit)) (now (marks .exit)) ≡ registerWritten register value (machine core (now (buffer .entry)) (now (store .entry)) (now (marks .entry))) ⌝ }
 {
     match register {
-        Register::ErrorFeature => plain_write(core, register, value),
-        Register::SectorCount => plain_write(core, register, value),
-        Register::SectorNumber => plain_write(core, register, value),
-        Register::CylinderLow => plain_write(core, register, value),
-        Register::CylinderHigh => plain_write(core, register, value),
-        Register::DriveHead => plain_write(core, register, value),
+        Register::ErrorFeature => plain_core(core, register, value),
+        Register::SectorCount => plain_core(core, register, value),
+        Register::SectorNumber => plain_core(core, register, value),
+        Register::CylinderLow => plain_core(core, register, value),
+        Register::CylinderHigh => plain_core(core, register, value),
+        Register::DriveHead => plain_core(core, register, value),
         Register::StatusCommand => {
             let state = core.state;
             let control = state.control;
@@ -169,16 +176,7 @@ fn write_register(
             commands::table::command_given(state, value, buffer, store, marks)
         }
         Register::AlternateControl => core.write_control(value),
-        Register::DriveAddress => plain_write(core, register, value),
-    }
-}
-
-fn accepted(core: Core, value: u16) -> Done
-    ensures { λ r. ⌜ r ≡ record { outcome = Outcome.Accepted value; core = core } ⌝ }
-{
-    Done {
-        outcome: Outcome::Accepted(value),
-        core: core,
+        Register::DriveAddress => plain_core(core, register, value),
     }
 }
 
@@ -189,7 +187,7 @@ fn read_register(core: Core, register: Register) -> Done
     let phase = core.phase;
     let state = core.state;
     let next = state.after_read(register);
-    accepted(
+    port::accepted(
         Core {
             phase: phase,
             state: next,
@@ -209,20 +207,17 @@ fn perform(
 {
     let state = core.state;
     match meaning {
-        Meaning::Refused(refusal) => Done {
-            outcome: Outcome::Refused(refusal),
-            core: core,
-        },
-        Meaning::TupleByte(byte) => accepted(core, ground::wide(byte)),
-        Meaning::ReadOption => accepted(core, ground::wide(state.option)),
+        Meaning::Refused(refusal) => port::refused(core, refusal),
+        Meaning::TupleByte(byte) => port::accepted(core, ground::wide(byte)),
+        Meaning::ReadOption => port::accepted(core, ground::wide(state.option)),
         Meaning::WriteOption(value) => {
             let next = core.write_option(value, buffer);
-            accepted(next, 0)
+            port::accepted(next, 0)
         }
         Meaning::ReadRegister(register) => read_register(core, register),
         Meaning::WriteRegister(register, value) => {
             let next = write_register(core, register, value, buffer, store, marks);
-            accepted(next, 0)
+            port::accepted(next, 0)
         }
         Meaning::ReadData(port) => port::read_data(core, port, buffer, store, marks),
         Meaning::WriteData(port, value) => {
@@ -231,7 +226,7 @@ fn perform(
     }
 }
 
-fn replied_as(done: Done) -> Reply
+fn reply_of(done: Done) -> Reply
     ensures { λ r. ⌜ r ≡ replyOf done ⌝ }
 {
     let outcome = done.outcome;
@@ -248,14 +243,11 @@ fn replied_as(done: Done) -> Reply
 fn refuse(core: Core, refusal: Refusal) -> Reply
     ensures { λ r. ⌜ r ≡ replyOf (record { outcome = Outcome.Refused refusal; core = core }) ⌝ }
 {
-    replied_as(Done {
-        outcome: Outcome::Refused(refusal),
-        core: core,
-    })
+    reply_of(port::refused(core, refusal))
 }
 
 // An access to a card that is known to be well made, with all that is lent of the right length: rows 8, 7, 6, 9, 10, 11, and the work.
-pub fn work(
+fn work(
     core: Core,
     space: u8,
     width: u8,
@@ -271,11 +263,65 @@ pub fn work(
 {
     let state = core.state;
     let meaning = decide(state, space, width, write, address, value, tuples);
-    replied_as(perform(core, meaning, buffer, store, marks))
+    reply_of(perform(core, meaning, buffer, store, marks))
+}
+
+// Rows 12, 2, 3, 5.
+pub fn verdict_of(core: Core, store: &[u8], marks: &[u8], tuples: &[u8]) -> Verdict
+    ensures { λ r. ⌜ r ≡ verdictOf (core .phase) (core .state) (now (store .entry)) (now (marks .entry)) (now (tuples .entry)) ⌝ }
+{
+    let state = core.state;
+    let total = state.total() as usize;
+    if !core.well_made() {
+        return Verdict::Refused(Refusal::NotWellMade);
+    }
+    if store.len() != 512 * total {
+        return Verdict::Refused(Refusal::StoreLength);
+    }
+    if marks.len() != total {
+        return Verdict::Refused(Refusal::MarksLength);
+    }
+    if tuples.len() != 256 {
+        return Verdict::Refused(Refusal::TupleBufferLength);
+    }
+    Verdict::Fit
+}
+
+// An access by the verdict on its card and what is lent: the one place where `work` is called.
+pub fn by_verdict(
+    verdict: Verdict,
+    core: Core,
+    space: u8,
+    width: u8,
+    write: bool,
+    address: u16,
+    value: u16,
+    tuples: &[u8],
+    buffer: &mut [u8; 512],
+    store: &mut [u8],
+    marks: &mut [u8],
+) -> Reply
+    ensures { λ r. ⌜ replied r (now (buffer .exit)) (now (store .exit)) (now (marks .exit)) ≡ byVerdict verdict (machine core (now (buffer .entry)) (now (store .entry)) (now (marks .entry))) (record { space = space; width = width; write = write; address = address; value = value; tuples = now (tuples .entry) }) ⌝ }
+{
+    match verdict {
+        Verdict::Fit => work(
+            core,
+            space,
+            width,
+            write,
+            address,
+            value,
+            tuples,
+            buffer,
+            store,
+            marks,
+        ),
+        Verdict::Refused(refusal) => refuse(core, refusal),
+    }
 }
 
 // Any access to any card: rows 12, 2, 3, 5 first.
-pub fn step(
+fn step(
     core: Core,
     space: u8,
     width: u8,
@@ -289,23 +335,9 @@ pub fn step(
 ) -> Reply
     ensures { λ r. ⌜ replied r (now (buffer .exit)) (now (store .exit)) (now (marks .exit)) ≡ step (machine core (now (buffer .entry)) (now (store .entry)) (now (marks .entry))) (record { space = space; width = width; write = write; address = address; value = value; tuples = now (tuples .entry) }) ⌝ }
 {
-    let state = core.state;
-    let made = state.made;
-    let default = made.default;
-    let total = default.total() as usize;
-    if !core.well_made() {
-        return refuse(core, Refusal::NotWellMade);
-    }
-    if store.len() != 512 * total {
-        return refuse(core, Refusal::StoreLength);
-    }
-    if marks.len() != total {
-        return refuse(core, Refusal::MarksLength);
-    }
-    if tuples.len() != 256 {
-        return refuse(core, Refusal::TupleBufferLength);
-    }
-    work(
+    let verdict = verdict_of(core, store, marks, tuples);
+    by_verdict(
+        verdict,
         core,
         space,
         width,

@@ -18,7 +18,8 @@ ghost use Rattle.card.specs.Doors.{Says, cardOf, answerOf};
 ghost use Rattle.card.specs.Opening.{modeOf, zeroState, openRefused, powered, opened};
 ghost use Rattle.registers.specs.PowerOn.{zeros};
 
-fn mode_of(mode: u16) -> Mode
+// 01: "Mode: 0 PC Card, 1 True IDE."
+pub fn mode_of(mode: u16) -> Mode
     ensures { λ r. ⌜ r ≡ modeOf mode ⌝ }
 {
     if mode == 0 {

@@ -11,8 +11,8 @@ use Rattle.transfers.specs.declared.End.{End}
 use Rattle.transfers.specs.declared.Tested.the-variants.{Passes, Fails}
 use Rattle.transfers.specs.Ends.{ended}
 use Rattle.transfers.specs.Before.{readTest, storeTested, sectorStored}
-use Rattle.transfers.specs.Steps.{passed}
-use Rattle.commands.specs.Runs.{verifyFrom, erased, blank, eraseFrom}
+use Rattle.transfers.specs.Steps.{sectorDone}
+use Rattle.commands.specs.Runs.{verifyFrom, erased, allFF, eraseFrom}
 
 pub verify-end : (n : ℕ) (s : State) (marks : List ℕ) → n ≤ 0 → verifyFrom n s marks ≡ ended End.Good true s
 unfolding verifyFrom
@@ -24,7 +24,7 @@ unfolding verifyFrom
 verify-fails zero s marks e h t = absurd (not-suc-le-zero h)
 verify-fails (suc n) s marks e h t = simp t
 
-pub verify-step : (n : ℕ) (s : State) (marks : List ℕ) (spot : Spot) → 0 < n → readTest s marks ≡ Passes spot → verifyFrom n s marks ≡ verifyFrom (n - 1) (passed (n - 1) s) marks
+pub verify-step : (n : ℕ) (s : State) (marks : List ℕ) (spot : Spot) → 0 < n → readTest s marks ≡ Passes spot → verifyFrom n s marks ≡ verifyFrom (n - 1) (sectorDone (n - 1) s) marks
 unfolding verifyFrom
 verify-step zero s marks spot h t = absurd (not-suc-le-zero h)
 verify-step (suc n) s marks spot h t = simp (t, sub-one)
@@ -35,14 +35,14 @@ erase-end zero s store marks h = refl
 erase-end (suc n) s store marks h = absurd (not-suc-le-zero h)
 
 -- the store and the marks after a sector's test are given by what the test and the storing promise
-pub erase-fails : (n : ℕ) (s : State) (store marks store′ marks′ : List ℕ) (e : End) → 0 < n → storeTested (Fails e) store′ marks′ ≡ sectorStored s blank store marks
+pub erase-fails : (n : ℕ) (s : State) (store marks store′ marks′ : List ℕ) (e : End) → 0 < n → storeTested (Fails e) store′ marks′ ≡ sectorStored s allFF store marks
     → eraseFrom n s store marks ≡ erased (ended e true s) store′ marks′
 unfolding eraseFrom
 erase-fails zero s store marks store′ marks′ e h k = absurd (not-suc-le-zero h)
 erase-fails (suc n) s store marks store′ marks′ e h k = simp (sym k)
 
-pub erase-step : (n : ℕ) (s : State) (store marks store′ marks′ : List ℕ) (spot : Spot) → 0 < n → storeTested (Passes spot) store′ marks′ ≡ sectorStored s blank store marks
-    → eraseFrom n s store marks ≡ eraseFrom (n - 1) (passed (n - 1) s) store′ marks′
+pub erase-step : (n : ℕ) (s : State) (store marks store′ marks′ : List ℕ) (spot : Spot) → 0 < n → storeTested (Passes spot) store′ marks′ ≡ sectorStored s allFF store marks
+    → eraseFrom n s store marks ≡ eraseFrom (n - 1) (sectorDone (n - 1) s) store′ marks′
 unfolding eraseFrom
 erase-step zero s store marks store′ marks′ spot h k = absurd (not-suc-le-zero h)
 erase-step (suc n) s store marks store′ marks′ spot h k = simp (sym k, sub-one)

@@ -10,7 +10,7 @@ use Rattle.transfers.specs.declared.Tested.{Tested}
 use Rattle.transfers.specs.declared.Tested.the-variants.{Passes, Fails}
 use Rattle.transfers.specs.Ends.{ended}
 use Rattle.transfers.specs.Before.{readTest, sectorStored}
-use Rattle.transfers.specs.Steps.{passed}
+use Rattle.transfers.specs.Steps.{sectorDone}
 
 -- the rest where the sector's tests hold, else the end
 abbrev pub goesOn {ℓ} : {A : Type ℓ} → Tested → (Core → A) → State → A → A
@@ -19,7 +19,7 @@ goesOn (Fails e) end s rest = end (ended e true s)
 
 unfoldable pub verifyFrom : ℕ → State → List ℕ → Core
 verifyFrom zero s marks = ended Good true s
-verifyFrom (suc n) s marks = goesOn (readTest s marks) (λ k. k) s (verifyFrom n (passed n s) marks)
+verifyFrom (suc n) s marks = goesOn (readTest s marks) (λ k. k) s (verifyFrom n (sectorDone n s) marks)
 
 pub record Erased : Type 0 where
   pub core : Core
@@ -29,11 +29,11 @@ pub record Erased : Type 0 where
 abbrev pub erased : Core → List ℕ → List ℕ → Erased
 erased k store marks = record { core = k; store = store; marks = marks }
 
-unfoldable pub blank : List ℕ
-blank = replicate 512 0xFF
+unfoldable pub allFF : List ℕ
+allFF = replicate 512 0xFF
 
 unfoldable pub eraseFrom : ℕ → State → List ℕ → List ℕ → Erased
 eraseFrom zero s store marks = erased (ended Good true s) store marks
 eraseFrom (suc n) s store marks =
-    let k = sectorStored s blank store marks in
-    goesOn (k .tested) (λ c. erased c (k .store) (k .marks)) s (eraseFrom n (passed n s) (k .store) (k .marks))
+    let k = sectorStored s allFF store marks in
+    goesOn (k .tested) (λ c. erased c (k .store) (k .marks)) s (eraseFrom n (sectorDone n s) (k .store) (k .marks))

@@ -12,16 +12,30 @@ use Rattle.identify.specs.Words.{identifyBytes}
 use Rattle.registers.specs.declared.Load.the-variants.{Buffer}
 use Rattle.registers.specs.declared.State.{State}
 use Rattle.registers.specs.declared.Core.{Core}
-use Rattle.registers.specs.State.{Machine, machine, withCore, withMark, withError, withCode, withCount, withAddress, withCurrent}
-use Rattle.registers.specs.WellMade.{totalIn}
+use Rattle.registers.specs.State.{withMark, withError, withCode, withCount, withAddress, withCurrent, totalIn}
+use Rattle.registers.specs.Machine.{Machine, machine, withCore}
 use Rattle.transfers.specs.declared.End.{End}
 use Rattle.transfers.specs.declared.Way.the-variants.{In, Out}
 use Rattle.commands.specs.declared.Command.{Command}
 use Rattle.commands.specs.declared.Command.the-variants.{Read, Write, Verify, Erase, Identify, ReadBuffer, WriteBuffer, SetGeometry, Diagnose, Recalibrate, Seek, Sense, Other}
 use Rattle.transfers.specs.Ends.{ended}
-use Rattle.transfers.specs.Steps.{withState, begun, readSector, askSector}
+use Rattle.transfers.specs.Steps.{idleWith, begun, readSector, askSector}
 use Rattle.commands.specs.Runs.{verifyFrom, Erased, eraseFrom}
 
+-- the rows that name no sectors
+unfoldable pub sectorlessCommand : ℕ → Command
+sectorlessCommand opcode =
+    pick (eqb opcode 0xEC) Identify
+    (pick (eqb opcode 0xE4) ReadBuffer
+    (pick (eqb opcode 0xE8) WriteBuffer
+    (pick (eqb opcode 0x91) SetGeometry
+    (pick (eqb opcode 0x90) Diagnose
+    (pick (eqb (opcode / 16) 1) Recalibrate
+    (pick (eqb (opcode / 16) 7) Seek
+    (pick (eqb opcode 0x03) Sense
+    Other)))))))
+
+-- the row of an opcode
 unfoldable pub commandOf : ℕ → Command
 commandOf opcode =
     pick (eqb opcode 0x20) Read
@@ -31,15 +45,7 @@ commandOf opcode =
     (pick (eqb opcode 0x40) Verify
     (pick (eqb opcode 0x41) Verify
     (pick (eqb opcode 0xC0) Erase
-    (pick (eqb opcode 0xEC) Identify
-    (pick (eqb opcode 0xE4) ReadBuffer
-    (pick (eqb opcode 0xE8) WriteBuffer
-    (pick (eqb opcode 0x91) SetGeometry
-    (pick (eqb opcode 0x90) Diagnose
-    (pick (eqb (opcode / 16) 1) Recalibrate
-    (pick (eqb (opcode / 16) 7) Seek
-    (pick (eqb opcode 0x03) Sense
-    Other))))))))))))))
+    (sectorlessCommand opcode)))))))
 
 -- "Every command but 03H starts with Error and code 0."
 abbrev pub started : State → State
@@ -57,6 +63,9 @@ abbrev pub geometrySet : Reshaped → State → Core
 geometrySet (Reshaped.Taken g) s = ended End.Good true (withCurrent g s)
 geometrySet Reshaped.Refused s = ended End.BadGeometry true s
 
+abbrev pub geometryEnded : State → Core
+geometryEnded s = geometrySet (reshaped (s .registers .count) (s .registers .address .head) (totalIn s)) s
+
 -- 90H: "Error 01H, Count 1, Sector 1, Cylinder and Drive/Head 0"
 abbrev pub diagnosed : State → State
 diagnosed s = withAddress (record { sector = 1; low = 0; high = 0; head = 0 }) (withCount 1 (withError 0x01 s))
@@ -68,13 +77,20 @@ soughtEnd Sought.BadHead = End.BadHeadOrSector
 soughtEnd Sought.BadCylinder = End.BadCylinder
 soughtEnd Sought.BadLba = End.BadLba
 
+abbrev pub seekEnded : State → Core
+seekEnded s = ended (soughtEnd (seek (s .registers .address) (s .current) (totalIn s))) true s
+
+-- 03H: "Error := last code, which stays"
+abbrev pub senseEnded : State → Core
+senseEnded s = ended End.Good true (withError (s .code) s)
+
 abbrev pub withErased : Erased → Machine → Machine
 withErased e m = machine (e .core) (m .buffer) (e .store) (e .marks)
 
 -- what a command does; s is the state with Error and code 0. "Commands that move no sectors leave these registers, but for 90H."
 abbrev pub obeyed : Command → State → Machine → Machine
 -- 20H 21H: read sectors
-obeyed Read s m = readSector (countOf s) (withState s m)
+obeyed Read s m = readSector (countOf s) (idleWith s m)
 -- 30H 31H: write
 obeyed Write s m = withCore (askSector (countOf s) true s) m
 -- 40H 41H: as read, no data
@@ -87,21 +103,21 @@ obeyed Identify s m = machine (begun In Buffer true s) (identifyBytes (factsOf s
 obeyed ReadBuffer s m = withCore (begun In Buffer true s) m
 obeyed WriteBuffer s m = withCore (begun Out Buffer true s) m
 -- 91H
-obeyed SetGeometry s m = withCore (geometrySet (reshaped (s .registers .count) (s .registers .address .head) (totalIn s)) s) m
+obeyed SetGeometry s m = withCore (geometryEnded s) m
 -- 90H: buffer, geometry, index, mask kept
 obeyed Diagnose s m = withCore (ended End.Good true (diagnosed s)) m
 -- 1XH: nothing
 obeyed Recalibrate s m = withCore (ended End.Good true s) m
 -- 7XH
-obeyed Seek s m = withCore (ended (soughtEnd (seek (s .registers .address) (s .current) (totalIn s))) true s) m
+obeyed Seek s m = withCore (seekEnded s) m
 -- 03H: Error := last code, which stays
-obeyed Sense s m = withCore (ended End.Good true (withError (m .state .code) (m .state))) m
+obeyed Sense s m = withCore (senseEnded (m .state)) m
 -- others: ABRT, 20H
 obeyed Other s m = withCore (ended End.NoSuchCommand true s) m
 
 -- "A Command write drops the transfer, keeps stored sectors, and starts afresh"; the mark is cleared "before the command's own effect"
 abbrev pub quiet : Machine → Machine
-quiet m = withState (withMark false (m .state)) m
+quiet m = idleWith (withMark false (m .state)) m
 
 unfoldable pub commandGiven : ℕ → Machine → Machine
 commandGiven opcode m = obeyed (commandOf opcode) (started (quiet m .state)) (quiet m)

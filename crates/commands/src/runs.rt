@@ -7,7 +7,7 @@ ghost use mathlib.Core.Path.{_≡_};
 ghost use Rattle.commands.specs.Runs.{verifyFrom, erased, eraseFrom};
 
 // 40H 41H.
-pub fn verify(state: State, left: u16, marks: &[u8]) -> Core
+pub(crate) fn verify(state: State, left: u16, marks: &[u8]) -> Core
     ensures { λ r. ⌜ r ≡ verifyFrom left state (now (marks .entry)) ⌝ }
 {
     let mut s = state;
@@ -16,7 +16,7 @@ pub fn verify(state: State, left: u16, marks: &[u8]) -> Core
         match transfers::read_test(s, marks) {
             Tested::Passes(_) => {
                 n -= 1;
-                s = transfers::passed(s, n);
+                s = transfers::sector_done(s, n);
             }
             Tested::Fails(end) => {
                 return transfers::ended(s, end, true);
@@ -27,17 +27,17 @@ pub fn verify(state: State, left: u16, marks: &[u8]) -> Core
 }
 
 // C0H.
-pub fn erase(state: State, left: u16, store: &mut [u8], marks: &mut [u8]) -> Core
+pub(crate) fn erase(state: State, left: u16, store: &mut [u8], marks: &mut [u8]) -> Core
     ensures { λ r. ⌜ erased r (now (store .exit)) (now (marks .exit)) ≡ eraseFrom left state (now (store .entry)) (now (marks .entry)) ⌝ }
 {
     let bytes = [0xFFu8; 512];
     let mut s = state;
     let mut n = left;
     while 0 < n {
-        match transfers::store_tested(s, &bytes, store, marks) {
+        match transfers::sector_stored(s, &bytes, store, marks) {
             Tested::Passes(_) => {
                 n -= 1;
-                s = transfers::passed(s, n);
+                s = transfers::sector_done(s, n);
             }
             Tested::Fails(end) => {
                 return transfers::ended(s, end, true);

@@ -12,39 +12,16 @@ use transfers::Way;
 ghost use mathlib.Core.Path.{_≡_};
 ghost use mathlib.Core.Bool.{true};
 ghost use Rattle.geometry.specs.Address.{seek};
-ghost use Rattle.geometry.specs.Shape.{reshaped};
 ghost use Rattle.identify.specs.Words.{identifyBytes};
-ghost use Rattle.registers.specs.State.{machine, withError};
-ghost use Rattle.registers.specs.WellMade.{totalIn};
+ghost use Rattle.registers.specs.Machine.{machine};
 ghost use Rattle.transfers.specs.Ends.{ended};
 ghost use Rattle.transfers.specs.Steps.{idle};
-ghost use Rattle.commands.specs.Table.{commandOf, started, countOf, factsOf, geometrySet, diagnosed, soughtEnd, obeyed, commandGiven};
+ghost use Rattle.commands.specs.Table.{sectorlessCommand, commandOf, started, countOf, factsOf, geometryEnded, diagnosed, soughtEnd, seekEnded, senseEnded, obeyed, commandGiven};
 
-// The row of an opcode.
-fn command_of(opcode: u8) -> Command
-    ensures { λ r. ⌜ r ≡ commandOf opcode ⌝ }
+// The rows that name no sectors.
+fn sectorless_command(opcode: u8) -> Command
+    ensures { λ r. ⌜ r ≡ sectorlessCommand opcode ⌝ }
 {
-    if opcode == 0x20 {
-        return Command::Read;
-    }
-    if opcode == 0x21 {
-        return Command::Read;
-    }
-    if opcode == 0x30 {
-        return Command::Write;
-    }
-    if opcode == 0x31 {
-        return Command::Write;
-    }
-    if opcode == 0x40 {
-        return Command::Verify;
-    }
-    if opcode == 0x41 {
-        return Command::Verify;
-    }
-    if opcode == 0xC0 {
-        return Command::Erase;
-    }
     if opcode == 0xEC {
         return Command::Identify;
     }
@@ -73,6 +50,34 @@ fn command_of(opcode: u8) -> Command
     Command::Other
 }
 
+// The row of an opcode.
+fn command_of(opcode: u8) -> Command
+    ensures { λ r. ⌜ r ≡ commandOf opcode ⌝ }
+{
+    if opcode == 0x20 {
+        return Command::Read;
+    }
+    if opcode == 0x21 {
+        return Command::Read;
+    }
+    if opcode == 0x30 {
+        return Command::Write;
+    }
+    if opcode == 0x31 {
+        return Command::Write;
+    }
+    if opcode == 0x40 {
+        return Command::Verify;
+    }
+    if opcode == 0x41 {
+        return Command::Verify;
+    }
+    if opcode == 0xC0 {
+        return Command::Erase;
+    }
+    sectorless_command(opcode)
+}
+
 // 01: every command but 03H starts with Error and code 0.
 fn started(state: State) -> State
     ensures { λ r. ⌜ r ≡ started state ⌝ }
@@ -95,7 +100,7 @@ fn count_of(state: State) -> u16
     ground::wide(count)
 }
 
-fn tell_identity(state: State, buffer: &mut [u8; 512])
+fn identify(state: State, buffer: &mut [u8; 512])
     ensures { λ _. ⌜ now (buffer .exit) ≡ identifyBytes (factsOf state) ⌝ }
 {
     let made = state.made;
@@ -110,13 +115,11 @@ fn tell_identity(state: State, buffer: &mut [u8; 512])
 
 // 91H.
 fn set_geometry(state: State) -> Core
-    ensures { λ r. ⌜ r ≡ geometrySet (reshaped (state .registers .count) (state .registers .address .head) (totalIn state)) state ⌝ }
+    ensures { λ r. ⌜ r ≡ geometryEnded state ⌝ }
 {
     let registers = state.registers;
     let address = registers.address;
-    let made = state.made;
-    let default = made.default;
-    match geometry::reshape(registers.count, address.head, default.total()) {
+    match geometry::reshape(registers.count, address.head, state.total()) {
         Reshaped::Taken(geometry) => {
             let mut s = state;
             s.current = geometry;
@@ -158,20 +161,17 @@ fn sought_end(sought: Sought) -> End
 
 // 7XH.
 fn seek(state: State) -> Core
-    ensures { λ r. ⌜ r ≡ ended (soughtEnd (seek (state .registers .address) (state .current) (totalIn state))) true state ⌝ }
+    ensures { λ r. ⌜ r ≡ seekEnded state ⌝ }
 {
     let registers = state.registers;
     let address = registers.address;
-    let made = state.made;
-    let default = made.default;
-    let current = state.current;
-    let sought = address.seek(current, default.total());
+    let sought = address.seek(state.current, state.total());
     transfers::ended(state, sought_end(sought), true)
 }
 
 // 03H: Error is the last code, which stays.
 fn sense(state: State) -> Core
-    ensures { λ r. ⌜ r ≡ ended End.Good true (withError (state .code) state) ⌝ }
+    ensures { λ r. ⌜ r ≡ senseEnded state ⌝ }
 {
     let mut s = state;
     let code = state.code;
@@ -181,32 +181,32 @@ fn sense(state: State) -> Core
 
 // What a command does.
 fn obey(
-    command: Command,
     state: State,
+    command: Command,
     buffer: &mut [u8; 512],
     store: &mut [u8],
     marks: &mut [u8],
 ) -> Core
     ensures { λ r. ⌜ machine r (now (buffer .exit)) (now (store .exit)) (now (marks .exit)) ≡ obeyed command (started state) (idle state (now (buffer .entry)) (now (store .entry)) (now (marks .entry))) ⌝ }
 {
-    let fresh = started(state);
+    let ready = started(state);
     match command {
-        Command::Read => transfers::read_sector(fresh, count_of(fresh), buffer, store, marks),
-        Command::Write => transfers::ask_sector(fresh, count_of(fresh), true),
-        Command::Verify => super::runs::verify(fresh, count_of(fresh), marks),
-        Command::Erase => super::runs::erase(fresh, count_of(fresh), store, marks),
+        Command::Read => transfers::read_sector(ready, count_of(ready), buffer, store, marks),
+        Command::Write => transfers::ask_sector(ready, count_of(ready), true),
+        Command::Verify => super::runs::verify(ready, count_of(ready), marks),
+        Command::Erase => super::runs::erase(ready, count_of(ready), store, marks),
         Command::Identify => {
-            tell_identity(fresh, buffer);
-            transfers::begun(fresh, Way::In, Load::Buffer, true)
+            identify(ready, buffer);
+            transfers::begun(ready, Way::In, Load::Buffer, true)
         }
-        Command::ReadBuffer => transfers::begun(fresh, Way::In, Load::Buffer, true),
-        Command::WriteBuffer => transfers::begun(fresh, Way::Out, Load::Buffer, true),
-        Command::SetGeometry => set_geometry(fresh),
-        Command::Diagnose => transfers::ended(diagnosed(fresh), End::Good, true),
-        Command::Recalibrate => transfers::ended(fresh, End::Good, true),
-        Command::Seek => seek(fresh),
+        Command::ReadBuffer => transfers::begun(ready, Way::In, Load::Buffer, true),
+        Command::WriteBuffer => transfers::begun(ready, Way::Out, Load::Buffer, true),
+        Command::SetGeometry => set_geometry(ready),
+        Command::Diagnose => transfers::ended(diagnosed(ready), End::Good, true),
+        Command::Recalibrate => transfers::ended(ready, End::Good, true),
+        Command::Seek => seek(ready),
         Command::Sense => sense(state),
-        Command::Other => transfers::ended(fresh, End::NoSuchCommand, true),
+        Command::Other => transfers::ended(ready, End::NoSuchCommand, true),
     }
 }
 
@@ -223,5 +223,5 @@ pub fn command_given(
     let mut s = state;
     s.mark = false;
     let command = command_of(opcode);
-    obey(command, s, buffer, store, marks)
+    obey(s, command, buffer, store, marks)
 }

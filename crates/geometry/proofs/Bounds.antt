@@ -1,6 +1,7 @@
--- Products of bounded numbers are bounded.
+-- Products of bounded numbers are bounded, and the sums that an index is.
 use Prim.Native.Nat.{ℕ, _+_, _*_, _≤_}
-use native.Mathlib.Nat.{mul-le-mul, mul-pos}
+use mathlib.Core.Path.{_≡_}
+use native.Mathlib.Nat.{add-mul, mul-le-mul, mul-pos}
 use native.Mathlib.Omega.{arith}
 
 pub product-most : (a b m n : ℕ) → a ≤ m → b ≤ n → a * b ≤ m * n
@@ -14,3 +15,10 @@ pub index-most : (c h H S : ℕ) → c ≤ 65535 → h ≤ 15 → H ≤ 65535 �
 index-most c h H S a b d e =
     let p = product-most c H 65535 65535 a d in
     (p, product-most (c * H + h) S 4294836240 65535 (omega arith) e)
+
+-- One head further on is one row of sectors further on.
+pub row-more : (x h s : ℕ) → (x + (h + 1)) * s ≡ (x + h) * s + s
+row-more x h s =
+    let e : x + (h + 1) ≡ x + h + 1 = omega arith in
+    let m = add-mul (x + h) 1 s in
+    rw e (omega arith)

@@ -13,8 +13,7 @@ use Rattle.geometry.specs.declared.Address.{Address}
 use Rattle.geometry.specs.declared.Spot.{Spot}
 use Rattle.geometry.specs.declared.Located.{Located}
 use Rattle.geometry.specs.Limits.{capacityOf, currentFor}
-use Rattle.geometry.specs.Address.{byLba, headOf, cylinderOf, lbaOf, chsIndex, locateLba, locateChs, locate, roomOf}
-use Rattle.geometry.specs.Codes.{found, indexOf}
+use Rattle.geometry.specs.Address.{byLba, headOf, cylinderOf, lbaOf, chsIndex, locateLba, locateChs, locate, roomOf, found, indexOf}
 use Rattle.ground.proofs.Every.{each}
 use Rattle.geometry.proofs.Limits.{current-room}
 

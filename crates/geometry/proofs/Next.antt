@@ -19,6 +19,7 @@ use Rattle.geometry.specs.Codes.{locatedCode}
 use Rattle.geometry.proofs.Limits.{current-facts}
 use Rattle.geometry.proofs.Kept.{same-way}
 use Rattle.geometry.proofs.Inside.{Chs, chs-less, chs-good, chs-facts, lba-facts}
+use Rattle.geometry.proofs.Bounds.{row-more}
 
 -- The registers made of a cylinder, head and sector name them.
 at-chs-located : (a : Address) (g : Geometry) (n c h s : ℕ) → byLba a ≡ false → c < 65536 → h < 16 → s < 256 → locate (atChs a c h s) g n ≡ locateChs c h s g
@@ -37,7 +38,7 @@ at-lba-located a g n i b x =
     rw (same-way a (atLba a i) (i / 16777216) refl, b, l)
 
 -- What comes after index i, with room for m sectors.
-abbrev pub After : ℕ → ℕ → Located → Located
+abbrev After : ℕ → ℕ → Located → Located
 After i m bad = pick (ltb (i + 1) m) (Located.Good (record { index = i + 1 })) bad
 
 landed : (i j m : ℕ) (bad : Located) → i + 1 ≡ j → j < m → Located.Good (record { index = j }) ≡ After i m bad
@@ -57,13 +58,6 @@ step-chs a g n i c h s b l f q =
     at-chs-located a g n c h s b (omega arith) (omega arith) (omega arith)
     ∙ chs-good c h s g f
     ∙ landed i (chsIndex c h s g) (capacityOf g) Located.BadCylinder q (chs-less c h s g f)
-
--- One head further on is one row of sectors further on.
-row-more : (x h s : ℕ) → (x + (h + 1)) * s ≡ (x + h) * s + s
-row-more x h s =
-    let e : x + (h + 1) ≡ x + h + 1 = omega arith in
-    let m = add-mul (x + h) 1 s in
-    rw e (omega arith)
 
 -- The last sector of a cylinder: the first of the next one, if there is one.
 step-cylinder : (t : Bool) (a : Address) (g : Geometry) (n i c : ℕ) →

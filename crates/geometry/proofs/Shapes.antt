@@ -10,12 +10,12 @@ use Rattle.ground.specs.Choice.{pick, every}
 use Rattle.geometry.specs.declared.Geometry.{Geometry}
 use Rattle.geometry.specs.declared.Reshaped.{Reshaped}
 use Rattle.geometry.specs.Limits.{fits, totalOf, currentFor, cylindersFor}
-use Rattle.geometry.specs.Shape.{shape, reshaped}
-use Rattle.geometry.specs.Codes.{currentAfter, reshapedCode}
+use Rattle.geometry.specs.Shape.{geometryBy, reshaped, currentAfter}
+use Rattle.geometry.specs.Codes.{reshapedCode}
 use Rattle.geometry.proofs.Bounds.{product-positive}
 use Rattle.geometry.proofs.Limits.{Current, fits-facts, total-fits}
 
-pub current-of : (g : Geometry) (n : ℕ) → Current g n → currentFor g n ≡ true
+current-of : (g : Geometry) (n : ℕ) → Current g n → currentFor g n ≡ true
 unfolding currentFor every
 current-of g n f = rw (le-leb _ _ (f .0), le-leb _ _ (f .1), le-leb _ _ (f .2), le-leb _ _ (f .3), le-leb _ _ (f .4), eq-eqb _ _ (f .5))
 
@@ -37,12 +37,12 @@ taken false false x g e = (refl, refl, ap (λ (r : Reshaped). currentAfter r x) 
 pub reshaped-current : (count head n : ℕ) (g : Geometry) → count < 256 → reshaped count head n ≡ Reshaped.Taken g → currentFor g n ≡ true
 unfolding reshaped
 reshaped-current count head n g b e =
-    let t = taken (eqb count 0) (ltb n ((head % 16 + 1) * count)) (shape (head % 16 + 1) count n) g e in
+    let t = taken (eqb count 0) (ltb n ((head % 16 + 1) * count)) (geometryBy (head % 16 + 1) count n) g e in
     let k = eqb-false count 0 (t .0) in
     let l = ltb-false n ((head % 16 + 1) * count) (t .1) in
     let p = product-positive (head % 16 + 1) count (omega arith) (omega arith) in
     let q : 1 ≤ n / ((head % 16 + 1) * count) = le-div-iff-mul-le p .1 (omega arith) in
-    rw (← t .2) (current-of (shape (head % 16 + 1) count n) n (omega arith, omega arith, omega arith, omega arith, q, refl))
+    rw (← t .2) (current-of (geometryBy (head % 16 + 1) count n) n (omega arith, omega arith, omega arith, omega arith, q, refl))
 
 -- So 91H, taken or refused, leaves a good current geometry.
 pub after-current : (count head n : ℕ) (r : Reshaped) (old : Geometry) → count < 256 → reshaped count head n ≡ r → currentFor old n ≡ true → currentFor (currentAfter r old) n ≡ true

@@ -1,6 +1,6 @@
 -- 01, "Commands", first paragraph: the sector that the address registers name, or the test that failed; and 7XH's test.
 use Prim.Native.Nat.{ℕ, _+_, _-_, _*_, _/_, _%_}
-use mathlib.Core.Bool.{Bool}
+use mathlib.Core.Bool.{Bool, true, false}
 use mathlib.Core.List.{[], _∷_}
 use lib.Dec.{ltb, leb, eqb}
 use Rattle.ground.specs.Choice.{pick, every}
@@ -54,3 +54,16 @@ seek a g n =
 -- The end of a run's room: the current capacity in CHS, N in LBA.
 unfoldable pub roomOf : Address → Geometry → ℕ → ℕ
 roomOf a g n = pick (byLba a) n (capacityOf g)
+
+-- Is there such a sector, and where.
+abbrev pub found : Located → Bool
+found (Located.Good p) = true
+found Located.BadHeadOrSector = false
+found Located.BadCylinder = false
+found Located.BadLba = false
+
+abbrev pub indexOf : Located → ℕ
+indexOf (Located.Good p) = p .index
+indexOf Located.BadHeadOrSector = 0
+indexOf Located.BadCylinder = 0
+indexOf Located.BadLba = 0

@@ -6,12 +6,17 @@ use Rattle.geometry.specs.declared.Geometry.{Geometry}
 use Rattle.geometry.specs.declared.Reshaped.{Reshaped}
 use Rattle.geometry.specs.Limits.{cylindersFor}
 
--- The shape of N sectors by H and S: "current C = N div (H·S)".
-abbrev pub shape : ℕ → ℕ → ℕ → Geometry
-shape heads sectors total = record { cylinders = cylindersFor heads sectors total; heads = heads; sectors = sectors }
+-- The geometry of N sectors by H and S: "current C = N div (H·S)".
+abbrev pub geometryBy : ℕ → ℕ → ℕ → Geometry
+geometryBy heads sectors total = record { cylinders = cylindersFor heads sectors total; heads = heads; sectors = sectors }
 
 unfoldable pub reshaped : ℕ → ℕ → ℕ → Reshaped
 reshaped count head total =
     pick (eqb count 0) Reshaped.Refused
     (pick (ltb total ((head % 16 + 1) * count)) Reshaped.Refused
-    (Reshaped.Taken (shape (head % 16 + 1) count total)))
+    (Reshaped.Taken (geometryBy (head % 16 + 1) count total)))
+
+-- The geometry after 91H: "old geometry stays" where it is refused.
+abbrev pub currentAfter : Reshaped → Geometry → Geometry
+currentAfter (Reshaped.Taken g) old = g
+currentAfter Reshaped.Refused old = old

@@ -1,10 +1,11 @@
--- A copy, one element a turn: after n turns the first n elements are those of the source.
-use mathlib.Core.Path.{_≡_, sym, ap, _∙_}
+-- Lists: a copy, one element a turn; a part of a list of equal elements; the first two of a rest.
+use mathlib.Core.Path.{_≡_, refl, sym, ap, _∙_}
 use mathlib.Core.List.{List, [], _∷_, _++_}
-use Prim.Native.Nat.{ℕ, _+_, _<_, _≤_}
+use Prim.Native.Nat.{ℕ, zero, suc, _+_, _<_, _≤_}
+use native.Mathlib.Omega.{arith}
 use native.Mathlib.Numerals.{add-one}
-use lib.ListN.{length, set, take, getD}
-use lib.Seq.{take-all, take-suc-set, take-suc}
+use lib.ListN.{length, set, take, drop, replicate, getD}
+use lib.Seq.{take-all, take-suc-set, take-suc, drop-cons}
 
 -- a turn: the element at n is stored
 pub copy-more : (n : ℕ) (s d : List ℕ) → n < length s → n < length d → take n d ≡ take n s → take (n + 1) (set d n (getD s n 0)) ≡ take (n + 1) s
@@ -15,3 +16,14 @@ copy-more n s d ls ld e =
 -- the end: a whole copy
 pub copy-all : (n : ℕ) (s d : List ℕ) → length s ≤ n → length d ≤ n → take n d ≡ take n s → d ≡ s
 copy-all n s d ls ld e = sym (take-all n d ld) ∙ e ∙ take-all n s ls
+
+pub take-replicate : {A : Type 0} (j m : ℕ) (x : A) → j ≤ m → take j (replicate m x) ≡ replicate j x
+take-replicate zero m x h = refl
+take-replicate (suc j) zero x h = let z : ⊥ = omega arith in absurd z
+take-replicate (suc j) (suc m) x h = ap (λ l. x ∷ l) (take-replicate j m x (omega arith))
+
+pub drop-two : (s : List ℕ) (at : ℕ) → at + 1 < length s → drop at s ≡ getD s at 0 ∷ (getD s (at + 1) 0 ∷ drop (at + 2) s)
+drop-two s at h =
+    let more : suc (suc at) ≡ at + 2 = omega arith in
+    drop-cons s at 0 (omega arith)
+    ∙ ap (λ (l : List ℕ). getD s at 0 ∷ l) (drop-cons s (suc at) 0 (omega arith) ∙ ap (λ (k : ℕ). getD s k 0 ∷ drop (suc (suc at)) s) (sym (add-one at)) ∙ ap (λ (k : ℕ). getD s (at + 1) 0 ∷ drop k s) more)

@@ -1,18 +1,17 @@
--- What holds of both branches of a choice, each under its test, holds of the choice.
+-- Laws of a choice: what holds of both branches, each under its test, holds of the choice.
 use mathlib.Core.Bool.{Bool, true, false, not}
-use mathlib.Core.Path.{_≡_, refl, sym}
-use mathlib.Core.Bool.{true≢false}
+use mathlib.Core.Path.{_≡_, refl, ap}
 use Rattle.ground.specs.Choice.{pick}
 
 pub pick-elim {ℓ} : {A : Type ℓ} (P : A → Type 0) (b : Bool) (x y : A) → (b ≡ true → P x) → (b ≡ false → P y) → P (pick b x y)
 pick-elim P true x y f g = f refl
 pick-elim P false x y f g = g refl
 
--- a test of a negation tells of what is negated
-pub no : (b : Bool) → not b ≡ true → b ≡ false
-no true e = absurd (true≢false (sym e))
-no false e = refl
+pub pick-same {ℓ} : {A : Type ℓ} (b : Bool) (x : A) → pick b x x ≡ x
+pick-same true x = refl
+pick-same false x = refl
 
-pub yes : (b : Bool) → not b ≡ false → b ≡ true
-yes true e = refl
-yes false e = absurd (true≢false e)
+-- a test of a negation tells of what is negated
+pub un-not : (b t : Bool) → not b ≡ t → b ≡ not t
+un-not true t p = ap not p
+un-not false t p = ap not p

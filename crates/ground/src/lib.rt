@@ -10,15 +10,15 @@ pub fn wide(x: u8) -> u16
     x as u16
 }
 
-// An array that is passed by value is known to be 512 long; `told` says so of one that is lent.
-fn long(bytes: [u8; 512])
+// An array that is passed by value is known to be 512 long; `length_known` says so of one that is lent.
+fn array_length(bytes: [u8; 512])
     ensures { λ _. ⌜ length bytes ≡ 512 ⌝ }
 {}
 
-pub fn told(bytes: &[u8; 512])
+pub fn length_known(bytes: &[u8; 512])
     ensures { λ _. ⌜ length (now (bytes .entry)) ≡ 512 ⌝ }
 {
-    long(*bytes);
+    array_length(*bytes);
 }
 
 // A byte of a slice, 0 past its end.

@@ -14,8 +14,8 @@ abbrev pub highHalf : ℕ → ℕ
 highHalf n = n / 65536 % 65536
 
 -- "10..19, 23..26, 27..46 are 2020H"
-unfoldable pub blank : ℕ → Bool
-blank n = pick (ltb n 10) false (pick (leb n 19) true (pick (ltb n 23) false (leb n 46)))
+unfoldable pub blankWord : ℕ → Bool
+blankWord n = pick (ltb n 10) false (pick (leb n 19) true (pick (ltb n 23) false (leb n 46)))
 
 -- "word 0 848AH; 1, 3, 6 default C, H, S; 7 high and 8 low half of N; 10..19, 23..26, 27..46 are 2020H"
 unfoldable pub firstWord : Facts → ℕ → ℕ
@@ -26,7 +26,7 @@ firstWord f n =
     (pick (eqb n 6) (f .default .sectors)
     (pick (eqb n 7) (highHalf (totalOf (f .default)))
     (pick (eqb n 8) (lowHalf (totalOf (f .default)))
-    (pick (blank n) 0x2020
+    (pick (blankWord n) 0x2020
     0))))))
 
 -- "49 is 0200H; 53 is 1; 54..56 current C, H, S; 57 low and 58 high half of current C·H·S; 60 low, 61 high of N; the rest 0"

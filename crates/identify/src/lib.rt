@@ -2,7 +2,7 @@
 use geometry::Geometry;
 ghost use mathlib.Core.Path.{_≡_};
 ghost use Rattle.geometry.specs.Limits.{totalOf, capacityOf};
-ghost use Rattle.identify.specs.Words.{lowHalf, highHalf, blank, firstWord, laterWord, identifyWord, identifyByte, identifyBytes};
+ghost use Rattle.identify.specs.Words.{lowHalf, highHalf, blankWord, firstWord, laterWord, identifyWord, identifyByte, identifyBytes};
 
 // What Identify tells.
 pub struct Facts {
@@ -22,8 +22,8 @@ fn high_half(n: usize) -> u16
     (n / 65536 % 65536) as u16
 }
 
-fn blank(n: usize) -> bool
-    ensures { λ r. ⌜ r ≡ blank n ⌝ }
+fn blank_word(n: usize) -> bool
+    ensures { λ r. ⌜ r ≡ blankWord n ⌝ }
 {
     if n < 10 {
         return false;
@@ -77,7 +77,7 @@ impl Facts {
         if n == 8 {
             return low_half(self.total());
         }
-        if blank(n) {
+        if blank_word(n) {
             return 0x2020;
         }
         0
@@ -119,7 +119,7 @@ impl Facts {
     }
 
     // Word n.
-    pub fn word(self, n: usize) -> u16
+    fn word(self, n: usize) -> u16
         ensures { λ r. ⌜ r ≡ identifyWord self n ⌝ }
     {
         if n < 49 {
@@ -143,7 +143,7 @@ impl Facts {
     pub fn identify(self, buffer: &mut [u8; 512])
         ensures { λ _. ⌜ now (buffer .exit) ≡ identifyBytes self ⌝ }
     {
-        ground::told(buffer);
+        ground::length_known(buffer);
         let mut i = 0;
         while i < 512 {
             buffer[i] = self.byte(i);

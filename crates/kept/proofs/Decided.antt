@@ -1,13 +1,14 @@
 -- What the refusals before an access leave: an option that may be written, and no register written while SRESET holds.
-use Prim.Native.Nat.{ℕ, _%_, _<_, _≤_}
+use Prim.Native.Nat.{ℕ, _*_, _%_, _<_, _≤_}
 use mathlib.Core.Bool.{Bool, true, false}
 use mathlib.Core.Path.{_≡_, refl}
 use native.Mathlib.Omega.{arith}
 use lib.Dec.{eqb}
 use lib.ListN.{length}
-use borrow.Author.Tests.{eqb-true, ne-eqb, le-leb}
+use borrow.Author.Tests.{eqb-true, eq-eqb, ne-eqb, le-leb}
 use Rattle.ground.specs.Choice.{pick}
 use Rattle.ground.proofs.Picks.{pick-elim}
+use Rattle.answers.specs.declared.Refusal.the-variants.{NotWellMade, StoreLength, MarksLength, TupleBufferLength, HeldBySreset, SpaceSilent}
 use Rattle.maps.specs.declared.Mode.{Mode}
 use Rattle.maps.specs.declared.Mode.the-variants.{PcCard, TrueIde}
 use Rattle.maps.specs.declared.Target.the-variants.{Tuple, Option, Named, Data}
@@ -16,12 +17,45 @@ use Rattle.maps.specs.Spaces.{answersAt}
 use Rattle.maps.specs.Maps.{standsAt}
 use Rattle.maps.proofs.Standings.{Fits, stands-fits}
 use Rattle.registers.specs.declared.State.{State}
-use Rattle.registers.specs.State.{Machine, sresetIn, indexIn}
+use Rattle.registers.specs.State.{sresetIn, indexIn, totalIn}
+use Rattle.registers.specs.Machine.{Machine}
 use Rattle.registers.specs.WellMade.{wellMade, indexFits, sresetFits}
 use Rattle.card.specs.declared.Meaning.{Meaning}
 use Rattle.card.specs.declared.Meaning.the-variants.{TupleByte, ReadOption, WriteOption, ReadRegister, WriteRegister, ReadData, WriteData}
 use Rattle.card.specs.Access.{Access, standing, heldAway, decided, meaning}
 
+-- rows 8 and 7, then what stands there
+pub decided-elim : (P : Meaning → Type 0) (s : State) (a : Access) → P (Meaning.Refused HeldBySreset) → P (Meaning.Refused SpaceSilent) →
+    (heldAway (s .option) (a .space) (a .address) ≡ false → answersAt (a .space) (s .made .mode) (indexIn (s .option)) ≡ true →
+    P (standing (standsAt (a .space) (indexIn (s .option)) (a .address) (a .width) (a .write) (a .value)) (a .write) (a .value) (a .tuples))) →
+    P (decided s a)
+unfolding decided
+decided-elim P s a x y f =
+    pick-elim P (heldAway (s .option) (a .space) (a .address)) _ _ (λ h. x)
+    (λ h. pick-elim P (answersAt (a .space) (s .made .mode) (indexIn (s .option))) _ _ (f h) (λ e. y))
+
+-- rows 12, 2, 3 and 5, then what is decided
+pub meaning-elim : (P : Meaning → Type 0) (m : Machine) (a : Access) →
+    P (Meaning.Refused NotWellMade) → P (Meaning.Refused StoreLength) → P (Meaning.Refused MarksLength) → P (Meaning.Refused TupleBufferLength) →
+    (wellMade (m .phase) (m .state) ≡ true → length (m .store) ≡ 512 * totalIn (m .state) → length (m .marks) ≡ totalIn (m .state) → length (a .tuples) ≡ 256 →
+    P (decided (m .state) a)) →
+    P (meaning m a)
+unfolding meaning
+meaning-elim P m a x y z u f =
+    pick-elim P (wellMade (m .phase) (m .state)) _ _
+    (λ w. pick-elim P (eqb (length (m .store)) _) _ _
+    (λ s. pick-elim P (eqb (length (m .marks)) _) _ _
+    (λ k. pick-elim P (eqb (length (a .tuples)) 256) _ _ (λ t. f w (eqb-true _ _ s) (eqb-true _ _ k) (eqb-true _ _ t)) (λ t. u))
+    (λ k. z))
+    (λ s. y))
+    (λ w. x)
+
+pub meaning-decided : (m : Machine) (a : Access) → wellMade (m .phase) (m .state) ≡ true →
+    length (m .store) ≡ 512 * totalIn (m .state) → length (m .marks) ≡ totalIn (m .state) → length (a .tuples) ≡ 256 → meaning m a ≡ decided (m .state) a
+unfolding meaning
+meaning-decided m a e s k t = rw (e, eq-eqb _ _ s, eq-eqb _ _ k, eq-eqb _ _ t)
+
+-- what an access may mean
 abbrev pub Allowed : Meaning → State → Type 0
 Allowed (Meaning.Refused r) s = Unit {0}
 Allowed (TupleByte b) s = Unit {0}
@@ -68,24 +102,10 @@ stands-allowed (Standing.There (Data port)) s a f h e = pick-elim (λ (k : Meani
 stands-allowed (Standing.Refused r) s a f h e = tt
 
 pub decided-allowed : (s : State) (a : Access) → Allowed (decided s a) s
-unfolding decided
 decided-allowed s a =
-    pick-elim (λ (k : Meaning). Allowed k s) (heldAway (s .option) (a .space) (a .address)) _ _
-    (λ h. tt)
-    (λ h. pick-elim (λ (k : Meaning). Allowed k s) (answersAt (a .space) (s .made .mode) (indexIn (s .option))) _ _
-    (λ e. stands-allowed (standsAt (a .space) (indexIn (s .option)) (a .address) (a .width) (a .write) (a .value)) s a
+    decided-elim (λ (k : Meaning). Allowed k s) s a tt tt
+    (λ h e. stands-allowed (standsAt (a .space) (indexIn (s .option)) (a .address) (a .width) (a .write) (a .value)) s a
     (stands-fits (a .space) (indexIn (s .option)) (a .address) (a .width) (a .write) (a .value)) h e)
-    (λ e. tt))
 
 pub meaning-allowed : (m : Machine) (a : Access) → Allowed (meaning m a) (m .state)
-unfolding meaning
-meaning-allowed m a =
-    pick-elim (λ (k : Meaning). Allowed k (m .state)) (wellMade (m .phase) (m .state)) _ _
-    (λ e. pick-elim (λ (k : Meaning). Allowed k (m .state)) (eqb (length (m .store)) _) _ _
-    (λ e. pick-elim (λ (k : Meaning). Allowed k (m .state)) (eqb (length (m .marks)) _) _ _
-    (λ e. pick-elim (λ (k : Meaning). Allowed k (m .state)) (eqb (length (a .tuples)) 256) _ _
-    (λ e. decided-allowed (m .state) a)
-    (λ e. tt))
-    (λ e. tt))
-    (λ e. tt))
-    (λ e. tt)
+meaning-allowed m a = meaning-elim (λ (k : Meaning). Allowed k (m .state)) m a tt tt tt tt (λ w s k t. decided-allowed (m .state) a)

@@ -3,27 +3,26 @@ use Prim.Native.Nat.{ℕ}
 use mathlib.Core.Bool.{true}
 use mathlib.Core.Path.{_≡_, refl}
 use mathlib.Core.List.{List}
-use lib.Dec.{leb}
 use lib.ListN.{length}
-use Rattle.ground.proofs.Picks.{pick-elim}
 use Rattle.maps.specs.declared.Mode.{Mode}
 use Rattle.maps.specs.declared.Mode.the-variants.{PcCard, TrueIde}
-use Rattle.registers.specs.State.{core, sresetIn, indexIn}
-use Rattle.registers.specs.WellMade.{wellMade, indexFits, sresetFits}
+use Rattle.registers.specs.Machine.{core}
+use Rattle.registers.specs.WellMade.{wellMade, sresetFits}
 use Rattle.registers.specs.Resets.{optionTurn}
 use Rattle.card.specs.declared.Card.{Card}
 use Rattle.card.specs.declared.Answer.{Answer}
-use Rattle.card.specs.Doors.{machineOf, optionAt, optionAnswered, controlAnswered}
+use Rattle.card.specs.Doors.{machineOf, optionAnswered, controlAnswered}
 use Rattle.kept.specs.Sound.{Sound}
-use Rattle.kept.proofs.Registers.{Stands, Runs, apart, together}
+use Rattle.kept.proofs.Registers.{StateFits, PhaseFits, apart, together}
 use Rattle.kept.proofs.Resets.{Turned, option-turned, control-turned, buffer-turned}
+use Rattle.kept.proofs.DoorElim.{option-elim, control-elim}
 use Rattle.kept.proofs.Step.{sound-next}
 
 -- what comes back of the card c
 abbrev Back : Card → Card → Type 0
 Back c x = Turned (c .state .made) (c .state) (core (x .phase) (x .state)) × (length (c .buffer) ≡ 512 → length (x .buffer) ≡ 512)
 
-same : (c : Card) → Stands (c .state .made) (c .state) → Runs (c .phase) (c .state) → Back c c
+same : (c : Card) → StateFits (c .state .made) (c .state) → PhaseFits (c .phase) (c .state) → Back c c
 same c f r = ((f, r, λ s. s), λ b. b)
 
 mode-0 : (mode : Mode) (v : ℕ) → PcCard ≡ mode → sresetFits mode v ≡ true
@@ -31,31 +30,16 @@ unfolding sresetFits
 mode-0 PcCard v e = refl
 mode-0 TrueIde v e = cc
 
-option-at : (mode : Mode) (v : ℕ) (c : Card) → mode ≡ c .state .made .mode → Stands (c .state .made) (c .state) → Runs (c .phase) (c .state) → Back c (optionAt mode v c .card)
-unfolding indexFits
-option-at TrueIde v c e f r = same c f r
-option-at PcCard v c e f r =
-    pick-elim (λ (x : Answer). Back c (x .card)) (leb (indexIn v) 3) _ _
-    (λ i. (option-turned v (c .state .made) (c .phase) (c .state) (i, mode-0 (c .state .made .mode) v e) f r, buffer-turned (optionTurn v (c .state)) (c .buffer)))
-    (λ i. same c f r)
-
 option-back : (v : ℕ) (c : Card) → wellMade (c .phase) (c .state) ≡ true → Back c (optionAnswered v c .card)
-unfolding optionAnswered
 option-back v c e =
     let a = apart (c .phase) (c .state) e in
-    pick-elim (λ (x : Answer). Back c (x .card)) (wellMade (c .phase) (c .state)) _ _
-    (λ w. option-at (c .state .made .mode) v c refl (a .0) (a .1))
-    (λ w. same c (a .0) (a .1))
+    option-elim (λ (x : Answer). Back c (x .card)) v c (λ r. same c (a .0) (a .1))
+    (λ m i. (option-turned v (c .state .made) (c .phase) (c .state) (i, mode-0 (c .state .made .mode) v m) (a .0) (a .1), buffer-turned (optionTurn v (c .state)) (c .buffer)))
 
 control-back : (v : ℕ) (c : Card) → wellMade (c .phase) (c .state) ≡ true → Back c (controlAnswered v c .card)
-unfolding controlAnswered
 control-back v c e =
     let a = apart (c .phase) (c .state) e in
-    pick-elim (λ (x : Answer). Back c (x .card)) (wellMade (c .phase) (c .state)) _ _
-    (λ w. pick-elim (λ (x : Answer). Back c (x .card)) (sresetIn (c .state .option)) _ _
-    (λ h. same c (a .0) (a .1))
-    (λ h. (control-turned v (c .state .made) (c .phase) (c .state) (a .0) (a .1), λ b. b)))
-    (λ w. same c (a .0) (a .1))
+    control-elim (λ (x : Answer). Back c (x .card)) v c (λ r. same c (a .0) (a .1)) (control-turned v (c .state .made) (c .phase) (c .state) (a .0) (a .1), λ b. b)
 
 back-well : (c x : Card) → Back c x → wellMade (x .phase) (x .state) ≡ true
 back-well c x b = together (c .state .made) (x .phase) (x .state) (b .0 .0) (b .0 .1)

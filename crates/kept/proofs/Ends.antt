@@ -15,9 +15,10 @@ use Rattle.registers.specs.declared.Load.{Load}
 use Rattle.registers.specs.declared.Load.the-variants.{Sectors}
 use Rattle.registers.specs.declared.Made.{Made}
 use Rattle.registers.specs.declared.State.{State}
-use Rattle.registers.specs.State.{Machine, coreOf}
-use Rattle.registers.specs.WellMade.{locatedIn, atRest, statusFits, heldIn, holdFits, wordsFit, sectorsFit, loadFits, runFits}
-use Rattle.geometry.specs.Codes.{found}
+use Rattle.registers.specs.State.{locatedIn}
+use Rattle.registers.specs.Machine.{Machine, coreOf}
+use Rattle.registers.specs.WellMade.{atRest, statusFits, heldIn, holdFits, wordsFit, sectorsFit, loadFits, runFits}
+use Rattle.geometry.specs.Address.{found}
 use Rattle.transfers.specs.declared.End.{End}
 use Rattle.transfers.specs.declared.Tested.{Tested}
 use Rattle.transfers.specs.declared.Tested.the-variants.{Passes, Fails}
@@ -25,26 +26,26 @@ use Rattle.transfers.specs.declared.Way.{Way}
 use Rattle.transfers.specs.declared.Way.the-variants.{In, Out}
 use Rattle.transfers.specs.Ends.{endStatus, ended}
 use Rattle.transfers.specs.Before.{testedOf, markTested}
-use Rattle.transfers.specs.Steps.{begun, passed}
-use Rattle.kept.specs.Sound.{Small}
-use Rattle.kept.proofs.Registers.{Stands, Runs, Left, load-same}
+use Rattle.transfers.specs.Steps.{begun, sectorDone}
+use Rattle.kept.specs.Sound.{CountFits}
+use Rattle.kept.proofs.Registers.{StateFits, PhaseFits, CoreFits, load-same}
 use Rattle.kept.proofs.Resets.{at-rest}
-use Rattle.kept.proofs.Lent.{Lent}
+use Rattle.kept.proofs.Lent.{LengthsKept}
 
 -- a state in which a command can end, and one in which a transfer can begin
 abbrev pub Fine : Made → State → Type 0
-Fine d s = Stands d s × Small s
+Fine d s = StateFits d s × CountFits s
 
 abbrev pub Ready : Made → State → Type 0
 Ready d s = Fine d s × (heldIn s ≡ false)
 
 -- "1..256 sectors left, agreeing with Sector Count modulo 256"
-abbrev pub Agrees : ℕ → State → Type 0
-Agrees left s = (1 ≤ left) × (left ≤ 256) × (left % 256 ≡ s .registers .count)
+abbrev pub CountAgrees : ℕ → State → Type 0
+CountAgrees left s = (1 ≤ left) × (left ≤ 256) × (left % 256 ≡ s .registers .count)
 
 -- a machine's change: what it leaves of the card, and of what is lent
 abbrev pub Next : Made → Machine → Machine → Type 0
-Next d m n = Left d (coreOf n) × Lent m n
+Next d m n = CoreFits d (coreOf n) × LengthsKept m n
 
 end-rests : (e : End) → atRest (endStatus e) ≡ true
 unfolding atRest
@@ -57,51 +58,55 @@ end-rests End.WriteFault = refl
 end-rests End.BadGeometry = refl
 end-rests End.NoSuchCommand = refl
 
-pub ended-left : (e : End) (mark : Bool) (d : Made) (s : State) → Fine d s → Left d (ended e mark s)
+pub ended-left : (e : End) (mark : Bool) (d : Made) (s : State) → Fine d s → CoreFits d (ended e mark s)
 ended-left e mark d s f = (f .0, at-rest (ended e mark s .state) (end-rests e), f .1)
 
-begun-runs : (way : Way) (load : Load) (first : Bool) (s : State) → heldIn s ≡ false → loadFits load s ≡ true → Runs (begun way load first s .phase) (begun way load first s .state)
+begun-fits : (way : Way) (load : Load) (first : Bool) (s : State) → heldIn s ≡ false → loadFits load s ≡ true → PhaseFits (begun way load first s .phase) (begun way load first s .state)
 unfolding statusFits holdFits wordsFit runFits heldIn
-begun-runs In load first s h e = (refl, ap not h, refl, load-same load s (begun In load first s .state) refl refl e)
-begun-runs Out load first s h e = (refl, ap not h, refl, load-same load s (begun Out load first s .state) refl refl e)
+begun-fits In load first s h e = (refl, ap not h, refl, load-same load s (begun In load first s .state) refl refl e)
+begun-fits Out load first s h e = (refl, ap not h, refl, load-same load s (begun Out load first s .state) refl refl e)
 
-pub begun-left : (way : Way) (load : Load) (first : Bool) (d : Made) (s : State) → Ready d s → loadFits load s ≡ true → Left d (begun way load first s)
-begun-left way load first d s r e = (r .0 .0, begun-runs way load first s (r .1) e, r .0 .1)
+pub begun-left : (way : Way) (load : Load) (first : Bool) (d : Made) (s : State) → Ready d s → loadFits load s ≡ true → CoreFits d (begun way load first s)
+begun-left way load first d s r e = (r .0 .0, begun-fits way load first s (r .1) e, r .0 .1)
 
-pub sectors-fit : (left : ℕ) (s : State) → found (locatedIn s) ≡ true → Agrees left s → loadFits (Sectors left) s ≡ true
+pub sectors-fit : (left : ℕ) (s : State) → found (locatedIn s) ≡ true → CountAgrees left s → loadFits (Sectors left) s ≡ true
 unfolding loadFits sectorsFit every
 sectors-fit left s g a = rw (g, le-leb _ _ (a .0), le-leb _ _ (a .1), eq-eqb _ _ (a .2))
 
--- what a sector's tests can say
-pub address-elim : (P : Tested → Type 0) (l : Located) → ((spot : Spot) → found l ≡ true → P (Passes spot)) → ((e : End) → P (Fails e)) → P (testedOf l)
-address-elim P (Located.Good spot) f g = f spot refl
-address-elim P Located.BadHeadOrSector f g = g _
-address-elim P Located.BadCylinder f g = g _
-address-elim P Located.BadLba f g = g _
+-- an end in error
+abbrev pub bad : End → Bool
+bad e = not (eqb (endStatus e) 0x50)
 
-pub mark-elim : (P : Tested → Type 0) (allows : ℕ → Bool) (e : End) (marks : List ℕ) (l : Located) →
-    ((spot : Spot) → found l ≡ true → P (Passes spot)) → ((e : End) → P (Fails e)) → P (markTested allows e (testedOf l) marks)
-mark-elim P allows e marks l f g =
+-- what a sector's tests can say
+pub address-elim : (P : Tested → Type 0) (l : Located) → ((spot : Spot) → found l ≡ true → P (Passes spot)) → ((e : End) → bad e ≡ true → P (Fails e)) → P (testedOf l)
+address-elim P (Located.Good spot) f g = f spot refl
+address-elim P Located.BadHeadOrSector f g = g _ refl
+address-elim P Located.BadCylinder f g = g _ refl
+address-elim P Located.BadLba f g = g _ refl
+
+pub mark-elim : (P : Tested → Type 0) (allows : ℕ → Bool) (e : End) (marks : List ℕ) (l : Located) → bad e ≡ true →
+    ((spot : Spot) → found l ≡ true → P (Passes spot)) → ((e : End) → bad e ≡ true → P (Fails e)) → P (markTested allows e (testedOf l) marks)
+mark-elim P allows e marks l b f g =
     address-elim (λ (t : Tested). P (markTested allows e t marks)) l
-    (λ spot h. pick-elim P (allows (getD marks (spot .index) 0)) _ _ (λ x. f spot h) (λ x. g e))
+    (λ spot h. pick-elim P (allows (getD marks (spot .index) 0)) _ _ (λ x. f spot h) (λ x. g e b))
     g
 
-pub passed-fine : (left : ℕ) (d : Made) (s : State) → Fine d s → Fine d (passed left s)
-unfolding passed
+pub passed-fine : (left : ℕ) (d : Made) (s : State) → Fine d s → Fine d (sectorDone left s)
+unfolding sectorDone
 passed-fine left d s f =
     pick-elim (λ (x : State). Fine d x) (eqb left 0) _ _ (λ e. (f .0, omega arith)) (λ e. (f .0, omega arith))
 
-passed-held : (left : ℕ) (s : State) → heldIn (passed left s) ≡ heldIn s
-unfolding passed heldIn
+passed-held : (left : ℕ) (s : State) → heldIn (sectorDone left s) ≡ heldIn s
+unfolding sectorDone heldIn
 passed-held left s = pick-elim (λ (x : State). heldIn x ≡ heldIn s) (eqb left 0) _ _ (λ e. refl) (λ e. refl)
 
-pub passed-ready : (left : ℕ) (d : Made) (s : State) → Ready d s → Ready d (passed left s)
-passed-ready left d s r = (passed-fine left d s (r .0), passed-held left s ∙ r .1)
+pub done-ready : (left : ℕ) (d : Made) (s : State) → Ready d s → Ready d (sectorDone left s)
+done-ready left d s r = (passed-fine left d s (r .0), passed-held left s ∙ r .1)
 
-pub passed-count : (left : ℕ) (s : State) → left % 256 ≡ passed left s .registers .count
-unfolding passed
+pub passed-count : (left : ℕ) (s : State) → left % 256 ≡ sectorDone left s .registers .count
+unfolding sectorDone
 passed-count left s =
     pick-elim (λ (x : State). left % 256 ≡ x .registers .count) (eqb left 0) _ _ (λ e. let z = eqb-true left 0 e in omega arith) (λ e. refl)
 
-pub passed-agrees : (left : ℕ) (s : State) → eqb left 0 ≡ false → left ≤ 255 → Agrees left (passed left s)
-passed-agrees left s e l = let n = eqb-false left 0 e in (omega arith, omega arith, passed-count left s)
+pub done-agrees : (left : ℕ) (s : State) → eqb left 0 ≡ false → left ≤ 255 → CountAgrees left (sectorDone left s)
+done-agrees left s e l = let n = eqb-false left 0 e in (omega arith, omega arith, passed-count left s)

@@ -8,24 +8,25 @@ use lib.ListN.{length, set, take, drop, length-set, length-append, length-drop}
 use lib.Seq.{length-take-le}
 use borrow.Author.Tests.{ltb-true}
 use Rattle.ground.proofs.Picks.{pick-elim}
-use Rattle.sectors.specs.Sectors.{sectorOf, withSector, bufferRead, Kept, stored}
-use Rattle.registers.specs.State.{Machine}
+use Rattle.sectors.specs.Sectors.{sectorOf, withSector, bufferRead, StoreMarks, stored}
+use Rattle.registers.specs.Machine.{Machine}
 use Rattle.port.specs.declared.Part.{Part}
 use Rattle.port.specs.declared.Part.the-variants.{Low, High, Both}
-use Rattle.port.specs.Halves.{partWritten, lowAt, highAt}
+use Rattle.port.specs.Halves.{withPart, lowAt, highAt}
 
 -- what a change leaves of a machine whose buffer has 512 bytes
-abbrev pub Lengths : Machine → Machine → Type 0
-Lengths m n = (length (n .store) ≡ length (m .store)) × (length (n .marks) ≡ length (m .marks)) × (length (n .buffer) ≡ 512)
+abbrev pub LengthsKept : Machine → Machine → Type 0
+LengthsKept m n = length (m .buffer) ≡ 512 → (length (n .store) ≡ length (m .store)) × (length (n .marks) ≡ length (m .marks)) × (length (n .buffer) ≡ 512)
 
-abbrev pub Lent : Machine → Machine → Type 0
-Lent m n = length (m .buffer) ≡ 512 → Lengths m n
+-- nothing of what is lent has changed
+pub lent-same : (m : Machine) → LengthsKept m m
+lent-same m b = (refl, refl, b)
 
 -- a sector inside the store ends inside it
 inside : (i n : ℕ) → i < n / 512 → 512 * i + 512 ≤ n
 inside i n h = omega arith
 
-sector-length : (store : List ℕ) (i : ℕ) → i < length store / 512 → length (sectorOf store i) ≡ 512
+pub sector-length : (store : List ℕ) (i : ℕ) → i < length store / 512 → length (sectorOf store i) ≡ 512
 unfolding sectorOf
 sector-length store i h =
     let w = inside i (length store) h in
@@ -53,13 +54,13 @@ pub stored-lengths : (store marks : List ℕ) (i : ℕ) (bytes : List ℕ) → l
     (length (stored store marks i bytes .store) ≡ length store) × (length (stored store marks i bytes .marks) ≡ length marks)
 unfolding stored
 stored-lengths store marks i bytes e =
-    pick-elim (λ (k : Kept). (length (k .store) ≡ length store) × (length (k .marks) ≡ length marks)) (ltb i (length store / 512)) _ _
-    (λ h. pick-elim (λ (k : Kept). (length (k .store) ≡ length store) × (length (k .marks) ≡ length marks)) (ltb i (length marks)) _ _
+    pick-elim (λ (k : StoreMarks). (length (k .store) ≡ length store) × (length (k .marks) ≡ length marks)) (ltb i (length store / 512)) _ _
+    (λ h. pick-elim (λ (k : StoreMarks). (length (k .store) ≡ length store) × (length (k .marks) ≡ length marks)) (ltb i (length marks)) _ _
     (λ g. (replaced-length store i bytes e (ltb-true _ _ h), length-set marks i 0))
     (λ g. (refl, refl)))
     (λ h. (refl, refl))
 
-pub part-length : (part : Part) (words value : ℕ) (b : List ℕ) → length (partWritten part words value b) ≡ length b
+pub part-length : (part : Part) (words value : ℕ) (b : List ℕ) → length (withPart part words value b) ≡ length b
 part-length Low words value b = length-set b (lowAt words) (value % 256)
 part-length High words value b = length-set b (highAt words) (value % 256)
 part-length Both words value b = length-set (set b (lowAt words) (value % 256)) (highAt words) (value / 256) ∙ length-set b (lowAt words) (value % 256)

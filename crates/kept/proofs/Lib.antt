@@ -1,13 +1,16 @@
+pub mod RegisterElim
 pub mod Registers
 pub mod Resets
 pub mod Lent
 pub mod Ends
 pub mod Steps
 pub mod Runs
+pub mod DataElim
 pub mod Data
 pub mod Table
 pub mod Decided
 pub mod Perform
 pub mod Step
+pub mod DoorElim
 pub mod Doors
 pub mod Opening

@@ -1,13 +1,10 @@
 -- An accepted opening gives a well-made card, a refused one the all-zero card, which is not well made and refuses every access.
 use Prim.Native.Nat.{ℕ, _*_}
-use mathlib.Core.Bool.{Bool, true, false, true≢false}
+use mathlib.Core.Bool.{true, false}
 use mathlib.Core.Path.{_≡_, refl, sym, ap}
 use mathlib.Core.List.{List}
 use native.Mathlib.Omega.{arith}
-use lib.Dec.{eqb, leb}
 use lib.ListN.{length}
-use borrow.Author.Tests.{eqb-true}
-use Rattle.ground.proofs.Picks.{pick-elim}
 use Rattle.answers.specs.declared.Outcome.{Outcome}
 use Rattle.answers.specs.declared.Refusal.{Refusal}
 use Rattle.answers.specs.declared.Refusal.the-variants.{NotWellMade}
@@ -17,7 +14,6 @@ use Rattle.ground.specs.Choice.{every}
 use Rattle.geometry.specs.Limits.{fits, totalOf}
 use Rattle.maps.specs.declared.Mode.{Mode}
 use Rattle.maps.specs.declared.Mode.the-variants.{PcCard, TrueIde}
-use Rattle.sectors.specs.Marks.{marksFit}
 use Rattle.registers.specs.declared.Phase.the-variants.{Idle}
 use Rattle.registers.specs.WellMade.{wellMade, indexFits, sresetFits}
 use Rattle.registers.specs.declared.Made.{Made}
@@ -30,7 +26,9 @@ use Rattle.card.specs.Doors.{machineOf, refusedBy, optionAnswered, controlAnswe
 use Rattle.kept.specs.Sound.{Sound}
 use Rattle.kept.proofs.Registers.{together}
 use Rattle.kept.proofs.Resets.{power-stands, power-status, at-rest, zeros-length}
+use Rattle.kept.proofs.DoorElim.{opened-elim}
 use Rattle.kept.proofs.Step.{not-well-refused}
+use Rattle.answers.proofs.Outcomes.{accepts-not}
 
 mode-fits : (mode : Mode) → sresetFits mode 0 ≡ true
 unfolding sresetFits
@@ -52,11 +50,6 @@ powered-sound g mode store marks f s k =
       bytes = omega arith;
     }
 
--- an outcome is one of the two
-abbrev isAccepted : Outcome → Bool
-isAccepted (Outcome.Accepted v) = true
-isAccepted (Outcome.Refused r) = false
-
 abbrev refusalIn : Outcome → Refusal → Refusal
 refusalIn (Outcome.Accepted v) r = r
 refusalIn (Outcome.Refused q) r = q
@@ -69,24 +62,13 @@ Opens store marks x =
 
 refused-opens : (q : Refusal) (store marks : List ℕ) → Opens store marks (openRefused q)
 refused-opens q store marks =
-    (λ e. absurd (true≢false (sym (ap isAccepted e))), λ r e. ap (λ (o : Outcome). openRefused (refusalIn o q)) e)
+    (λ e. accepts-not 0 q (sym e), λ r e. ap (λ (o : Outcome). openRefused (refusalIn o q)) e)
 
 opening : (g : Geometry) (mode : ℕ) (store marks tuples : List ℕ) → Opens store marks (opened g mode store marks tuples)
-unfolding opened
 opening g mode store marks tuples =
-    pick-elim (Opens store marks) (fits g) _ _
-    (λ f. pick-elim (Opens store marks) (leb mode 1) _ _
-    (λ m. pick-elim (Opens store marks) (eqb (length store) (512 * totalOf g)) _ _
-    (λ s. pick-elim (Opens store marks) (eqb (length marks) (totalOf g)) _ _
-    (λ k. pick-elim (Opens store marks) (eqb (length tuples) 256) _ _
-    (λ t. pick-elim (Opens store marks) (marksFit marks) _ _
-    (λ w. (λ e. powered-sound g (modeOf mode) store marks f (eqb-true _ _ s) (eqb-true _ _ k), λ r e. absurd (true≢false (ap isAccepted e))))
-    (λ w. refused-opens _ store marks))
-    (λ t. refused-opens _ store marks))
-    (λ k. refused-opens _ store marks))
-    (λ s. refused-opens _ store marks))
-    (λ m. refused-opens _ store marks))
-    (λ f. refused-opens _ store marks)
+    opened-elim (Opens store marks) g mode store marks tuples
+    (refused-opens _ store marks) (refused-opens _ store marks) (refused-opens _ store marks) (refused-opens _ store marks) (refused-opens _ store marks)
+    (λ f s k. (λ e. powered-sound g (modeOf mode) store marks f s k, λ r e. accepts-not 0 r e))
 
 pub opening-sound : (g : Geometry) (mode : ℕ) (store marks tuples : List ℕ) → opened g mode store marks tuples .outcome ≡ Outcome.Accepted 0 →
     Sound (machineOf (opened g mode store marks tuples .card) store marks)

@@ -15,20 +15,21 @@ use Rattle.registers.specs.declared.State.{State}
 use Rattle.registers.specs.declared.Core.{Core}
 use Rattle.registers.specs.declared.resets.Turn.{Turn}
 use Rattle.registers.specs.declared.resets.Turn.the-variants.{Enter, Leave, Stay}
-use Rattle.registers.specs.State.{core, withOption, withControl, sresetIn}
+use Rattle.registers.specs.State.{withOption, withControl, sresetIn}
+use Rattle.registers.specs.Machine.{core}
 use Rattle.registers.specs.WellMade.{indexFits, sresetFits, atRest, statusFits, heldIn, holdFits, wordsFit, runFits}
 use Rattle.registers.specs.PowerOn.{powerOn, zeros}
-use Rattle.registers.specs.Resets.{turnOf, restStatus, entered, optionTurned, bufferTurned, optionTurn, controlTurned, controlWritten, bitTwo, bitOne}
-use Rattle.kept.specs.Sound.{Small}
-use Rattle.kept.proofs.Registers.{Stands, Runs, run-same}
+use Rattle.registers.specs.Resets.{turnOf, restStatus, entered, optionTurned, bufferTurned, controlTurned, controlWritten, bitTwo, bitOne, optionCore}
+use Rattle.kept.specs.Sound.{CountFits}
+use Rattle.kept.proofs.Registers.{StateFits, PhaseFits, run-same}
 
 -- what a reset leaves, of a Sector Count that may be any
 abbrev pub Turned : Made → State → Core → Type 0
-Turned d s k = Stands d (k .state) × Runs (k .phase) (k .state) × (Small s → Small (k .state))
+Turned d s k = StateFits d (k .state) × PhaseFits (k .phase) (k .state) × (CountFits s → CountFits (k .state))
 
 -- the map setting is one that may be written
-abbrev pub Option : ℕ → State → Type 0
-Option v s = (indexFits v ≡ true) × (sresetFits (s .made .mode) v ≡ true)
+abbrev pub OptionFits : ℕ → State → Type 0
+OptionFits v s = (indexFits v ≡ true) × (sresetFits (s .made .mode) v ≡ true)
 
 rest-status : (p : Phase) (status : ℕ) → statusFits p status ≡ true → atRest (restStatus p status) ≡ true
 unfolding statusFits atRest
@@ -37,16 +38,16 @@ rest-status (DataIn t) status e = refl
 rest-status (DataOut t) status e = refl
 
 -- a card at rest is tested by its Status alone
-pub at-rest : (s : State) → atRest (s .registers .status) ≡ true → Runs Idle s
+pub at-rest : (s : State) → atRest (s .registers .status) ≡ true → PhaseFits Idle s
 unfolding statusFits holdFits wordsFit runFits
 at-rest s e = (e, refl, refl, refl)
 
 -- the transfer ends
-pub entered-rests : (p : Phase) (s : State) → Runs p s → atRest (entered p s .registers .status) ≡ true
+entered-rests : (p : Phase) (s : State) → PhaseFits p s → atRest (entered p s .registers .status) ≡ true
 entered-rests p s r = rest-status p (s .registers .status) (r .0)
 
 -- power-on, with any map setting that may be written
-pub power-stands : (d : Made) (v : ℕ) → fits (d .default) ≡ true → indexFits v ≡ true → sresetFits (d .mode) v ≡ true → Stands d (powerOn d v)
+pub power-stands : (d : Made) (v : ℕ) → fits (d .default) ≡ true → indexFits v ≡ true → sresetFits (d .mode) v ≡ true → StateFits d (powerOn d v)
 power-stands d v f i m = (refl, f, fits-current (d .default) f, i, m)
 
 pub power-status : atRest 0x50 ≡ true
@@ -57,11 +58,11 @@ same-sreset : (v : ℕ) (s : State) → sresetIn v ≡ sresetIn (s .option) → 
 unfolding heldIn
 same-sreset v s e = ap (λ (b : Bool). pick b true (s .control .held)) e
 
-option-stays : (v : ℕ) (d : Made) (p : Phase) (s : State) → sresetIn v ≡ sresetIn (s .option) → Option v s → Stands d s → Runs p s → Turned d s (core p (withOption v s))
+option-stays : (v : ℕ) (d : Made) (p : Phase) (s : State) → sresetIn v ≡ sresetIn (s .option) → OptionFits v s → StateFits d s → PhaseFits p s → Turned d s (core p (withOption v s))
 option-stays v d p s e o f r =
     ((f .0, f .1, f .2, o .0, o .1), (r .0, rw (same-sreset v s e) (r .1), r .2, run-same p s (withOption v s) refl refl (r .3)), λ c. c)
 
-option-by : (a b : Bool) (v : ℕ) (d : Made) (p : Phase) (s : State) → sresetIn (s .option) ≡ a → sresetIn v ≡ b → Option v s → Stands d s → Runs p s → Turned d s (optionTurned (turnOf a b) v p s)
+option-by : (a b : Bool) (v : ℕ) (d : Made) (p : Phase) (s : State) → sresetIn (s .option) ≡ a → sresetIn v ≡ b → OptionFits v s → StateFits d s → PhaseFits p s → Turned d s (optionTurned (turnOf a b) v p s)
 unfolding optionTurned turnOf
 option-by false true v d p s x y o f r = ((f .0, f .1, f .2, o .0, o .1), at-rest (withOption v (entered p s)) (entered-rests p s r), λ c. c)
 option-by true false v d p s x y o f r =
@@ -70,10 +71,10 @@ option-by true false v d p s x y o f r =
 option-by false false v d p s x y o f r = option-stays v d p s (y ∙ sym x) o f r
 option-by true true v d p s x y o f r = option-stays v d p s (y ∙ sym x) o f r
 
-pub option-turned : (v : ℕ) (d : Made) (p : Phase) (s : State) → Option v s → Stands d s → Runs p s → Turned d s (optionTurned (optionTurn v s) v p s)
+pub option-turned : (v : ℕ) (d : Made) (p : Phase) (s : State) → OptionFits v s → StateFits d s → PhaseFits p s → Turned d s (optionCore v p s)
 option-turned v d p s o f r = option-by (sresetIn (s .option)) (sresetIn v) v d p s refl refl o f r
 
-control-by : (t : Turn) (masked : Bool) (d : Made) (p : Phase) (s : State) → Stands d s → Runs p s → Turned d s (controlTurned t masked p s)
+control-by : (t : Turn) (masked : Bool) (d : Made) (p : Phase) (s : State) → StateFits d s → PhaseFits p s → Turned d s (controlTurned t masked p s)
 unfolding controlTurned heldIn
 control-by Enter masked d p s f r = (f, at-rest (withControl (record { held = true; masked = masked }) (entered p s)) (entered-rests p s r), λ c. c)
 control-by Leave masked d p s f r =
@@ -82,7 +83,7 @@ control-by Leave masked d p s f r =
 control-by Stay masked d p s f r =
     (f, (r .0, r .1, r .2, run-same p s (withControl (record { held = s .control .held; masked = masked }) s) refl refl (r .3)), λ c. c)
 
-pub control-turned : (v : ℕ) (d : Made) (p : Phase) (s : State) → Stands d s → Runs p s → Turned d s (controlWritten v p s)
+pub control-turned : (v : ℕ) (d : Made) (p : Phase) (s : State) → StateFits d s → PhaseFits p s → Turned d s (controlWritten v p s)
 control-turned v d p s f r = control-by (turnOf (s .control .held) (bitTwo v)) (bitOne v) d p s f r
 
 pub zeros-length : length zeros ≡ 512

@@ -12,9 +12,9 @@ use Rattle.transfers.specs.declared.Tested.{Tested}
 use Rattle.transfers.specs.declared.Tested.the-variants.{Passes, Fails}
 use Rattle.transfers.specs.Ends.{ended}
 use Rattle.transfers.specs.Before.{readTest, sectorStored}
-use Rattle.transfers.specs.Steps.{passed}
-use Rattle.commands.specs.Runs.{goesOn, verifyFrom, Erased, erased, blank, eraseFrom}
-use Rattle.kept.proofs.Registers.{Left}
+use Rattle.transfers.specs.Steps.{sectorDone}
+use Rattle.commands.specs.Runs.{goesOn, verifyFrom, Erased, erased, allFF, eraseFrom}
+use Rattle.kept.proofs.Registers.{CoreFits}
 use Rattle.kept.proofs.Ends.{Fine, ended-left, passed-fine}
 use Rattle.kept.proofs.Steps.{sector-stored}
 
@@ -22,29 +22,44 @@ goes-elim : {A : Type 0} (P : A → Type 0) (t : Tested) (end : Core → A) (s :
 goes-elim P (Passes spot) end s rest f g = g
 goes-elim P (Fails e) end s rest f g = f e
 
-pub verify-left : (n : ℕ) (d : Made) (s : State) (marks : List ℕ) → Fine d s → Left d (verifyFrom n s marks)
+-- what each sector and each end keep, Verify keeps
+pub verify-elim : (I : State → Type 0) (P : Core → Type 0) → ((n : ℕ) (s : State) → I s → I (sectorDone n s)) → ((e : End) (s : State) → I s → P (ended e true s)) →
+    (n : ℕ) (s : State) (marks : List ℕ) → I s → P (verifyFrom n s marks)
 unfolding verifyFrom
-verify-left zero d s marks f = ended-left End.Good true d s f
-verify-left (suc n) d s marks f =
-    goes-elim (λ (k : Core). Left d k) (readTest s marks) (λ k. k) s (verifyFrom n (passed n s) marks)
-    (λ e. ended-left e true d s f)
-    (verify-left n d (passed n s) marks (passed-fine n d s f))
+verify-elim I P f g zero s marks h = g End.Good s h
+verify-elim I P f g (suc n) s marks h =
+    goes-elim P (readTest s marks) (λ k. k) s (verifyFrom n (sectorDone n s) marks) (λ e. g e s h) (verify-elim I P f g n (sectorDone n s) marks (f n s h))
+
+-- … and Erase, with the store and the marks
+pub erase-elim : (I : State → List ℕ → List ℕ → Type 0) (P : Erased → Type 0) →
+    ((s : State) (store marks : List ℕ) → I s store marks → I s (sectorStored s allFF store marks .store) (sectorStored s allFF store marks .marks)) →
+    ((n : ℕ) (s : State) (store marks : List ℕ) → I s store marks → I (sectorDone n s) store marks) →
+    ((e : End) (s : State) (store marks : List ℕ) → I s store marks → P (erased (ended e true s) store marks)) →
+    (n : ℕ) (s : State) (store marks : List ℕ) → I s store marks → P (eraseFrom n s store marks)
+unfolding eraseFrom
+erase-elim I P w f g zero s store marks h = g End.Good s store marks h
+erase-elim I P w f g (suc n) s store marks h =
+    let k = sectorStored s allFF store marks in
+    let i = w s store marks h in
+    goes-elim P (k .tested) (λ c. erased c (k .store) (k .marks)) s (eraseFrom n (sectorDone n s) (k .store) (k .marks))
+    (λ e. g e s (k .store) (k .marks) i)
+    (erase-elim I P w f g n (sectorDone n s) (k .store) (k .marks) (f n s (k .store) (k .marks) i))
+
+pub verify-left : (n : ℕ) (d : Made) (s : State) (marks : List ℕ) → Fine d s → CoreFits d (verifyFrom n s marks)
+verify-left n d = verify-elim (Fine d) (CoreFits d) (λ n s f. passed-fine n d s f) (λ e s f. ended-left e true d s f) n
 
 -- what Erase leaves
 abbrev pub Blanked : Made → List ℕ → List ℕ → Erased → Type 0
-Blanked d store marks x = Left d (x .core) × (length (x .store) ≡ length store) × (length (x .marks) ≡ length marks)
+Blanked d store marks x = CoreFits d (x .core) × (length (x .store) ≡ length store) × (length (x .marks) ≡ length marks)
 
-blank-length : length blank ≡ 512
-unfolding blank
-blank-length = length-replicate {A = ℕ} 512 0xFF
+all-FF-length : length allFF ≡ 512
+unfolding allFF
+all-FF-length = length-replicate {A = ℕ} 512 0xFF
 
 pub erase-left : (n : ℕ) (d : Made) (s : State) (store marks : List ℕ) → Fine d s → Blanked d store marks (eraseFrom n s store marks)
-unfolding eraseFrom
-erase-left zero d s store marks f = (ended-left End.Good true d s f, refl, refl)
-erase-left (suc n) d s store marks f =
-    let k = sectorStored s blank store marks in
-    let w = sector-stored s blank store marks blank-length in
-    let r = erase-left n d (passed n s) (k .store) (k .marks) (passed-fine n d s f) in
-    goes-elim (λ (x : Erased). Blanked d store marks x) (k .tested) (λ c. erased c (k .store) (k .marks)) s (eraseFrom n (passed n s) (k .store) (k .marks))
-    (λ e. (ended-left e true d s f, w .0, w .1))
-    (r .0, r .1 ∙ w .0, r .2 ∙ w .1)
+erase-left n d s store marks f =
+    erase-elim (λ (x : State) (st mk : List ℕ). Fine d x × (length st ≡ length store) × (length mk ≡ length marks)) (Blanked d store marks)
+    (λ x st mk h. let w = sector-stored x allFF st mk all-FF-length in (h .0, w .0 ∙ h .1, w .1 ∙ h .2))
+    (λ k x st mk h. (passed-fine k d x (h .0), h .1, h .2))
+    (λ e x st mk h. (ended-left e true d x (h .0), h .1, h .2))
+    n s store marks (f, refl, refl)

@@ -4,41 +4,41 @@ use mathlib.Core.Bool.{Bool, true, false}
 use mathlib.Core.Path.{_≡_, refl, sym, ap, _∙_, subst}
 use mathlib.Core.List.{List, [], _∷_}
 use lib.ListN.{length}
-use borrow.Author.Tests.{eq-eqb}
 use Rattle.geometry.specs.Limits.{totalOf}
 use Rattle.answers.specs.declared.Outcome.{Outcome}
 use Rattle.answers.specs.declared.Refusal.the-variants.{NotWellMade}
 use Rattle.registers.specs.declared.Made.{Made}
-use Rattle.registers.specs.State.{Machine, coreOf, lineOf}
-use Rattle.registers.specs.WellMade.{wellMade, totalIn}
+use Rattle.registers.specs.State.{lineOf, totalIn}
+use Rattle.registers.specs.Machine.{Machine, coreOf}
+use Rattle.registers.specs.WellMade.{wellMade}
 use Rattle.card.specs.Access.{Access, decided, meaning}
 use Rattle.card.specs.Perform.{perform}
 use Rattle.card.specs.Step.{Stepped, step, worked, play}
-use Rattle.kept.specs.Sound.{Bytes, Sound}
-use Rattle.kept.proofs.Registers.{Left, apart, together}
-use Rattle.kept.proofs.Lent.{Lent}
+use Rattle.kept.specs.Sound.{CountFits, Sound}
+use Rattle.kept.proofs.Registers.{CoreFits, apart, together}
+use Rattle.kept.proofs.Lent.{LengthsKept, lent-same}
 use Rattle.kept.proofs.Ends.{Next}
-use Rattle.kept.proofs.Decided.{decided-allowed, meaning-allowed}
+use Rattle.kept.proofs.Decided.{meaning-decided, decided-allowed, meaning-allowed}
 use Rattle.kept.proofs.Perform.{perform-next}
 
-pub left-of : (m : Machine) → Bytes m → wellMade (m .phase) (m .state) ≡ true → Left (m .state .made) (coreOf m)
+left-of : (m : Machine) → CountFits (m .state) → wellMade (m .phase) (m .state) ≡ true → CoreFits (m .state .made) (coreOf m)
 left-of m b e = let a = apart (m .phase) (m .state) e in (a .0, a .1, b)
 
 made-of : (d : Made) (m n : Machine) → Next d m n → wellMade (n .phase) (n .state) ≡ true
 made-of d m n x = together d (n .phase) (n .state) (x .0 .0) (x .0 .1)
 
-step-next : (m : Machine) (a : Access) → Bytes m → wellMade (m .phase) (m .state) ≡ true → Next (m .state .made) m (step m a .next)
+step-next : (m : Machine) (a : Access) → CountFits (m .state) → wellMade (m .phase) (m .state) ≡ true → Next (m .state .made) m (step m a .next)
 unfolding step
 step-next m a b e = perform-next (meaning m a) (m .state .made) m (meaning-allowed m a) (left-of m b e)
 
-work-next : (m : Machine) (a : Access) → Bytes m → wellMade (m .phase) (m .state) ≡ true → Next (m .state .made) m (worked m a .next)
+work-next : (m : Machine) (a : Access) → CountFits (m .state) → wellMade (m .phase) (m .state) ≡ true → Next (m .state .made) m (worked m a .next)
 unfolding worked
 work-next m a b e = perform-next (decided (m .state) a) (m .state .made) m (decided-allowed (m .state) a) (left-of m b e)
 
-pub well-kept : (m : Machine) (a : Access) → Bytes m → wellMade (m .phase) (m .state) ≡ true → wellMade (step m a .next .phase) (step m a .next .state) ≡ true
+pub well-kept : (m : Machine) (a : Access) → CountFits (m .state) → wellMade (m .phase) (m .state) ≡ true → wellMade (step m a .next .phase) (step m a .next .state) ≡ true
 well-kept m a b e = made-of (m .state .made) m (step m a .next) (step-next m a b e)
 
-pub worked-kept : (m : Machine) (a : Access) → Bytes m → wellMade (m .phase) (m .state) ≡ true → wellMade (worked m a .next .phase) (worked m a .next .state) ≡ true
+pub worked-kept : (m : Machine) (a : Access) → CountFits (m .state) → wellMade (m .phase) (m .state) ≡ true → wellMade (worked m a .next .phase) (worked m a .next .state) ≡ true
 worked-kept m a b e = made-of (m .state .made) m (worked m a .next) (work-next m a b e)
 
 -- Row 12: a card that is not well made is refused, and nothing changes.
@@ -48,23 +48,17 @@ not-well-refused m a e = rw e
 
 -- what every card keeps, well made or not
 abbrev Keeps : Machine → Machine → Type 0
-Keeps m n = (n .state .made ≡ m .state .made) × Bytes n × Lent m n
+Keeps m n = (n .state .made ≡ m .state .made) × CountFits (n .state) × LengthsKept m n
 
-any-keeps : (w : Bool) (m : Machine) (a : Access) → wellMade (m .phase) (m .state) ≡ w → Bytes m → Keeps m (step m a .next)
+any-keeps : (w : Bool) (m : Machine) (a : Access) → wellMade (m .phase) (m .state) ≡ w → CountFits (m .state) → Keeps m (step m a .next)
 any-keeps true m a e b = let x = step-next m a b e in (x .0 .0 .0, x .0 .2, x .1)
 any-keeps false m a e b =
-    subst (λ (s : Stepped). Keeps m (s .next)) (sym (not-well-refused m a e)) (refl, b, λ l. (refl, refl, l))
+    subst (λ (s : Stepped). Keeps m (s .next)) (sym (not-well-refused m a e)) (refl, b, lent-same m)
 
-step-keeps : (m : Machine) (a : Access) → Bytes m → Keeps m (step m a .next)
+step-keeps : (m : Machine) (a : Access) → CountFits (m .state) → Keeps m (step m a .next)
 step-keeps m a b = any-keeps (wellMade (m .phase) (m .state)) m a refl b
 
-pub made-kept : (m : Machine) (a : Access) → Bytes m → step m a .next .state .made ≡ m .state .made
-made-kept m a b = step-keeps m a b .0
-
-pub bytes-kept : (m : Machine) (a : Access) → Bytes m → Bytes (step m a .next)
-bytes-kept m a b = step-keeps m a b .1
-
-pub lengths-kept : (m : Machine) (a : Access) → Bytes m → length (m .buffer) ≡ 512 →
+pub lengths-kept : (m : Machine) (a : Access) → CountFits (m .state) → length (m .buffer) ≡ 512 →
     (length (step m a .next .store) ≡ length (m .store))
     × (length (step m a .next .marks) ≡ length (m .marks))
     × (length (step m a .next .buffer) ≡ 512)
@@ -83,26 +77,19 @@ sound-next m n s x =
       bytes = x .0 .2;
     }
 
-pub sound-kept : (m : Machine) (a : Access) → Sound m → Sound (worked m a .next)
-sound-kept m a s = sound-next m (worked m a .next) s (work-next m a (s .bytes) (s .made))
+pub worked-sound : (m : Machine) (a : Access) → Sound m → Sound (worked m a .next)
+worked-sound m a s = sound-next m (worked m a .next) s (work-next m a (s .bytes) (s .made))
 
-pub sound-stepped : (m : Machine) (a : Access) → Sound m → Sound (step m a .next)
-sound-stepped m a s = sound-next m (step m a .next) s (step-next m a (s .bytes) (s .made))
+pub sound-kept : (m : Machine) (a : Access) → Sound m → Sound (step m a .next)
+sound-kept m a s = sound-next m (step m a .next) s (step-next m a (s .bytes) (s .made))
 
 -- Of such a machine, and a tuple buffer of 256 bytes, rows 12, 2, 3 and 5 do not apply.
-pub worked-is-step : (m : Machine) (a : Access) → wellMade (m .phase) (m .state) ≡ true →
-    length (m .store) ≡ 512 * totalIn (m .state) → length (m .marks) ≡ totalIn (m .state) → length (a .tuples) ≡ 256 → worked m a ≡ step m a
-unfolding worked step meaning
-worked-is-step m a e s k t = rw (e, eq-eqb _ _ s, eq-eqb _ _ k, eq-eqb _ _ t)
-
 pub sound-worked : (m : Machine) (a : Access) → Sound m → length (a .tuples) ≡ 256 → worked m a ≡ step m a
-sound-worked m a s t = worked-is-step m a (s .made) (s .store) (s .marks) t
-
-pub worked-made : (m : Machine) (a : Access) → Sound m → worked m a .next .state .made ≡ m .state .made
-worked-made m a s = work-next m a (s .bytes) (s .made) .0 .0 .0
+unfolding worked step
+sound-worked m a s t = rw (meaning-decided m a (s .made) (s .store) (s .marks) t)
 
 -- … after any list of accesses.
 pub sound-played : (l : List Access) (m : Machine) → Sound m → Sound (play m l .last)
 unfolding play
 sound-played [] m s = s
-sound-played (a ∷ l) m s = sound-played l (step m a .next) (sound-stepped m a s)
+sound-played (a ∷ l) m s = sound-played l (step m a .next) (sound-kept m a s)

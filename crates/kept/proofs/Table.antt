@@ -14,30 +14,32 @@ use Rattle.identify.proofs.Made.{identify-length}
 use Rattle.registers.specs.declared.Load.the-variants.{Buffer}
 use Rattle.registers.specs.declared.Made.{Made}
 use Rattle.registers.specs.declared.State.{State}
-use Rattle.registers.specs.State.{Machine, withError, withCurrent}
-use Rattle.registers.specs.WellMade.{totalIn, heldIn, loadFits}
+use Rattle.registers.specs.State.{withError, withCurrent, totalIn}
+use Rattle.registers.specs.Machine.{Machine}
+use Rattle.registers.specs.WellMade.{heldIn, loadFits}
 use Rattle.transfers.specs.declared.End.{End}
 use Rattle.transfers.specs.declared.Way.the-variants.{In, Out}
 use Rattle.commands.specs.declared.Command.{Command}
 use Rattle.commands.specs.declared.Command.the-variants.{Read, Write, Verify, Erase, Identify, ReadBuffer, WriteBuffer, SetGeometry, Diagnose, Recalibrate, Seek, Sense, Other}
-use Rattle.transfers.specs.Steps.{withState}
+use Rattle.transfers.specs.Steps.{idleWith}
 use Rattle.commands.specs.Table.{commandOf, started, countOf, factsOf, geometrySet, diagnosed, soughtEnd, obeyed, quiet, commandGiven}
-use Rattle.kept.specs.Sound.{Small}
-use Rattle.kept.proofs.Registers.{Left}
-use Rattle.kept.proofs.Ends.{Fine, Ready, Agrees, Next, ended-left, begun-left}
+use Rattle.kept.specs.Sound.{CountFits}
+use Rattle.kept.proofs.Registers.{CoreFits}
+use Rattle.kept.proofs.Lent.{lent-same}
+use Rattle.kept.proofs.Ends.{Fine, Ready, CountAgrees, Next, ended-left, begun-left}
 use Rattle.kept.proofs.Steps.{read-next, ask-left}
 use Rattle.kept.proofs.Runs.{verify-left, erase-left}
 
 -- "Count 0 means 256."
-count-agrees : (s : State) → Small s → Agrees (countOf s) s
+count-agrees : (s : State) → CountFits s → CountAgrees (countOf s) s
 unfolding countOf
 count-agrees s c =
-    pick-elim (λ (n : ℕ). Agrees n s) (eqb (s .registers .count) 0) _ _
+    pick-elim (λ (n : ℕ). CountAgrees n s) (eqb (s .registers .count) 0) _ _
     (λ e. let z = eqb-true (s .registers .count) 0 e in (omega arith, omega arith, omega arith))
     (λ e. let z = eqb-false (s .registers .count) 0 e in (omega arith, omega arith, omega arith))
 
 -- 91H takes a good geometry, or the old one stays
-geometry-left : (x : Reshaped) (d : Made) (s : State) → reshaped (s .registers .count) (s .registers .address .head) (totalIn s) ≡ x → Fine d s → Left d (geometrySet x s)
+geometry-left : (x : Reshaped) (d : Made) (s : State) → reshaped (s .registers .count) (s .registers .address .head) (totalIn s) ≡ x → Fine d s → CoreFits d (geometrySet x s)
 geometry-left (Reshaped.Taken g) d s e f =
     let c = reshaped-current (s .registers .count) (s .registers .address .head) (totalIn s) g (f .1) e in
     ended-left End.Good true d (withCurrent g s) ((f .0 .0, f .0 .1, c, f .0 .3, f .0 .4), f .1)
@@ -49,20 +51,20 @@ buffer-fits s = refl
 
 -- s is the state with Error and code 0
 obeyed-next : (c : Command) (d : Made) (s : State) (m : Machine) → Ready d s → Fine d (m .state) → Next d m (obeyed c s m)
-obeyed-next Read d s m r f = read-next (countOf s) d (withState s m) r (count-agrees s (r .0 .1))
-obeyed-next Write d s m r f = (ask-left (countOf s) true d s r (count-agrees s (r .0 .1)), λ b. (refl, refl, b))
-obeyed-next Verify d s m r f = (verify-left (countOf s) d s (m .marks) (r .0), λ b. (refl, refl, b))
+obeyed-next Read d s m r f = read-next (countOf s) d (idleWith s m) r (count-agrees s (r .0 .1))
+obeyed-next Write d s m r f = (ask-left (countOf s) true d s r (count-agrees s (r .0 .1)), lent-same m)
+obeyed-next Verify d s m r f = (verify-left (countOf s) d s (m .marks) (r .0), lent-same m)
 obeyed-next Erase d s m r f = let e = erase-left (countOf s) d s (m .store) (m .marks) (r .0) in (e .0, λ b. (e .1, e .2, b))
 obeyed-next Identify d s m r f = (begun-left In Buffer true d s r (buffer-fits s), λ b. (refl, refl, identify-length (factsOf s)))
-obeyed-next ReadBuffer d s m r f = (begun-left In Buffer true d s r (buffer-fits s), λ b. (refl, refl, b))
-obeyed-next WriteBuffer d s m r f = (begun-left Out Buffer true d s r (buffer-fits s), λ b. (refl, refl, b))
-obeyed-next SetGeometry d s m r f = (geometry-left _ d s refl (r .0), λ b. (refl, refl, b))
-obeyed-next Diagnose d s m r f = (ended-left End.Good true d (diagnosed s) (r .0 .0, omega arith), λ b. (refl, refl, b))
-obeyed-next Recalibrate d s m r f = (ended-left End.Good true d s (r .0), λ b. (refl, refl, b))
+obeyed-next ReadBuffer d s m r f = (begun-left In Buffer true d s r (buffer-fits s), lent-same m)
+obeyed-next WriteBuffer d s m r f = (begun-left Out Buffer true d s r (buffer-fits s), lent-same m)
+obeyed-next SetGeometry d s m r f = (geometry-left _ d s refl (r .0), lent-same m)
+obeyed-next Diagnose d s m r f = (ended-left End.Good true d (diagnosed s) (r .0 .0, omega arith), lent-same m)
+obeyed-next Recalibrate d s m r f = (ended-left End.Good true d s (r .0), lent-same m)
 obeyed-next Seek d s m r f =
-    (ended-left (soughtEnd (seek (s .registers .address) (s .current) (totalIn s))) true d s (r .0), λ b. (refl, refl, b))
-obeyed-next Sense d s m r f = (ended-left End.Good true d (withError (m .state .code) (m .state)) f, λ b. (refl, refl, b))
-obeyed-next Other d s m r f = (ended-left End.NoSuchCommand true d s (r .0), λ b. (refl, refl, b))
+    (ended-left (soughtEnd (seek (s .registers .address) (s .current) (totalIn s))) true d s (r .0), lent-same m)
+obeyed-next Sense d s m r f = (ended-left End.Good true d (withError (m .state .code) (m .state)) f, lent-same m)
+obeyed-next Other d s m r f = (ended-left End.NoSuchCommand true d s (r .0), lent-same m)
 
 pub command-next : (opcode : ℕ) (d : Made) (m : Machine) → Ready d (m .state) → Next d m (commandGiven opcode m)
 unfolding commandGiven heldIn

@@ -4,15 +4,13 @@ use mathlib.Core.Bool.{true}
 use mathlib.Core.Path.{_≡_}
 use lib.ListN.{length}
 use Rattle.registers.specs.declared.State.{State}
-use Rattle.registers.specs.State.{Machine}
-use Rattle.registers.specs.WellMade.{wellMade, totalIn}
+use Rattle.registers.specs.State.{totalIn}
+use Rattle.registers.specs.Machine.{Machine}
+use Rattle.registers.specs.WellMade.{wellMade}
 
 -- the Sector Count register has eight bits; no other bound is needed
-abbrev pub Small : State → Type 0
-Small s = s .registers .count < 256
-
-abbrev pub Bytes : Machine → Type 0
-Bytes m = Small (m .state)
+abbrev pub CountFits : State → Type 0
+CountFits s = s .registers .count < 256
 
 -- "Store length is 512·N, marks length N"; the buffer has 512 bytes
 pub record Sound (m : Machine) : Type 0 where
@@ -20,4 +18,4 @@ pub record Sound (m : Machine) : Type 0 where
   pub store : length (m .store) ≡ 512 * totalIn (m .state)
   pub marks : length (m .marks) ≡ totalIn (m .state)
   pub buffer : length (m .buffer) ≡ 512
-  pub bytes : Bytes m
+  pub bytes : CountFits (m .state)

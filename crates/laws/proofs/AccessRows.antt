@@ -1,35 +1,26 @@
 -- 01, "Answers": which rows an access can give.
-use Prim.Native.Nat.{ℕ, _*_}
+use Prim.Native.Nat.{ℕ}
 use mathlib.Core.Path.{_≡_, refl}
 use mathlib.Core.Bool.{Bool, true, false}
 use mathlib.Core.List.{List}
-use lib.Dec.{eqb}
-use lib.ListN.{length}
-use Rattle.ground.proofs.Picks.{pick-elim}
 use Rattle.answers.specs.declared.Refusal.{Refusal}
 use Rattle.answers.specs.declared.Refusal.the-variants.{GeometryOrMode, StoreLength, MarksLength, MarkAboveTwo, TupleBufferLength, NoRegister, SpaceSilent, HeldBySreset, WidthOrValue, IndexAboveThree, HalfMoved, NotWellMade, ChainBroken, TuplesTooLong, TupleBad, ListTooShort, SessionBroken}
 use Rattle.answers.specs.Answers.{numberOf}
-use Rattle.maps.specs.declared.Port.{Port}
 use Rattle.maps.specs.declared.Target.{Target}
 use Rattle.maps.specs.declared.Target.the-variants.{Tuple, Option, Named, Data}
 use Rattle.maps.specs.declared.Standing.{Standing}
-use Rattle.maps.specs.Spaces.{answersAt}
 use Rattle.maps.specs.Maps.{standsAt}
 use Rattle.maps.proofs.Standings.{ofMaps, refused-rows}
-use Rattle.registers.specs.declared.State.{State}
-use Rattle.registers.specs.declared.Transfer.{Transfer}
-use Rattle.registers.specs.declared.Phase.{Phase}
-use Rattle.registers.specs.declared.Phase.the-variants.{Idle, DataIn, DataOut}
-use Rattle.registers.specs.State.{Machine, indexIn}
-use Rattle.registers.specs.WellMade.{wellMade, totalIn}
-use Rattle.port.specs.declared.Take.{Take}
-use Rattle.port.specs.Halves.{takeOf}
-use Rattle.port.specs.Data.{Effect, takenRead, phaseRead, dataRead, takenWritten, phaseWritten, dataWritten}
+use Rattle.registers.specs.State.{indexIn}
+use Rattle.registers.specs.Machine.{Machine}
+use Rattle.port.specs.Data.{Effect}
 use Rattle.card.specs.declared.Meaning.{Meaning}
 use Rattle.card.specs.declared.Meaning.the-variants.{TupleByte, ReadOption, WriteOption, ReadRegister, WriteRegister, ReadData, WriteData}
-use Rattle.card.specs.Access.{Access, targeted, standing, heldAway, decided, meaning}
+use Rattle.card.specs.Access.{Access, targeted, standing, meaning}
 use Rattle.card.specs.Perform.{perform}
 use Rattle.card.specs.Step.{step}
+use Rattle.kept.proofs.Decided.{decided-elim, meaning-elim}
+use Rattle.kept.proofs.DataElim.{data-read-elim, data-written-elim}
 use Rattle.laws.specs.Rows.{accessRows, among, rowIn}
 
 abbrev meantIn : List ℕ → Meaning → Bool
@@ -74,54 +65,23 @@ of-standing : (s : Standing) (write : Bool) (value : ℕ) (tuples : List ℕ) �
 of-standing (Standing.There t) write value tuples f = of-target t write value tuples
 of-standing (Standing.Refused r) write value tuples f = of-maps r (f r refl)
 
-of-decided : (s : State) (a : Access) → meantIn accessRows (decided s a) ≡ true
-unfolding decided
-of-decided s a =
-    pick-elim (λ (k : Meaning). meantIn accessRows k ≡ true) (heldAway (s .option) (a .space) (a .address)) _ _ (λ e. refl)
-    (λ e. pick-elim (λ (k : Meaning). meantIn accessRows k ≡ true) (answersAt (a .space) (s .made .mode) (indexIn (s .option))) _ _
-    (λ f. of-standing (standsAt (a .space) (indexIn (s .option)) (a .address) (a .width) (a .write) (a .value)) (a .write) (a .value) (a .tuples)
-    (refused-rows (a .space) (indexIn (s .option)) (a .address) (a .width) (a .write) (a .value)))
-    (λ f. refl))
-
 of-meaning : (m : Machine) (a : Access) → meantIn accessRows (meaning m a) ≡ true
-unfolding meaning
 of-meaning m a =
-    pick-elim (λ (k : Meaning). meantIn accessRows k ≡ true) (wellMade (m .phase) (m .state)) _ _
-    (λ e. pick-elim (λ (k : Meaning). meantIn accessRows k ≡ true) (eqb (length (m .store)) (512 * totalIn (m .state))) _ _
-    (λ e. pick-elim (λ (k : Meaning). meantIn accessRows k ≡ true) (eqb (length (m .marks)) (totalIn (m .state))) _ _
-    (λ e. pick-elim (λ (k : Meaning). meantIn accessRows k ≡ true) (eqb (length (a .tuples)) 256) _ _
-    (λ e. of-decided (m .state) a) (λ e. refl)) (λ e. refl)) (λ e. refl)) (λ e. refl)
-
-taken-read : (k : Take) (t : Transfer) (m : Machine) → rowIn accessRows (takenRead k t m .outcome) ≡ true
-taken-read Take.Refused t m = refl
-taken-read (Take.Moves part false) t m = refl
-taken-read (Take.Moves part true) t m = refl
-
-phase-read : (p : Phase) (port : Port) (m : Machine) → rowIn accessRows (phaseRead p port m .outcome) ≡ true
-phase-read Idle port m = refl
-phase-read (DataIn t) port m = taken-read (takeOf (t .half) port) t m
-phase-read (DataOut t) port m = refl
-
-taken-written : (k : Take) (v : ℕ) (t : Transfer) (m : Machine) → rowIn accessRows (takenWritten k v t m .outcome) ≡ true
-taken-written Take.Refused v t m = refl
-taken-written (Take.Moves part false) v t m = refl
-taken-written (Take.Moves part true) v t m = refl
-
-phase-written : (p : Phase) (port : Port) (v : ℕ) (m : Machine) → rowIn accessRows (phaseWritten p port v m .outcome) ≡ true
-phase-written Idle port v m = refl
-phase-written (DataIn t) port v m = refl
-phase-written (DataOut t) port v m = taken-written (takeOf (t .half) port) v t m
+    meaning-elim (λ (k : Meaning). meantIn accessRows k ≡ true) m a refl refl refl refl
+    (λ w s k t. decided-elim (λ (k : Meaning). meantIn accessRows k ≡ true) (m .state) a refl refl
+    (λ h e. of-standing (standsAt (a .space) (indexIn (m .state .option)) (a .address) (a .width) (a .write) (a .value)) (a .write) (a .value) (a .tuples)
+    (refused-rows (a .space) (indexIn (m .state .option)) (a .address) (a .width) (a .write) (a .value))))
 
 of-outcome : (k : Meaning) (m : Machine) → meantIn accessRows k ≡ true → rowIn accessRows (perform k m .outcome) ≡ true
-unfolding perform dataRead dataWritten
+unfolding perform
 of-outcome (Meaning.Refused r) m e = e
 of-outcome (TupleByte b) m e = refl
 of-outcome ReadOption m e = refl
 of-outcome (WriteOption v) m e = refl
 of-outcome (ReadRegister g) m e = refl
 of-outcome (WriteRegister g v) m e = refl
-of-outcome (ReadData port) m e = pick-elim (λ (x : Effect). rowIn accessRows (x .outcome) ≡ true) (m .state .control .held) _ _ (λ e. refl) (λ e. phase-read (m .phase) port m)
-of-outcome (WriteData port v) m e = pick-elim (λ (x : Effect). rowIn accessRows (x .outcome) ≡ true) (m .state .control .held) _ _ (λ e. refl) (λ e. phase-written (m .phase) port v m)
+of-outcome (ReadData port) m e = data-read-elim (λ (x : Effect). rowIn accessRows (x .outcome) ≡ true) port m (λ v. refl) refl (λ v part t e. refl) (λ v t e w. refl) (λ v t e. refl)
+of-outcome (WriteData port v) m e = data-written-elim (λ (x : Effect). rowIn accessRows (x .outcome) ≡ true) port v m refl refl (λ part t e. refl) (λ part t e w. refl) (λ part t e. refl)
 
 pub access-rows : (m : Machine) (a : Access) → rowIn accessRows (step m a .outcome) ≡ true
 unfolding step

@@ -22,18 +22,18 @@ use Rattle.registers.specs.declared.Transfer.{Transfer}
 use Rattle.registers.specs.declared.Phase.{Phase}
 use Rattle.registers.specs.declared.Phase.the-variants.{Idle, DataIn, DataOut}
 use Rattle.registers.specs.declared.State.{State}
-use Rattle.registers.specs.State.{Machine}
-use Rattle.registers.specs.WellMade.{locatedIn}
+use Rattle.registers.specs.State.{locatedIn}
+use Rattle.registers.specs.Machine.{Machine}
 use Rattle.port.specs.declared.Take.{Take}
 use Rattle.commands.specs.declared.Command.{Command}
 use Rattle.commands.specs.declared.Command.the-variants.{Read, Write, Verify, Erase, Identify, ReadBuffer, WriteBuffer, SetGeometry, Diagnose, Recalibrate, Seek, Sense, Other}
-use Rattle.port.specs.Halves.{takeOf, partWritten}
+use Rattle.port.specs.Halves.{takeOf, withPart}
 use Rattle.commands.specs.Table.{commandOf}
 use Rattle.card.specs.declared.Meaning.{Meaning}
 use Rattle.card.specs.declared.Meaning.the-variants.{TupleByte, ReadOption, WriteOption, ReadRegister, WriteRegister, ReadData, WriteData}
 use Rattle.card.specs.Access.{Access, meaning}
 use Rattle.card.specs.Step.{step}
-use Rattle.laws.specs.Changes.{Change, changed, keptIn, writes, erasures, commandChanges, registerChanges, loadChanges, takenChanges, phaseChanges, changes}
+use Rattle.laws.specs.Changes.{Change, changed, storeMarksIn, writes, erasures, commandChanges, registerChanges, loadChanges, takenChanges, phaseChanges, changes}
 use Rattle.laws.specs.MayChange.{erases, erasesBy, mayChange}
 use Rattle.laws.proofs.BySectors.{by-sectors}
 
@@ -77,9 +77,9 @@ no-change (ReadData port) m e = refl
 no-change (WriteData port v) m e = absurd (true≢false e)
 
 -- an access that is neither a data write nor the command C0H leaves store and marks
-pub untouched : (m : Machine) (a : Access) → mayChange (meaning m a) ≡ false → keptIn (step m a .next) ≡ keptIn m
+pub untouched : (m : Machine) (a : Access) → mayChange (meaning m a) ≡ false → storeMarksIn (step m a .next) ≡ storeMarksIn m
 unfolding changed
-untouched m a e = by-sectors m a ∙ ap (λ (l : List Change). changed l (keptIn m)) (no-change (meaning m a) m e)
+untouched m a e = by-sectors m a ∙ ap (λ (l : List Change). changed l (storeMarksIn m)) (no-change (meaning m a) m e)
 
 -- ---- one
 
@@ -99,7 +99,7 @@ load-one (Sectors left) bytes m = writes-one (locatedIn (m .state)) (m .marks) b
 taken-one : (k : Take) (v : ℕ) (t : Transfer) (m : Machine) → AtMost 1 (takenChanges k v t m)
 taken-one Take.Refused v t m = omega arith
 taken-one (Take.Moves part false) v t m = omega arith
-taken-one (Take.Moves part true) v t m = pick-elim (AtMost 1) (ltb (t .words) 255) _ _ (λ e. omega arith) (λ e. load-one (t .load) (partWritten part (t .words) v (m .buffer)) m)
+taken-one (Take.Moves part true) v t m = pick-elim (AtMost 1) (ltb (t .words) 255) _ _ (λ e. omega arith) (λ e. load-one (t .load) (withPart part (t .words) v (m .buffer)) m)
 
 phase-one : (p : Phase) (port : Port) (v : ℕ) (m : Machine) → AtMost 1 (phaseChanges p port v m)
 phase-one Idle port v m = omega arith

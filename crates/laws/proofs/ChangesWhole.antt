@@ -1,7 +1,7 @@
 -- Each sector that an access changes is one of the card's, and whole; so storing it sets its 512 bytes and its mark.
 use Prim.Native.Nat.{ℕ, zero, suc, _*_, _/_, _<_}
-use mathlib.Core.Path.{_≡_, refl, sym, subst, _∙_}
-use mathlib.Core.Bool.{Bool, true, false}
+use mathlib.Core.Path.{_≡_, refl, _∙_}
+use mathlib.Core.Bool.{true, false}
 use mathlib.Core.List.{List, []}
 use native.Mathlib.Omega.{arith}
 use lib.Dec.{ltb}
@@ -17,7 +17,7 @@ use Rattle.geometry.specs.Address.{locate}
 use Rattle.geometry.specs.Next.{nextOf}
 use Rattle.geometry.proofs.Inside.{inside}
 use Rattle.sectors.specs.Marks.{writable}
-use Rattle.sectors.specs.Sectors.{kept, withSector, stored}
+use Rattle.sectors.specs.Sectors.{storeMarks, withSector, stored}
 use Rattle.maps.specs.declared.Port.{Port}
 use Rattle.maps.specs.declared.Register.{Register}
 use Rattle.maps.specs.declared.Register.the-variants.{ErrorFeature, SectorCount, SectorNumber, CylinderLow, CylinderHigh, DriveHead, StatusCommand, AlternateControl, DriveAddress}
@@ -27,22 +27,23 @@ use Rattle.registers.specs.declared.Transfer.{Transfer}
 use Rattle.registers.specs.declared.Phase.{Phase}
 use Rattle.registers.specs.declared.Phase.the-variants.{Idle, DataIn, DataOut}
 use Rattle.registers.specs.declared.State.{State}
-use Rattle.registers.specs.State.{Machine}
-use Rattle.registers.specs.WellMade.{totalIn, locatedIn, wellMade}
+use Rattle.registers.specs.State.{totalIn, locatedIn}
+use Rattle.registers.specs.Machine.{Machine}
 use Rattle.port.specs.declared.Take.{Take}
 use Rattle.commands.specs.declared.Command.{Command}
 use Rattle.commands.specs.declared.Command.the-variants.{Read, Write, Verify, Erase, Identify, ReadBuffer, WriteBuffer, SetGeometry, Diagnose, Recalibrate, Seek, Sense, Other}
-use Rattle.port.specs.Halves.{takeOf, partWritten}
-use Rattle.commands.specs.Table.{commandOf}
+use Rattle.port.specs.Halves.{takeOf, withPart}
+use Rattle.commands.specs.Table.{countOf, commandOf}
 use Rattle.card.specs.declared.Meaning.{Meaning}
 use Rattle.card.specs.declared.Meaning.the-variants.{TupleByte, ReadOption, WriteOption, ReadRegister, WriteRegister, ReadData, WriteData}
-use Rattle.card.specs.Access.{Access, meaning}
+use Rattle.card.specs.Access.{Access, decided, meaning}
+use Rattle.kept.proofs.Registers.{apart}
+use Rattle.kept.proofs.Decided.{meaning-elim}
 use Rattle.kept.proofs.Lent.{part-length}
-use Rattle.laws.specs.Changes.{Change, Whole, writes, erasures, sectorsAsked, commandChanges, registerChanges, loadChanges, takenChanges, phaseChanges, changes}
-use Rattle.laws.proofs.Made.{made-facts, not-made}
+use Rattle.laws.specs.Changes.{Change, Whole, writes, erasures, commandChanges, registerChanges, loadChanges, takenChanges, phaseChanges, changes}
 
 -- a sector that is there is stored
-pub stored-there : (store marks bytes : List ℕ) (i total : ℕ) → length store ≡ 512 * total → length marks ≡ total → i < total → stored store marks i bytes ≡ kept (withSector store i bytes) (set marks i 0)
+stored-there : (store marks bytes : List ℕ) (i total : ℕ) → length store ≡ 512 * total → length marks ≡ total → i < total → stored store marks i bytes ≡ storeMarks (withSector store i bytes) (set marks i 0)
 unfolding stored
 stored-there store marks bytes i total p q l = rw (lt-ltb i (length store / 512) (omega arith), lt-ltb i (length marks) (omega arith))
 
@@ -62,7 +63,7 @@ of-command : (c : Command) (s : State) (marks : List ℕ) → currentFor (s .cur
 of-command Read s marks c = tt
 of-command Write s marks c = tt
 of-command Verify s marks c = tt
-of-command Erase s marks c = erasures-whole (sectorsAsked (s .registers .count)) (s .registers .address) (s .current) (totalIn s) marks c
+of-command Erase s marks c = erasures-whole (countOf s) (s .registers .address) (s .current) (totalIn s) marks c
 of-command Identify s marks c = tt
 of-command ReadBuffer s marks c = tt
 of-command WriteBuffer s marks c = tt
@@ -94,7 +95,7 @@ of-taken Take.Refused v t m c b = tt
 of-taken (Take.Moves part false) v t m c b = tt
 of-taken (Take.Moves part true) v t m c b =
     pick-elim (Whole (totalIn (m .state))) (ltb (t .words) 255) _ _ (λ e. tt)
-    (λ e. of-load (t .load) (partWritten part (t .words) v (m .buffer)) m c (part-length part (t .words) v (m .buffer) ∙ b))
+    (λ e. of-load (t .load) (withPart part (t .words) v (m .buffer)) m c (part-length part (t .words) v (m .buffer) ∙ b))
 
 of-phase : (p : Phase) (port : Port) (v : ℕ) (m : Machine) → currentFor (m .state .current) (totalIn (m .state)) ≡ true → length (m .buffer) ≡ 512 → Whole (totalIn (m .state)) (phaseChanges p port v m)
 of-phase Idle port v m c b = tt
@@ -112,10 +113,8 @@ of-meaning (WriteRegister r v) m c b = of-register r v m c
 of-meaning (ReadData port) m c b = tt
 of-meaning (WriteData port v) m c b = pick-elim (Whole (totalIn (m .state))) (m .state .control .held) _ _ (λ e. tt) (λ e. of-phase (m .phase) port v m c b)
 
-by-made : (made : Bool) (m : Machine) (a : Access) → wellMade (m .phase) (m .state) ≡ made → length (m .buffer) ≡ 512 → Whole (totalIn (m .state)) (changes (meaning m a) m)
-unfolding changes
-by-made true m a e b = of-meaning (meaning m a) m (made-facts (m .phase) (m .state) e .current) b
-by-made false m a e b = subst (λ (k : Meaning). Whole (totalIn (m .state)) (changes k m)) (sym (not-made m a e)) tt
-
 pub changes-whole : (m : Machine) (a : Access) → length (m .buffer) ≡ 512 → Whole (totalIn (m .state)) (changes (meaning m a) m)
-changes-whole m a b = by-made (wellMade (m .phase) (m .state)) m a refl b
+unfolding changes
+changes-whole m a b =
+    meaning-elim (λ (k : Meaning). Whole (totalIn (m .state)) (changes k m)) m a tt tt tt tt
+    (λ w s k t. of-meaning (decided (m .state) a) m (apart (m .phase) (m .state) w .0 .2) b)

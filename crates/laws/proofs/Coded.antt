@@ -5,7 +5,7 @@ use mathlib.Core.Bool.{false, false≢true}
 use mathlib.Core.List.{List, [], _∷_}
 use Rattle.geometry.specs.declared.Geometry.{Geometry}
 use Rattle.maps.specs.declared.Register.the-variants.{StatusCommand}
-use Rattle.registers.specs.State.{Machine}
+use Rattle.registers.specs.Machine.{Machine}
 use Rattle.registers.specs.Resets.{optionTurn, turnOf, bitTwo, bitOne}
 use Rattle.card.specs.declared.Meaning.{Meaning}
 use Rattle.card.specs.declared.Meaning.the-variants.{WriteRegister}
@@ -14,10 +14,10 @@ use Rattle.card.specs.declared.Answer.{Answer}
 use Rattle.card.specs.Access.{Access, meaning}
 use Rattle.card.specs.Perform.{perform}
 use Rattle.card.specs.Step.{step, play}
-use Rattle.card.specs.Opening.{opened}
+use Rattle.card.specs.Opening.{zeroState, opened}
 use Rattle.card.specs.Doors.{machineOf, optionAnswered, controlAnswered}
+use Rattle.kept.proofs.DoorElim.{opened-elim, option-elim, control-elim}
 use Rattle.laws.specs.Coded.{inError, Coded, AllCoded}
-use Rattle.laws.proofs.Doors.{opened-elim, option-elim, control-elim}
 use Rattle.laws.proofs.CodedSteps.{option-coded, control-coded, given, performed}
 
 -- kept by every access
@@ -35,15 +35,16 @@ unfolding step
 coded-command m a v e h = subst (λ (k : Meaning). Coded (perform k m .next .state)) (sym e) (given v m h)
 
 -- after a list of accesses, and after each of them
-pub coded-played : (l : List Access) (m : Machine) → Coded (m .state) → Coded (play m l .last .state) × AllCoded (play m l .steps)
+coded-played : (l : List Access) (m : Machine) → Coded (m .state) → Coded (play m l .last .state) × AllCoded (play m l .steps)
 unfolding play
 coded-played [] m h = (h, tt)
 coded-played (a ∷ l) m h = let k = coded-kept m a h in let r = coded-played l (step m a .next) k in (r .0, (k, r .1))
 
 -- an opened card is in no error, and the all-zero card neither
-pub coded-opened : (g : Geometry) (mode : ℕ) (store marks tuples : List ℕ) → Coded (opened g mode store marks tuples .card .state)
+coded-opened : (g : Geometry) (mode : ℕ) (store marks tuples : List ℕ) → Coded (opened g mode store marks tuples .card .state)
 coded-opened g mode store marks tuples =
-    opened-elim (λ (a : Answer). Coded (a .card .state)) g mode store marks tuples (λ e. absurd (false≢true e)) (λ r i e. absurd (false≢true e))
+    let no : Coded zeroState = λ e. absurd (false≢true e) in
+    opened-elim (λ (a : Answer). Coded (a .card .state)) g mode store marks tuples no no no no no (λ f s k e. absurd (false≢true e))
 
 -- from an opened card on, Status 51H or 71H always comes with a code; the store and the marks may have changed since the opening
 pub coded-ever : (g : Geometry) (mode : ℕ) (store marks tuples store′ marks′ : List ℕ) (l : List Access) → AllCoded (play (machineOf (opened g mode store marks tuples .card) store′ marks′) l .steps)
@@ -52,12 +53,10 @@ coded-ever g mode store marks tuples store′ marks′ l = coded-played l (machi
 -- the two resets' methods keep it too
 pub coded-option : (v : ℕ) (c : Card) → Coded (c .state) → Coded (optionAnswered v c .card .state)
 coded-option v c h =
-    option-elim (λ (a : Answer). Coded (a .card .state)) v c
-    (option-coded (optionTurn v (c .state)) v (c .phase) (c .state) h)
-    (λ r. h)
+    option-elim (λ (a : Answer). Coded (a .card .state)) v c (λ r. h)
+    (λ m i. option-coded (optionTurn v (c .state)) v (c .phase) (c .state) h)
 
 pub coded-control : (v : ℕ) (c : Card) → Coded (c .state) → Coded (controlAnswered v c .card .state)
 coded-control v c h =
-    control-elim (λ (a : Answer). Coded (a .card .state)) v c
+    control-elim (λ (a : Answer). Coded (a .card .state)) v c (λ r. h)
     (control-coded (turnOf (c .state .control .held) (bitTwo v)) (bitOne v) (c .phase) (c .state) h)
-    (λ r. h)

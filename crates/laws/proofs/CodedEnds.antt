@@ -1,11 +1,11 @@
 -- Every way in which a command or a transfer goes on or ends leaves a code where Status is in error, whatever was there before.
-use Prim.Native.Nat.{ℕ, zero, suc, _-_}
+use Prim.Native.Nat.{ℕ, _-_}
 use mathlib.Core.Path.{_≡_, refl}
 use mathlib.Core.Bool.{Bool, true, false, false≢true}
 use mathlib.Core.List.{List}
 use lib.Dec.{eqb}
 use borrow.Author.Tests.{eqb-false}
-use Rattle.ground.specs.Choice.{pick}
+use Rattle.ground.proofs.Picks.{pick-elim}
 use Rattle.geometry.specs.declared.Reshaped.{Reshaped}
 use Rattle.geometry.specs.Shape.{reshaped}
 use Rattle.geometry.specs.Address.{seek}
@@ -13,8 +13,8 @@ use Rattle.registers.specs.declared.Load.{Load}
 use Rattle.registers.specs.declared.Load.the-variants.{Sectors, Buffer}
 use Rattle.registers.specs.declared.State.{State}
 use Rattle.registers.specs.declared.Core.{Core}
-use Rattle.registers.specs.State.{Machine}
-use Rattle.registers.specs.WellMade.{totalIn}
+use Rattle.registers.specs.State.{totalIn}
+use Rattle.registers.specs.Machine.{Machine}
 use Rattle.transfers.specs.declared.End.{End}
 use Rattle.transfers.specs.declared.End.the-variants.{Good, BadHeadOrSector, BadCylinder, BadLba, Unreadable, WriteFault, BadGeometry, NoSuchCommand}
 use Rattle.transfers.specs.declared.Tested.{Tested}
@@ -23,9 +23,10 @@ use Rattle.commands.specs.declared.Command.{Command}
 use Rattle.commands.specs.declared.Command.the-variants.{Read, Write, Verify, Erase, Identify, ReadBuffer, WriteBuffer, SetGeometry, Diagnose, Recalibrate, Seek, Sense, Other}
 use Rattle.transfers.specs.Ends.{endStatus, endCode}
 use Rattle.transfers.specs.Before.{readTest, addressTest, sectorStored}
-use Rattle.transfers.specs.Steps.{readTested, readSector, nextRead, loadRead, askTested, askSector, nextAsked, coreWritten, loadWritten, passed}
-use Rattle.commands.specs.Runs.{goesOn, blank, verifyFrom, Erased, erased, eraseFrom}
+use Rattle.transfers.specs.Steps.{readTested, readSector, nextRead, loadRead, askTested, askSector, nextAsked, coreWritten, loadWritten}
+use Rattle.commands.specs.Runs.{verifyFrom, Erased, eraseFrom}
 use Rattle.commands.specs.Table.{obeyed, geometrySet, soughtEnd, commandOf, started, quiet, commandGiven}
+use Rattle.kept.proofs.Runs.{verify-elim, erase-elim}
 use Rattle.laws.specs.Coded.{inError, Coded}
 
 -- the table of ends: each in error has a code
@@ -43,14 +44,6 @@ end-coded NoSuchCommand code p = eqb-false 0x20 0 refl
 begun-coded : (code : ℕ) → inError 0x58 ≡ true → code ≡ 0 → ⊥
 begun-coded code p = absurd (false≢true p)
 
-picked : (b : Bool) (x y : Core) → Coded (x .state) → Coded (y .state) → Coded (pick b x y .state)
-picked true x y f g = f
-picked false x y f g = g
-
-pub picked-machine : (b : Bool) (x y : Machine) → Coded (x .state) → Coded (y .state) → Coded (pick b x y .state)
-picked-machine true x y f g = f
-picked-machine false x y f g = g
-
 -- ---- reading
 
 read-tested : (t : Tested) (left : ℕ) (m : Machine) → Coded (readTested t left m .state)
@@ -63,7 +56,7 @@ read-sector left m = read-tested (readTest (m .state) (m .marks)) left m
 
 next-read : (left : ℕ) (m : Machine) → Coded (nextRead left m .state)
 unfolding nextRead
-next-read left m = picked-machine (eqb left 0) _ _ (end-coded Good _) (read-sector left _)
+next-read left m = pick-elim (λ (n : Machine). Coded (n .state)) (eqb left 0) _ _ (λ e. end-coded Good _) (λ e. read-sector left _)
 
 pub load-read : (l : Load) (m : Machine) → Coded (loadRead l m .state)
 load-read Buffer m = end-coded Good _
@@ -81,7 +74,7 @@ ask-sector left first s = ask-tested (addressTest s) left first s
 
 next-asked : (left : ℕ) (s : State) → Coded (nextAsked left s .state)
 unfolding nextAsked
-next-asked left s = picked (eqb left 0) _ _ (end-coded Good _) (ask-sector left false _)
+next-asked left s = pick-elim (λ (k : Core). Coded (k .state)) (eqb left 0) _ _ (λ e. end-coded Good _) (λ e. ask-sector left false _)
 
 core-written : (t : Tested) (left : ℕ) (s : State) → Coded (coreWritten t left s .state)
 core-written (Passes spot) left s = next-asked left s
@@ -93,25 +86,12 @@ load-written (Sectors left) m = core-written (sectorStored (m .state) (m .buffer
 
 -- ---- Verify and Erase
 
-verified-on : (t : Tested) (s : State) (rest : Core) → Coded (rest .state) → Coded (goesOn t (λ k. k) s rest .state)
-verified-on (Passes spot) s rest h = h
-verified-on (Fails e) s rest h = end-coded e _
-
 verified : (n : ℕ) (s : State) (marks : List ℕ) → Coded (verifyFrom n s marks .state)
-unfolding verifyFrom
-verified zero s marks = end-coded Good _
-verified (suc n) s marks = verified-on (readTest s marks) s (verifyFrom n (passed n s) marks) (verified n (passed n s) marks)
-
-erased-on : (t : Tested) (s : State) (store marks : List ℕ) (rest : Erased) → Coded (rest .core .state) → Coded (goesOn t (λ c. erased c store marks) s rest .core .state)
-erased-on (Passes spot) s store marks rest h = h
-erased-on (Fails e) s store marks rest h = end-coded e _
+verified n s marks = verify-elim (λ (x : State). Unit {0}) (λ (k : Core). Coded (k .state)) (λ n s u. tt) (λ e s u. end-coded e _) n s marks tt
 
 erases : (n : ℕ) (s : State) (store marks : List ℕ) → Coded (eraseFrom n s store marks .core .state)
-unfolding eraseFrom
-erases zero s store marks = end-coded Good _
-erases (suc n) s store marks =
-    let k = sectorStored s blank store marks in
-    erased-on (k .tested) s (k .store) (k .marks) (eraseFrom n (passed n s) (k .store) (k .marks)) (erases n (passed n s) (k .store) (k .marks))
+erases n s store marks =
+    erase-elim (λ (x : State) (st mk : List ℕ). Unit {0}) (λ (k : Erased). Coded (k .core .state)) (λ s st mk u. tt) (λ n s st mk u. tt) (λ e s st mk u. end-coded e _) n s store marks tt
 
 -- ---- the table
 

@@ -3,7 +3,8 @@ use mathlib.Core.Path.{_≡_, refl}
 use Rattle.geometry.specs.declared.Located.{Located}
 use Rattle.geometry.specs.declared.Sought.{Sought}
 use Rattle.geometry.specs.declared.Reshaped.{Reshaped}
-use Rattle.geometry.specs.Codes.{locatedCode, soughtCode, reshapedCode, currentAfter}
+use Rattle.geometry.specs.Codes.{locatedCode, soughtCode, reshapedCode}
+use Rattle.geometry.specs.Shape.{currentAfter}
 use Rattle.registers.specs.declared.State.{State}
 use Rattle.transfers.specs.Ends.{endCode}
 use Rattle.transfers.specs.Before.{testedOf}

@@ -19,8 +19,8 @@ use Rattle.maps.specs.Places.{misfits, byteAt, evenData, namedAt, placeAt, regi
 use Rattle.maps.specs.Maps.{standsAt}
 use Rattle.maps.proofs.Standings.{Fits, stands-fits}
 use Rattle.registers.specs.declared.State.{State}
-use Rattle.registers.specs.State.{sresetIn, indexIn}
-use Rattle.registers.specs.WellMade.{indexFits, wellMade, totalIn}
+use Rattle.registers.specs.State.{sresetIn, indexIn, totalIn}
+use Rattle.registers.specs.WellMade.{indexFits, wellMade}
 use Rattle.card.specs.declared.Meaning.{Meaning}
 use Rattle.card.specs.declared.Meaning.the-variants.{WriteRegister}
 use Rattle.card.specs.declared.Card.{Card}
@@ -28,9 +28,11 @@ use Rattle.card.specs.Access.{Access, heldAway, decided}
 use Rattle.card.specs.Perform.{registerWritten, perform}
 use Rattle.card.specs.Step.{step}
 use Rattle.card.specs.Doors.{machineOf, answered, controlAnswered}
+use Rattle.kept.proofs.Registers.{apart}
+use Rattle.kept.proofs.Decided.{meaning-decided}
+use Rattle.kept.proofs.Step.{not-well-refused}
 use Rattle.laws.specs.DoorAccesses.{Reaches, controlSpace, controlAddress, controlAccess}
-use Rattle.laws.proofs.Made.{made-facts}
-use Rattle.laws.proofs.OptionIsAccess.{meant, step-as, unmade}
+use Rattle.laws.proofs.OptionIsAccess.{step-as}
 
 abbrev controlMeaning : Bool → ℕ → Meaning
 controlMeaning true v = Meaning.Refused HeldBySreset
@@ -54,13 +56,13 @@ control-by : (b : Bool) (w : Bool) (c : Card) (store marks : List ℕ) (a : Acce
     length store ≡ 512 * totalIn (c .state) → length marks ≡ totalIn (c .state) → length (a .tuples) ≡ 256 →
     answered (controlAnswered (a .value) c) store marks ≡ step (machineOf c store marks) a
 unfolding controlAnswered perform registerWritten
-control-by b false c store marks a e f r s k t = rw (unmade (machineOf c store marks) a e, e)
+control-by b false c store marks a e f r s k t = rw (not-well-refused (machineOf c store marks) a e, e)
 control-by true true c store marks a e f r s k t =
     let m = machineOf c store marks in
-    rw (step-as m a (controlMeaning true (a .value)) (meant m a e s k t ∙ control-decided true (c .state) a r f), e, f)
+    rw (step-as m a (controlMeaning true (a .value)) (meaning-decided m a e s k t ∙ control-decided true (c .state) a r f), e, f)
 control-by false true c store marks a e f r s k t =
     let m = machineOf c store marks in
-    rw (step-as m a (controlMeaning false (a .value)) (meant m a e s k t ∙ control-decided false (c .state) a r f), e, f)
+    rw (step-as m a (controlMeaning false (a .value)) (meaning-decided m a e s k t ∙ control-decided false (c .state) a r f), e, f)
 
 -- Device Control as a method is every byte write that reaches the register, in whatever map
 pub control-is-access : (c : Card) (store marks : List ℕ) (a : Access) → Reaches (c .state) a →
@@ -84,9 +86,9 @@ control-at : (w : Bool) (v : ℕ) (c : Card) (store marks tuples : List ℕ) →
     length store ≡ 512 * totalIn (c .state) → length marks ≡ totalIn (c .state) → length tuples ≡ 256 →
     answered (controlAnswered v c) store marks ≡ step (machineOf c store marks) (controlAccess v (c .state) tuples)
 unfolding controlAnswered perform indexFits
-control-at false v c store marks tuples e l s k t = rw (unmade (machineOf c store marks) (controlAccess v (c .state) tuples) e, e)
+control-at false v c store marks tuples e l s k t = rw (not-well-refused (machineOf c store marks) (controlAccess v (c .state) tuples) e, e)
 control-at true v c store marks tuples e l s k t =
-    let i = leb-true (indexIn (c .state .option)) 3 (made-facts (c .phase) (c .state) e .index) in
+    let i = leb-true (indexIn (c .state .option)) 3 (apart (c .phase) (c .state) e .0 .3) in
     let x = control-stands (c .state .made .mode) (indexIn (c .state .option)) v i l in
     control-is-access c store marks (controlAccess v (c .state) tuples) (record { write = refl; answers = x .0; stands = x .1 }) s k t
 

@@ -10,24 +10,24 @@ use Rattle.card.specs.declared.Card.{Card}
 use Rattle.card.specs.declared.Answer.{Answer}
 use Rattle.card.specs.Opening.{opened}
 use Rattle.card.specs.Doors.{optionAnswered, controlAnswered}
+use Rattle.kept.proofs.DoorElim.{opened-elim, option-elim, control-elim}
 use Rattle.kept.proofs.Opening.{opening-refused}
 use Rattle.laws.specs.Unchanged.{SameCard, NoCard}
 use Rattle.laws.specs.Rows.{openingRows, rowIn}
-use Rattle.laws.proofs.RefusedUnchanged.{accepts-not}
-use Rattle.laws.proofs.Doors.{opened-elim, option-elim, control-elim}
+use Rattle.answers.proofs.Outcomes.{accepts-not}
 
 -- where the answer is a refusal, P holds of it
 abbrev Where : (Answer → Type 0) → Answer → Type 0
 Where P a = (r : Refusal) → a .outcome ≡ Refused r → P a
 
 pub option-unchanged : (v : ℕ) (c : Card) (r : Refusal) → optionAnswered v c .outcome ≡ Refused r → SameCard c (optionAnswered v c)
-option-unchanged v c = option-elim (Where (SameCard c)) v c (λ r e. accepts-not 0 r e) (λ s r e. (refl, refl, refl))
+option-unchanged v c = option-elim (Where (SameCard c)) v c (λ s r e. (refl, refl, refl)) (λ m i r e. accepts-not 0 r e)
 
 pub control-unchanged : (v : ℕ) (c : Card) (r : Refusal) → controlAnswered v c .outcome ≡ Refused r → SameCard c (controlAnswered v c)
-control-unchanged v c = control-elim (Where (SameCard c)) v c (λ r e. accepts-not 0 r e) (λ s r e. (refl, refl, refl))
+control-unchanged v c = control-elim (Where (SameCard c)) v c (λ s r e. (refl, refl, refl)) (λ r e. accepts-not 0 r e)
 
 pub opening-unchanged : (g : Geometry) (mode : ℕ) (store marks tuples : List ℕ) (r : Refusal) → opened g mode store marks tuples .outcome ≡ Refused r → NoCard (opened g mode store marks tuples)
 opening-unchanged g mode store marks tuples r e = subst NoCard (sym (opening-refused g mode store marks tuples r e)) (refl, refl, refl)
 
 pub opening-rows : (g : Geometry) (mode : ℕ) (store marks tuples : List ℕ) → rowIn openingRows (opened g mode store marks tuples .outcome) ≡ true
-opening-rows g mode store marks tuples = opened-elim (λ (a : Answer). rowIn openingRows (a .outcome) ≡ true) g mode store marks tuples refl (λ r i. i)
+opening-rows g mode store marks tuples = opened-elim (λ (a : Answer). rowIn openingRows (a .outcome) ≡ true) g mode store marks tuples refl refl refl refl refl (λ f s k. refl)

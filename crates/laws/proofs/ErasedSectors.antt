@@ -14,15 +14,15 @@ use Rattle.geometry.specs.declared.Spot.{Spot}
 use Rattle.geometry.specs.declared.Located.{Located}
 use Rattle.geometry.specs.Next.{nextOf}
 use Rattle.sectors.specs.Marks.{writable}
-use Rattle.sectors.specs.Sectors.{Kept, kept, stored}
+use Rattle.sectors.specs.Sectors.{StoreMarks, storeMarks, stored}
 use Rattle.registers.specs.declared.State.{State}
-use Rattle.registers.specs.WellMade.{totalIn, locatedIn}
+use Rattle.registers.specs.State.{totalIn, locatedIn}
 use Rattle.transfers.specs.declared.End.the-variants.{WriteFault}
 use Rattle.transfers.specs.declared.Tested.{Tested}
 use Rattle.transfers.specs.declared.Tested.the-variants.{Passes, Fails}
 use Rattle.transfers.specs.Before.{testedOf, addressTest, markTested, storeTest, storedBy, sectorStored}
-use Rattle.transfers.specs.Steps.{passed}
-use Rattle.commands.specs.Runs.{goesOn, blank, Erased, erased, eraseFrom}
+use Rattle.transfers.specs.Steps.{sectorDone}
+use Rattle.commands.specs.Runs.{goesOn, allFF, Erased, erased, eraseFrom}
 use Rattle.laws.specs.Changes.{Change, changed, writes, erasures}
 
 -- ---- a stored sector's mark is 0, and so it can be written as before
@@ -39,40 +39,40 @@ by-place false marks i j e l w = ap writable (getD-set-other marks i j 0 0 (eqb-
 same-stored : (store marks marks0 bytes : List ℕ) (i : ℕ) → Same marks marks0 → writable (getD marks i 0) ≡ true → Same (stored store marks i bytes .marks) marks0
 unfolding stored
 same-stored store marks marks0 bytes i h w =
-    pick-elim (λ (k : Kept). Same (k .marks) marks0) (ltb i (length store / 512)) _ _
-    (λ e. pick-elim (λ (k : Kept). Same (k .marks) marks0) (ltb i (length marks)) _ _
+    pick-elim (λ (k : StoreMarks). Same (k .marks) marks0) (ltb i (length store / 512)) _ _
+    (λ e. pick-elim (λ (k : StoreMarks). Same (k .marks) marks0) (ltb i (length marks)) _ _
     (λ f j. by-place (eqb j i) marks i j refl (ltb-true _ _ f) w ∙ h j)
     (λ f. h))
     (λ e. h)
 
 -- ---- one sector, and the rest
 
-abbrev keptOf : Erased → Kept
-keptOf e = kept (e .store) (e .marks)
+abbrev storeMarksOf : Erased → StoreMarks
+storeMarksOf e = storeMarks (e .store) (e .marks)
 
 -- the rest of the run, from whatever store and marks
 abbrev Rest : ℕ → State → List Change → List ℕ → List ℕ → Type 0
-Rest n s rest store marks = keptOf (eraseFrom n s store marks) ≡ changed rest (kept store marks)
+Rest n s rest store marks = storeMarksOf (eraseFrom n s store marks) ≡ changed rest (storeMarks store marks)
 
 abbrev onward : Tested → ℕ → State → List ℕ → List ℕ → Erased
 onward t n s store marks =
-    goesOn (storedBy t blank store marks .tested) (λ c. erased c (storedBy t blank store marks .store) (storedBy t blank store marks .marks)) s
-    (eraseFrom n (passed n s) (storedBy t blank store marks .store) (storedBy t blank store marks .marks))
+    goesOn (storedBy t allFF store marks .tested) (λ c. erased c (storedBy t allFF store marks .store) (storedBy t allFF store marks .marks)) s
+    (eraseFrom n (sectorDone n s) (storedBy t allFF store marks .store) (storedBy t allFF store marks .marks))
 
 by-mark : (b : Bool) (spot : Spot) (n : ℕ) (s : State) (store marks marks0 : List ℕ) (rest : List Change) →
-    Same marks marks0 → writable (getD marks (spot .index) 0) ≡ b → ((st mk : List ℕ) → Same mk marks0 → Rest n (passed n s) rest st mk) →
-    keptOf (onward (pick b (Passes spot) (Fails WriteFault)) n s store marks) ≡ changed (pick b (record { index = spot .index; bytes = replicate 512 0xFF } ∷ rest) []) (kept store marks)
-unfolding changed blank
+    Same marks marks0 → writable (getD marks (spot .index) 0) ≡ b → ((st mk : List ℕ) → Same mk marks0 → Rest n (sectorDone n s) rest st mk) →
+    storeMarksOf (onward (pick b (Passes spot) (Fails WriteFault)) n s store marks) ≡ changed (pick b (record { index = spot .index; bytes = replicate 512 0xFF } ∷ rest) []) (storeMarks store marks)
+unfolding changed allFF
 by-mark true spot n s store marks marks0 rest h w f = f _ _ (same-stored store marks marks0 (replicate 512 0xFF) (spot .index) h w)
 by-mark false spot n s store marks marks0 rest h w f = refl
 
 by-address : (l : Located) (n : ℕ) (s : State) (store marks marks0 : List ℕ) (rest : List Change) →
-    Same marks marks0 → ((st mk : List ℕ) → Same mk marks0 → Rest n (passed n s) rest st mk) →
-    keptOf (onward (markTested writable WriteFault (testedOf l) marks) n s store marks) ≡ changed (writes l marks0 (replicate 512 0xFF) rest) (kept store marks)
+    Same marks marks0 → ((st mk : List ℕ) → Same mk marks0 → Rest n (sectorDone n s) rest st mk) →
+    storeMarksOf (onward (markTested writable WriteFault (testedOf l) marks) n s store marks) ≡ changed (writes l marks0 (replicate 512 0xFF) rest) (storeMarks store marks)
 unfolding changed
 by-address (Located.Good spot) n s store marks marks0 rest h f =
     by-mark (writable (getD marks (spot .index) 0)) spot n s store marks marks0 rest h refl f ∙
-    ap (λ (b : Bool). changed (pick b (record { index = spot .index; bytes = replicate 512 0xFF } ∷ rest) []) (kept store marks)) (h (spot .index))
+    ap (λ (b : Bool). changed (pick b (record { index = spot .index; bytes = replicate 512 0xFF } ∷ rest) []) (storeMarks store marks)) (h (spot .index))
 by-address Located.BadHeadOrSector n s store marks marks0 rest h f = refl
 by-address Located.BadCylinder n s store marks marks0 rest h f = refl
 by-address Located.BadLba n s store marks marks0 rest h f = refl
@@ -81,8 +81,8 @@ by-address Located.BadLba n s store marks marks0 rest h f = refl
 abbrev erasuresIn : ℕ → State → List ℕ → List Change
 erasuresIn n s marks = erasures n (s .registers .address) (s .current) (totalIn s) marks
 
-next-address : (n : ℕ) (s : State) (marks : List ℕ) → erasuresIn n (passed n s) marks ≡ erasures n (nextOf (s .registers .address) (s .current)) (s .current) (totalIn s) marks
-unfolding erasures passed
+next-address : (n : ℕ) (s : State) (marks : List ℕ) → erasuresIn n (sectorDone n s) marks ≡ erasures n (nextOf (s .registers .address) (s .current)) (s .current) (totalIn s) marks
+unfolding erasures sectorDone
 next-address zero s marks = refl
 next-address (suc n) s marks = rw (ne-eqb (suc n) 0 (λ e. omega arith))
 
@@ -91,7 +91,7 @@ unfolding eraseFrom erasures changed sectorStored storeTest addressTest
 erased-sectors zero s store marks marks0 h = refl
 erased-sectors (suc n) s store marks marks0 h =
     by-address (locatedIn s) n s store marks marks0 (erasures n (nextOf (s .registers .address) (s .current)) (s .current) (totalIn s) marks0) h
-    (λ st mk g. subst (λ (r : List Change). Rest n (passed n s) r st mk) (next-address n s marks0) (erased-sectors n (passed n s) st mk marks0 g))
+    (λ st mk g. subst (λ (r : List Change). Rest n (sectorDone n s) r st mk) (next-address n s marks0) (erased-sectors n (sectorDone n s) st mk marks0 g))
 
-pub erase-kept : (n : ℕ) (s : State) (store marks : List ℕ) → kept (eraseFrom n s store marks .store) (eraseFrom n s store marks .marks) ≡ changed (erasures n (s .registers .address) (s .current) (totalIn s) marks) (kept store marks)
+pub erase-kept : (n : ℕ) (s : State) (store marks : List ℕ) → storeMarks (eraseFrom n s store marks .store) (eraseFrom n s store marks .marks) ≡ changed (erasures n (s .registers .address) (s .current) (totalIn s) marks) (storeMarks store marks)
 erase-kept n s store marks = erased-sectors n s store marks marks (λ j. refl)

@@ -1,12 +1,10 @@
 pub mod RefusedUnchanged
-pub mod Doors
 pub mod DoorsUnchanged
 pub mod AccessRows
 pub mod OnlyOne
 pub mod CodedEnds
 pub mod CodedSteps
 pub mod Coded
-pub mod Made
 pub mod MarkLaws
 pub mod MarkEnds
 pub mod MarkData

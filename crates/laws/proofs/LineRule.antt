@@ -6,7 +6,8 @@ use mathlib.Core.List.{List}
 use Rattle.ground.specs.Choice.{pick}
 use Rattle.geometry.specs.declared.Geometry.{Geometry}
 use Rattle.registers.specs.declared.State.{State}
-use Rattle.registers.specs.State.{Machine, lineOf}
+use Rattle.registers.specs.State.{lineOf}
+use Rattle.registers.specs.Machine.{Machine}
 use Rattle.registers.specs.Resets.{controlWritten}
 use Rattle.card.specs.declared.Card.{Card}
 use Rattle.card.specs.declared.Answer.{Answer}
@@ -15,8 +16,8 @@ use Rattle.card.specs.Perform.{perform}
 use Rattle.card.specs.Step.{step}
 use Rattle.card.specs.Opening.{opened}
 use Rattle.card.specs.Doors.{optionAnswered, controlAnswered}
+use Rattle.kept.proofs.DoorElim.{optionCard, opened-elim, option-elim, control-elim}
 use Rattle.laws.specs.Line.{lineUp}
-use Rattle.laws.proofs.Doors.{optionCard, opened-elim, option-elim, control-elim}
 
 by-mask : (masked mark : Bool) → pick masked false mark ≡ (mark && not masked)
 by-mask true mark = sym (and-false mark)
@@ -33,10 +34,10 @@ abbrev Told : Answer → Type 0
 Told a = a .line ≡ lineUp (a .card .state)
 
 pub line-option : (v : ℕ) (c : Card) → optionAnswered v c .line ≡ lineUp (optionAnswered v c .card .state)
-line-option v c = option-elim Told v c (line-of (optionCard v c .state)) (λ r. line-of (c .state))
+line-option v c = option-elim Told v c (λ r. line-of (c .state)) (λ m i. line-of (optionCard v c .state))
 
 pub line-control : (v : ℕ) (c : Card) → controlAnswered v c .line ≡ lineUp (controlAnswered v c .card .state)
-line-control v c = control-elim Told v c (line-of (controlWritten v (c .phase) (c .state) .state)) (λ r. line-of (c .state))
+line-control v c = control-elim Told v c (λ r. line-of (c .state)) (line-of (controlWritten v (c .phase) (c .state) .state))
 
 pub line-opened : (g : Geometry) (mode : ℕ) (store marks tuples : List ℕ) → opened g mode store marks tuples .line ≡ lineUp (opened g mode store marks tuples .card .state)
-line-opened g mode store marks tuples = opened-elim Told g mode store marks tuples refl (λ r i. refl)
+line-opened g mode store marks tuples = opened-elim Told g mode store marks tuples refl refl refl refl refl (λ f s k. refl)

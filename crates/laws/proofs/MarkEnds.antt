@@ -1,5 +1,5 @@
 -- The interrupt mark at a Command write: every row of the table keeps the rule.
-use Prim.Native.Nat.{ℕ, zero, suc}
+use Prim.Native.Nat.{ℕ}
 use mathlib.Core.Path.{_≡_, refl}
 use mathlib.Core.Bool.{true, false}
 use mathlib.Core.List.{List}
@@ -9,8 +9,8 @@ use Rattle.geometry.specs.Shape.{reshaped}
 use Rattle.geometry.specs.Address.{seek}
 use Rattle.registers.specs.declared.State.{State}
 use Rattle.registers.specs.declared.Core.{Core}
-use Rattle.registers.specs.State.{Machine}
-use Rattle.registers.specs.WellMade.{totalIn}
+use Rattle.registers.specs.State.{totalIn}
+use Rattle.registers.specs.Machine.{Machine}
 use Rattle.transfers.specs.declared.End.{End}
 use Rattle.transfers.specs.declared.End.the-variants.{Good, BadHeadOrSector, BadCylinder, BadLba, Unreadable, WriteFault, BadGeometry, NoSuchCommand}
 use Rattle.transfers.specs.declared.Tested.{Tested}
@@ -18,10 +18,11 @@ use Rattle.transfers.specs.declared.Tested.the-variants.{Passes, Fails}
 use Rattle.commands.specs.declared.Command.{Command}
 use Rattle.commands.specs.declared.Command.the-variants.{Read, Write, Verify, Erase, Identify, ReadBuffer, WriteBuffer, SetGeometry, Diagnose, Recalibrate, Seek, Sense, Other}
 use Rattle.transfers.specs.Ends.{endStatus}
-use Rattle.transfers.specs.Before.{readTest, addressTest, sectorStored}
-use Rattle.transfers.specs.Steps.{passed, readTested, readSector, askTested, askSector}
-use Rattle.commands.specs.Runs.{goesOn, blank, verifyFrom, Erased, erased, eraseFrom}
+use Rattle.transfers.specs.Before.{readTest, addressTest}
+use Rattle.transfers.specs.Steps.{readTested, readSector, askTested, askSector}
+use Rattle.commands.specs.Runs.{verifyFrom, Erased, eraseFrom}
 use Rattle.commands.specs.Table.{countOf, soughtEnd, geometrySet, started, quiet, commandOf, obeyed, commandGiven}
+use Rattle.kept.proofs.Runs.{verify-elim, erase-elim}
 use Rattle.laws.specs.Mark.{CommandWrite, asks, MarkRule}
 use Rattle.laws.proofs.MarkLaws.{over, ready, asked}
 
@@ -40,25 +41,12 @@ end-asks NoSuchCommand = refl
 abbrev Over : State → Type 0
 Over n = (n .mark ≡ true) × (asks n ≡ false)
 
-verified-on : (t : Tested) (s : State) (rest : Core) → Over (rest .state) → Over (goesOn t (λ k. k) s rest .state)
-verified-on (Passes spot) s rest h = h
-verified-on (Fails e) s rest h = (refl, end-asks e)
-
 verified : (n : ℕ) (s : State) (marks : List ℕ) → Over (verifyFrom n s marks .state)
-unfolding verifyFrom
-verified zero s marks = (refl, refl)
-verified (suc n) s marks = verified-on (readTest s marks) s (verifyFrom n (passed n s) marks) (verified n (passed n s) marks)
-
-erased-on : (t : Tested) (s : State) (store marks : List ℕ) (rest : Erased) → Over (rest .core .state) → Over (goesOn t (λ c. erased c store marks) s rest .core .state)
-erased-on (Passes spot) s store marks rest h = h
-erased-on (Fails e) s store marks rest h = (refl, end-asks e)
+verified n s marks = verify-elim (λ (x : State). Unit {0}) (λ (k : Core). Over (k .state)) (λ n s u. tt) (λ e s u. (refl, end-asks e)) n s marks tt
 
 erases : (n : ℕ) (s : State) (store marks : List ℕ) → Over (eraseFrom n s store marks .core .state)
-unfolding eraseFrom
-erases zero s store marks = (refl, refl)
-erases (suc n) s store marks =
-    let k = sectorStored s blank store marks in
-    erased-on (k .tested) s (k .store) (k .marks) (eraseFrom n (passed n s) (k .store) (k .marks)) (erases n (passed n s) (k .store) (k .marks))
+erases n s store marks =
+    erase-elim (λ (x : State) (st mk : List ℕ). Unit {0}) (λ (k : Erased). Over (k .core .state)) (λ s st mk u. tt) (λ n s st mk u. tt) (λ e s st mk u. (refl, end-asks e)) n s store marks tt
 
 geometry-set : (r : Reshaped) (s : State) → Over (geometrySet r s .state)
 geometry-set (Reshaped.Taken g) s = (refl, refl)

@@ -19,13 +19,13 @@ gone a b s c p q r = rw (p, q, and-false b) r
 up : (a b s c : Bool) → s ≡ true → a ≡ true → a ≡ (s || (b && not c))
 up a b s c p r = rw p r
 
-pub mark-left : (x : Act) (s n : State) → sets x s n ≡ false → clears x s ≡ false → n .mark ≡ s .mark → MarkRule x s n
+mark-left : (x : Act) (s n : State) → sets x s n ≡ false → clears x s ≡ false → n .mark ≡ s .mark → MarkRule x s n
 mark-left x s n p q r = left (n .mark) (s .mark) (sets x s n) (clears x s) p q r
 
 pub mark-gone : (x : Act) (s n : State) → sets x s n ≡ false → clears x s ≡ true → n .mark ≡ false → MarkRule x s n
 mark-gone x s n p q r = gone (n .mark) (s .mark) (sets x s n) (clears x s) p q r
 
-pub mark-up : (x : Act) (s n : State) → sets x s n ≡ true → n .mark ≡ true → MarkRule x s n
+mark-up : (x : Act) (s n : State) → sets x s n ≡ true → n .mark ≡ true → MarkRule x s n
 mark-up x s n p r = up (n .mark) (s .mark) (sets x s n) (clears x s) p r
 
 -- an access that does not matter

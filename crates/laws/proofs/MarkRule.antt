@@ -1,32 +1,31 @@
 -- 01, "Interrupt mark": after every access the mark is set by what sets it, or stays where nothing clears it.
 use Prim.Native.Nat.{ℕ}
-use mathlib.Core.Path.{_≡_, refl, sym, subst}
+use mathlib.Core.Path.{_≡_, refl, sym}
 use mathlib.Core.Bool.{Bool, true, false, not, _&&_, _||_, and-true, and-false}
 use Rattle.ground.specs.Choice.{pick}
-use Rattle.ground.proofs.Picks.{pick-elim}
 use Rattle.maps.specs.declared.Register.{Register}
 use Rattle.maps.specs.declared.Register.the-variants.{ErrorFeature, SectorCount, SectorNumber, CylinderLow, CylinderHigh, DriveHead, StatusCommand, AlternateControl, DriveAddress}
 use Rattle.registers.specs.declared.Phase.{Phase}
 use Rattle.registers.specs.declared.State.{State}
 use Rattle.registers.specs.declared.Core.{Core}
-use Rattle.registers.specs.State.{Machine, coreOf, runs, sresetIn}
-use Rattle.registers.specs.WellMade.{statusFits, runFits, wellMade}
-use Rattle.registers.specs.Values.{afterRead, registerSet}
+use Rattle.registers.specs.State.{sresetIn}
+use Rattle.registers.specs.Machine.{Machine, coreOf}
+use Rattle.registers.specs.Values.{afterRead}
 use Rattle.registers.specs.Resets.{turnOf, optionTurned, bitTwo, bitOne, controlTurned}
-use Rattle.transfers.specs.declared.Way.the-variants.{In, Out}
-use Rattle.transfers.specs.Steps.{withState}
-use Rattle.port.specs.Data.{Effect, dataRead, dataWritten}
+use Rattle.transfers.specs.Steps.{dropped}
 use Rattle.commands.specs.Table.{commandGiven}
 use Rattle.card.specs.declared.Meaning.{Meaning}
 use Rattle.card.specs.declared.Meaning.the-variants.{TupleByte, ReadOption, WriteOption, ReadRegister, WriteRegister, ReadData, WriteData}
-use Rattle.card.specs.Access.{Access, meaning}
+use Rattle.card.specs.Access.{Access, decided, meaning}
 use Rattle.card.specs.Perform.{optionWritten, plainCore, registerWritten, perform}
 use Rattle.card.specs.Step.{step}
-use Rattle.laws.specs.Mark.{StatusRead, DataRead, DataWrite, NoMatter, readAct, writeAct, actOf, differ, sets, clears, MarkRule}
-use Rattle.laws.proofs.Made.{made-facts, not-made}
-use Rattle.laws.proofs.MarkLaws.{mark-gone, no-matter, still}
+use Rattle.kept.proofs.Registers.{apart}
+use Rattle.kept.proofs.Decided.{meaning-elim}
+use Rattle.kept.proofs.RegisterElim.{set-elim, plain-elim}
+use Rattle.laws.specs.Mark.{StatusRead, NoMatter, readAct, writeAct, actOf, differ, sets, clears, MarkRule}
+use Rattle.laws.proofs.MarkLaws.{mark-gone, no-matter}
 use Rattle.laws.proofs.MarkEnds.{commanded}
-use Rattle.laws.proofs.MarkData.{phase-read, phase-written}
+use Rattle.laws.proofs.MarkData.{Runs, data-read, data-written}
 
 -- ---- the resets: was the card held, and is the bit set now
 
@@ -58,27 +57,13 @@ register-read StatusCommand s = mark-gone StatusRead s (afterRead StatusCommand 
 register-read AlternateControl s = no-matter s s refl
 register-read DriveAddress s = no-matter s s refl
 
-set-mark : (r : Register) (v : ℕ) (s : State) → registerSet r v s .mark ≡ s .mark
-unfolding registerSet
-set-mark ErrorFeature v s = refl
-set-mark SectorCount v s = refl
-set-mark SectorNumber v s = refl
-set-mark CylinderLow v s = refl
-set-mark CylinderHigh v s = refl
-set-mark DriveHead v s = refl
-set-mark StatusCommand v s = refl
-set-mark AlternateControl v s = refl
-set-mark DriveAddress v s = refl
-
 plain : (r : Register) (v : ℕ) (k : Core) → MarkRule NoMatter (k .state) (plainCore r v k .state)
-unfolding plainCore
 plain r v k = no-matter (k .state) _
-    (pick-elim (λ (x : Core). x .state .mark ≡ k .state .mark) (k .state .control .held) _ _ (λ e. refl)
-    (λ e. pick-elim (λ (x : Core). x .state .mark ≡ k .state .mark) (runs (k .phase)) _ _ (λ e. refl) (λ e. set-mark r v (k .state))))
+    (plain-elim (λ (x : Core). x .state .mark ≡ k .state .mark) r v k refl (λ e h. set-elim (λ (x : State). x .mark ≡ k .state .mark) r v (k .state) refl refl (λ a. refl)))
 
-command-written : (held : Bool) (v : ℕ) (m : Machine) → MarkRule (writeAct StatusCommand v held) (m .state) (pick held m (commandGiven v (withState (m .state) m)) .state)
+command-written : (held : Bool) (v : ℕ) (m : Machine) → MarkRule (writeAct StatusCommand v held) (m .state) (pick held m (commandGiven v (dropped m)) .state)
 command-written true v m = no-matter (m .state) (m .state) refl
-command-written false v m = commanded v (withState (m .state) m)
+command-written false v m = commanded v (dropped m)
 
 register-written : (r : Register) (v : ℕ) (m : Machine) → MarkRule (writeAct r v (m .state .control .held)) (m .state) (registerWritten r v m .state)
 unfolding registerWritten sets clears
@@ -94,31 +79,23 @@ register-written DriveAddress v m = plain DriveAddress v (coreOf m)
 
 -- ---- every access
 
-performed : (k : Meaning) (m : Machine) → statusFits (m .phase) (m .state .registers .status) ≡ true → runFits (m .phase) (m .state) ≡ true → MarkRule (actOf k (m .state .control .held)) (m .state) (perform k m .next .state)
-unfolding perform dataRead dataWritten optionWritten sets clears
-performed (Meaning.Refused x) m a f = no-matter (m .state) (m .state) refl
-performed (TupleByte b) m a f = no-matter (m .state) (m .state) refl
-performed ReadOption m a f = no-matter (m .state) (m .state) refl
-performed (WriteOption v) m a f = option-turned (sresetIn (m .state .option)) (sresetIn v) v (m .phase) (m .state)
-performed (ReadRegister g) m a f = register-read g (m .state)
-performed (WriteRegister g v) m a f = register-written g v m
-performed (ReadData port) m a f =
-    pick-elim (λ (x : Effect). MarkRule DataRead (m .state) (x .next .state)) (m .state .control .held) _ _
-    (λ e. still In (m .state) (m .state) refl refl refl)
-    (λ e. phase-read (m .phase) port m a f)
-performed (WriteData port v) m a f =
-    pick-elim (λ (x : Effect). MarkRule DataWrite (m .state) (x .next .state)) (m .state .control .held) _ _
-    (λ e. still Out (m .state) (m .state) refl refl refl)
-    (λ e. phase-written (m .phase) port v m a f)
+performed : (k : Meaning) (m : Machine) → Runs (m .phase) (m .state) → MarkRule (actOf k (m .state .control .held)) (m .state) (perform k m .next .state)
+unfolding perform optionWritten sets clears
+performed (Meaning.Refused x) m r = no-matter (m .state) (m .state) refl
+performed (TupleByte b) m r = no-matter (m .state) (m .state) refl
+performed ReadOption m r = no-matter (m .state) (m .state) refl
+performed (WriteOption v) m r = option-turned (sresetIn (m .state .option)) (sresetIn v) v (m .phase) (m .state)
+performed (ReadRegister g) m r = register-read g (m .state)
+performed (WriteRegister g v) m r = register-written g v m
+performed (ReadData port) m r = data-read port m r
+performed (WriteData port v) m r = data-written port v m r
 
 abbrev Ruled : Meaning → Machine → Type 0
 Ruled k m = MarkRule (actOf k (m .state .control .held)) (m .state) (perform k m .next .state)
 
-by-made : (made : Bool) (m : Machine) (a : Access) → wellMade (m .phase) (m .state) ≡ made → Ruled (meaning m a) m
-unfolding perform
-by-made true m a e = let f = made-facts (m .phase) (m .state) e in performed (meaning m a) m (f .status) (f .run)
-by-made false m a e = subst (λ (k : Meaning). Ruled k m) (sym (not-made m a e)) (no-matter (m .state) (m .state) refl)
-
 pub mark-rule : (m : Machine) (a : Access) → MarkRule (actOf (meaning m a) (m .state .control .held)) (m .state) (step m a .next .state)
-unfolding step
-mark-rule m a = by-made (wellMade (m .phase) (m .state)) m a refl
+unfolding step perform
+mark-rule m a =
+    let z = no-matter (m .state) (m .state) refl in
+    meaning-elim (λ (k : Meaning). Ruled k m) m a z z z z
+    (λ w s k t. let f = apart (m .phase) (m .state) w in performed (decided (m .state) a) m (f .1 .0, f .1 .3))

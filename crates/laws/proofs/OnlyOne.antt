@@ -3,9 +3,9 @@ use Prim.Native.Nat.{ℕ}
 use mathlib.Core.Path.{_≡_, ap}
 use mathlib.Core.List.{List}
 use Rattle.ground.proofs.OnlyOne.{only-one}
-use Rattle.sectors.specs.Sectors.{Kept, kept}
+use Rattle.sectors.specs.Sectors.{StoreMarks, storeMarks}
 use Rattle.registers.specs.declared.Core.{Core}
-use Rattle.registers.specs.State.{Machine, machine}
+use Rattle.registers.specs.Machine.{Machine, machine}
 use Rattle.port.specs.declared.Done.{Done}
 use Rattle.transfers.specs.declared.Tested.{Tested}
 use Rattle.transfers.specs.Before.{StoreTested, storeTested}
@@ -15,16 +15,16 @@ use Rattle.card.specs.declared.Reply.{Reply}
 use Rattle.card.specs.declared.Answer.{Answer}
 use Rattle.card.specs.Step.{Stepped, replied}
 use Rattle.card.specs.Doors.{answered}
-use Rattle.laws.specs.Lent.{Lent}
+use Rattle.laws.specs.Lent.{SameLent}
 
 -- two promises at once
 pub only-both {ℓ κ} : {A : Type ℓ} {B : Type κ} (d r r′ : A) (e s s′ : B) → (r ≡ d) × (s ≡ e) → (r′ ≡ d) × (s′ ≡ e) → (r ≡ r′) × (s ≡ s′)
 only-both d r r′ e s s′ p q = (only-one d r r′ (p .0) (q .0), only-one e s s′ (p .1) (q .1))
 
-pub only-kept : (d : Kept) (s s′ m m′ : List ℕ) → kept s m ≡ d → kept s′ m′ ≡ d → (s ≡ s′) × (m ≡ m′)
-only-kept d s s′ m m′ p q =
-    let e = only-one d (kept s m) (kept s′ m′) p q in
-    (ap (λ (k : Kept). k .store) e, ap (λ (k : Kept). k .marks) e)
+pub only-store-marks : (d : StoreMarks) (s s′ m m′ : List ℕ) → storeMarks s m ≡ d → storeMarks s′ m′ ≡ d → (s ≡ s′) × (m ≡ m′)
+only-store-marks d s s′ m m′ p q =
+    let e = only-one d (storeMarks s m) (storeMarks s′ m′) p q in
+    (ap (λ (k : StoreMarks). k .store) e, ap (λ (k : StoreMarks). k .marks) e)
 
 pub only-store-tested : (d : StoreTested) (t t′ : Tested) (s s′ m m′ : List ℕ) → storeTested t s m ≡ d → storeTested t′ s′ m′ ≡ d → (t ≡ t′) × (s ≡ s′) × (m ≡ m′)
 only-store-tested d t t′ s s′ m m′ p q =
@@ -50,20 +50,20 @@ abbrev answerIn : Stepped → Answer
 answerIn x = record { outcome = x .outcome; line = x .line; card = record { phase = x .next .phase; state = x .next .state; buffer = x .next .buffer } }
 
 -- what was lent besides
-lent : (x y : Machine) → x ≡ y → Lent (x .buffer) (y .buffer) (x .store) (y .store) (x .marks) (y .marks)
+lent : (x y : Machine) → x ≡ y → SameLent (x .buffer) (y .buffer) (x .store) (y .store) (x .marks) (y .marks)
 lent x y e = (ap (λ (n : Machine). n .buffer) e, ap (λ (n : Machine). n .store) e, ap (λ (n : Machine). n .marks) e)
 
-pub only-machine : (d : Machine) (c c′ : Core) (b b′ s s′ m m′ : List ℕ) → machine c b s m ≡ d → machine c′ b′ s′ m′ ≡ d → (c ≡ c′) × Lent b b′ s s′ m m′
+pub only-machine : (d : Machine) (c c′ : Core) (b b′ s s′ m m′ : List ℕ) → machine c b s m ≡ d → machine c′ b′ s′ m′ ≡ d → (c ≡ c′) × SameLent b b′ s s′ m m′
 only-machine d c c′ b b′ s s′ m m′ p q =
     let e = only-one d (machine c b s m) (machine c′ b′ s′ m′) p q in
     (ap coreIn e, lent (machine c b s m) (machine c′ b′ s′ m′) e)
 
-pub only-effect : (d : Effect) (r r′ : Done) (b b′ s s′ m m′ : List ℕ) → effect r b s m ≡ d → effect r′ b′ s′ m′ ≡ d → (r ≡ r′) × Lent b b′ s s′ m m′
+pub only-effect : (d : Effect) (r r′ : Done) (b b′ s s′ m m′ : List ℕ) → effect r b s m ≡ d → effect r′ b′ s′ m′ ≡ d → (r ≡ r′) × SameLent b b′ s s′ m m′
 only-effect d r r′ b b′ s s′ m m′ p q =
     let e = only-one d (effect r b s m) (effect r′ b′ s′ m′) p q in
     (ap doneIn e, lent (effect r b s m .next) (effect r′ b′ s′ m′ .next) (ap (λ (x : Effect). x .next) e))
 
-pub only-replied : (d : Stepped) (r r′ : Reply) (b b′ s s′ m m′ : List ℕ) → replied r b s m ≡ d → replied r′ b′ s′ m′ ≡ d → (r ≡ r′) × Lent b b′ s s′ m m′
+pub only-replied : (d : Stepped) (r r′ : Reply) (b b′ s s′ m m′ : List ℕ) → replied r b s m ≡ d → replied r′ b′ s′ m′ ≡ d → (r ≡ r′) × SameLent b b′ s s′ m m′
 only-replied d r r′ b b′ s s′ m m′ p q =
     let e = only-one d (replied r b s m) (replied r′ b′ s′ m′) p q in
     (ap replyIn e, lent (replied r b s m .next) (replied r′ b′ s′ m′ .next) (ap (λ (x : Stepped). x .next) e))

@@ -6,41 +6,33 @@ use mathlib.Core.Bool.{Bool, true, false}
 use mathlib.Core.List.{List}
 use lib.Dec.{leb}
 use lib.ListN.{length}
-use borrow.Author.Tests.{eq-eqb, le-ltb, lt-ltb, leb-true, leb-false}
+use borrow.Author.Tests.{le-ltb, lt-ltb, leb-true, leb-false}
 use Rattle.ground.specs.Choice.{pick}
-use Rattle.answers.specs.declared.Refusal.the-variants.{NotWellMade, SpaceSilent, IndexAboveThree}
+use Rattle.answers.specs.declared.Refusal.the-variants.{SpaceSilent, IndexAboveThree}
 use Rattle.maps.specs.declared.Mode.{Mode}
 use Rattle.maps.specs.declared.Mode.the-variants.{PcCard, TrueIde}
 use Rattle.maps.specs.Spaces.{cardAnswers, answersAt}
-use Rattle.maps.specs.Places.{misfits, aboveThree, optionAt as optionPlace, attributeAt}
+use Rattle.maps.specs.Places.{misfits, aboveThree, optionAt, attributeAt}
 use Rattle.maps.specs.Maps.{standsAt}
 use Rattle.registers.specs.declared.State.{State}
-use Rattle.registers.specs.State.{Machine}
-use Rattle.registers.specs.WellMade.{wellMade, totalIn}
+use Rattle.registers.specs.State.{totalIn}
+use Rattle.registers.specs.Machine.{Machine}
+use Rattle.registers.specs.WellMade.{indexFits, wellMade}
 use Rattle.card.specs.declared.Meaning.{Meaning}
 use Rattle.card.specs.declared.Meaning.the-variants.{WriteOption}
 use Rattle.card.specs.declared.Card.{Card}
 use Rattle.card.specs.Access.{Access, heldAway, decided, meaning}
 use Rattle.card.specs.Perform.{optionWritten, perform}
 use Rattle.card.specs.Step.{stepped, step}
-use Rattle.card.specs.Doors.{machineOf, answered, optionAt, optionAnswered}
+use Rattle.card.specs.Doors.{machineOf, answered, optionByMode, optionAnswered}
+use Rattle.kept.proofs.Decided.{meaning-decided}
+use Rattle.kept.proofs.Step.{not-well-refused}
 use Rattle.laws.specs.DoorAccesses.{optionAccess}
-use Rattle.laws.proofs.Made.{not-made}
-
--- rows 12, 2, 3 and 5 do not apply
-pub meant : (m : Machine) (a : Access) → wellMade (m .phase) (m .state) ≡ true → length (m .store) ≡ 512 * totalIn (m .state) → length (m .marks) ≡ totalIn (m .state) →
-    length (a .tuples) ≡ 256 → meaning m a ≡ decided (m .state) a
-unfolding meaning
-meant m a e s k t = rw (e, eq-eqb _ _ s, eq-eqb _ _ k, eq-eqb _ _ t)
 
 -- a step by what its access means
 pub step-as : (m : Machine) (a : Access) (k : Meaning) → meaning m a ≡ k → step m a ≡ stepped (perform k m)
 unfolding step
 step-as m a k e = ap (λ (x : Meaning). stepped (perform x m)) e
-
--- row 12: refused, whatever is lent
-pub unmade : (m : Machine) (a : Access) → wellMade (m .phase) (m .state) ≡ false → step m a ≡ stepped (perform (Meaning.Refused NotWellMade) m)
-unmade m a e = step-as m a (Meaning.Refused NotWellMade) (not-made m a e)
 
 either : (b : Bool) → pick b false false ≡ false
 either true = refl
@@ -56,7 +48,7 @@ optionMeaning PcCard v = pick (leb (v % 64) 3) (WriteOption v) (Meaning.Refused 
 
 option-stands : (b : Bool) (v : ℕ) (s : State) (tuples : List ℕ) → v < 256 → s .made .mode ≡ PcCard → leb (v % 64) 3 ≡ b →
     decided s (optionAccess v tuples) ≡ pick b (WriteOption v) (Meaning.Refused IndexAboveThree)
-unfolding decided answersAt cardAnswers standsAt attributeAt optionPlace misfits aboveThree
+unfolding decided answersAt cardAnswers standsAt attributeAt optionAt misfits aboveThree
 option-stands true v s tuples l e f =
     let i = leb-true (v % 64) 3 f in
     let n : v % 256 ≡ v = omega arith in
@@ -70,13 +62,13 @@ option-decided TrueIde v s tuples l e = rw (not-away (s .option), e)
 option-decided PcCard v s tuples l e = option-stands (leb (v % 64) 3) v s tuples l e refl
 
 option-by : (b : Bool) (v : ℕ) (c : Card) (store marks : List ℕ) → leb (v % 64) 3 ≡ b →
-    answered (optionAt PcCard v c) store marks ≡ stepped (perform (optionMeaning PcCard v) (machineOf c store marks))
-unfolding perform optionWritten
+    answered (optionByMode PcCard v c) store marks ≡ stepped (perform (optionMeaning PcCard v) (machineOf c store marks))
+unfolding perform optionWritten indexFits
 option-by true v c store marks e = rw e
 option-by false v c store marks e = rw e
 
 option-mode : (mode : Mode) (v : ℕ) (c : Card) (store marks : List ℕ) →
-    answered (optionAt mode v c) store marks ≡ stepped (perform (optionMeaning mode v) (machineOf c store marks))
+    answered (optionByMode mode v c) store marks ≡ stepped (perform (optionMeaning mode v) (machineOf c store marks))
 unfolding perform
 option-mode TrueIde v c store marks = refl
 option-mode PcCard v c store marks = option-by (leb (v % 64) 3) v c store marks refl
@@ -88,9 +80,9 @@ unfolding optionAnswered perform
 option-made true v c store marks tuples e l s k t =
     let m = machineOf c store marks in
     let a = optionAccess v tuples in
-    rw (step-as m a (optionMeaning (c .state .made .mode) v) (meant m a e s k t ∙ option-decided (c .state .made .mode) v (c .state) tuples l refl), e)
+    rw (step-as m a (optionMeaning (c .state .made .mode) v) (meaning-decided m a e s k t ∙ option-decided (c .state .made .mode) v (c .state) tuples l refl), e)
     (option-mode (c .state .made .mode) v c store marks)
-option-made false v c store marks tuples e l s k t = rw (unmade (machineOf c store marks) (optionAccess v tuples) e, e)
+option-made false v c store marks tuples e l s k t = rw (not-well-refused (machineOf c store marks) (optionAccess v tuples) e, e)
 
 pub option-is-access : (v : ℕ) (c : Card) (store marks tuples : List ℕ) → v < 256 →
     length store ≡ 512 * totalIn (c .state) → length marks ≡ totalIn (c .state) → length tuples ≡ 256 →

@@ -5,20 +5,22 @@ use mathlib.Core.Bool.{Bool, true, false, true≢false}
 use lib.Dec.{eqb}
 use borrow.Author.Tests.{eqb-true}
 use Rattle.ground.specs.Choice.{pick}
-use Rattle.ground.proofs.Picks.{pick-elim, no}
+use Rattle.ground.proofs.Picks.{pick-elim, un-not}
 use Rattle.maps.specs.declared.Register.{Register}
 use Rattle.maps.specs.declared.Register.the-variants.{StatusCommand}
 use Rattle.registers.specs.declared.Phase.{Phase}
 use Rattle.registers.specs.declared.Phase.the-variants.{Idle, DataIn, DataOut}
 use Rattle.registers.specs.declared.State.{State}
 use Rattle.registers.specs.declared.Core.{Core}
-use Rattle.registers.specs.State.{core, sresetIn, runs}
+use Rattle.registers.specs.State.{sresetIn, runs}
+use Rattle.registers.specs.Machine.{core}
 use Rattle.registers.specs.WellMade.{atRest, statusFits, heldIn, holdFits, wellMade}
 use Rattle.registers.specs.Values.{valueRead}
 use Rattle.card.specs.Perform.{plainCore}
+use Rattle.kept.proofs.Registers.{apart}
+use Rattle.kept.proofs.RegisterElim.{plain-elim}
 use Rattle.laws.specs.Coded.{inError}
 use Rattle.laws.specs.Bits.{bsy, rdy, dwf, dsc, drq, err}
-use Rattle.laws.proofs.Made.{made-facts}
 
 -- what holds of each of the four, with whether a transfer runs, holds of Status
 at-rest : (P : ℕ → Type 0) (status : ℕ) → atRest status ≡ true → P 0x50 → P 0x51 → P 0x71 → P status
@@ -38,7 +40,7 @@ status-elim P (DataIn t) status h a d b c = subst (λ (n : ℕ). P n true) (sym 
 status-elim P (DataOut t) status h a d b c = subst (λ (n : ℕ). P n true) (sym (eqb-true status 0x58 h)) d
 
 made-elim : (P : ℕ → Bool → Type 0) (p : Phase) (s : State) → wellMade p s ≡ true → P 0x50 false → P 0x58 true → P 0x51 false → P 0x71 false → P (s .registers .status) (runs p)
-made-elim P p s e = status-elim P p (s .registers .status) (made-facts p s e .status)
+made-elim P p s e = status-elim P p (s .registers .status) (apart p s e .1 .0)
 
 -- DRQ is set exactly while a transfer runs
 pub drq-runs : (p : Phase) (s : State) → wellMade p s ≡ true → drq (s .registers .status) ≡ runs p
@@ -59,17 +61,14 @@ others-stay p s e =
 
 -- "While DRQ is set, writes to 1..6 and D have no effect."
 pub drq-blocks : (r : Register) (v : ℕ) (p : Phase) (s : State) → wellMade p s ≡ true → drq (s .registers .status) ≡ true → plainCore r v (core p s) ≡ core p s
-unfolding plainCore
-drq-blocks r v p s e d =
-    let h : runs p ≡ true = sym (drq-runs p s e) ∙ d in
-    pick-elim (λ (k : Core). k ≡ core p s) (s .control .held) _ _ (λ f. refl) (λ f. rw h)
+drq-blocks r v p s e d = plain-elim (λ (k : Core). k ≡ core p s) r v (core p s) refl (λ f h. absurd (true≢false (sym (sym (drq-runs p s e) ∙ d) ∙ h)))
 
 -- a host sees it so: no transfer runs in a held reset, where Status reads 80H
 held-rests : (p : Phase) (b : Bool) → holdFits p b ≡ true → b ≡ true → runs p ≡ false
 unfolding holdFits
 held-rests Idle b h e = refl
-held-rests (DataIn t) b h e = absurd (true≢false (sym e ∙ no b h))
-held-rests (DataOut t) b h e = absurd (true≢false (sym e ∙ no b h))
+held-rests (DataIn t) b h e = absurd (true≢false (sym e ∙ un-not b _ h))
+held-rests (DataOut t) b h e = absurd (true≢false (sym e ∙ un-not b _ h))
 
 held-by : (a b : Bool) → b ≡ true → pick a true b ≡ true
 held-by true b e = refl
@@ -79,5 +78,5 @@ pub drq-read : (p : Phase) (s : State) → wellMade p s ≡ true → drq (valueR
 unfolding valueRead heldIn
 drq-read p s e =
     pick-elim (λ (n : ℕ). drq n ≡ runs p) (s .control .held) _ _
-    (λ h. sym (held-rests p (heldIn s) (made-facts p s e .hold) (held-by (sresetIn (s .option)) (s .control .held) h)))
+    (λ h. sym (held-rests p (heldIn s) (apart p s e .1 .1) (held-by (sresetIn (s .option)) (s .control .held) h)))
     (λ h. drq-runs p s e)

@@ -9,56 +9,56 @@ use Rattle.ground.specs.Choice.{pick}
 use Rattle.geometry.specs.declared.Spot.{Spot}
 use Rattle.geometry.specs.declared.Located.{Located}
 use Rattle.sectors.specs.Marks.{writable}
-use Rattle.sectors.specs.Sectors.{Kept, kept}
+use Rattle.sectors.specs.Sectors.{StoreMarks, storeMarks}
 use Rattle.maps.specs.declared.Port.{Port}
 use Rattle.registers.specs.declared.Load.{Load}
 use Rattle.registers.specs.declared.Load.the-variants.{Sectors, Buffer}
 use Rattle.registers.specs.declared.Transfer.{Transfer}
 use Rattle.registers.specs.declared.Phase.{Phase}
 use Rattle.registers.specs.declared.Phase.the-variants.{Idle, DataIn, DataOut}
-use Rattle.registers.specs.State.{Machine, withBuffer}
-use Rattle.registers.specs.WellMade.{locatedIn}
+use Rattle.registers.specs.State.{locatedIn}
+use Rattle.registers.specs.Machine.{Machine, withBuffer}
 use Rattle.transfers.specs.declared.End.the-variants.{WriteFault}
 use Rattle.transfers.specs.declared.Tested.the-variants.{Passes, Fails}
 use Rattle.port.specs.declared.Take.{Take}
 use Rattle.transfers.specs.Before.{testedOf, addressTest, markTested, storeTest, storedBy, sectorStored, StoreTested}
-use Rattle.transfers.specs.Steps.{withState, loadWritten}
-use Rattle.port.specs.Halves.{takeOf, partWritten}
+use Rattle.transfers.specs.Steps.{loadWritten, dropped}
+use Rattle.port.specs.Halves.{takeOf, withPart}
 use Rattle.port.specs.Data.{wordWritten, takenWritten, phaseWritten}
-use Rattle.laws.specs.Changes.{changed, keptIn, writes, loadChanges, takenChanges, phaseChanges}
+use Rattle.laws.specs.Changes.{changed, storeMarksIn, writes, loadChanges, takenChanges, phaseChanges}
 
-abbrev keptOf : StoreTested → Kept
-keptOf k = kept (k .store) (k .marks)
+abbrev storeMarksOf : StoreTested → StoreMarks
+storeMarksOf k = storeMarks (k .store) (k .marks)
 
-by-mark : (b : Bool) (spot : Spot) (bytes store marks : List ℕ) → keptOf (storedBy (pick b (Passes spot) (Fails WriteFault)) bytes store marks) ≡ changed (pick b (record { index = spot .index; bytes = bytes } ∷ []) []) (kept store marks)
+by-mark : (b : Bool) (spot : Spot) (bytes store marks : List ℕ) → storeMarksOf (storedBy (pick b (Passes spot) (Fails WriteFault)) bytes store marks) ≡ changed (pick b (record { index = spot .index; bytes = bytes } ∷ []) []) (storeMarks store marks)
 unfolding changed
 by-mark true spot bytes store marks = refl
 by-mark false spot bytes store marks = refl
 
-by-address : (l : Located) (bytes store marks : List ℕ) → keptOf (storedBy (markTested writable WriteFault (testedOf l) marks) bytes store marks) ≡ changed (writes l marks bytes []) (kept store marks)
+by-address : (l : Located) (bytes store marks : List ℕ) → storeMarksOf (storedBy (markTested writable WriteFault (testedOf l) marks) bytes store marks) ≡ changed (writes l marks bytes []) (storeMarks store marks)
 unfolding changed
 by-address (Located.Good spot) bytes store marks = by-mark (writable (getD marks (spot .index) 0)) spot bytes store marks
 by-address Located.BadHeadOrSector bytes store marks = refl
 by-address Located.BadCylinder bytes store marks = refl
 by-address Located.BadLba bytes store marks = refl
 
-load-written : (l : Load) (bytes : List ℕ) (m : Machine) → keptIn (loadWritten l (withState (m .state) (withBuffer bytes m))) ≡ changed (loadChanges l bytes m) (keptIn m)
+load-written : (l : Load) (bytes : List ℕ) (m : Machine) → storeMarksIn (loadWritten l (dropped (withBuffer bytes m))) ≡ changed (loadChanges l bytes m) (storeMarksIn m)
 unfolding changed sectorStored storeTest addressTest
 load-written Buffer bytes m = refl
 load-written (Sectors left) bytes m = by-address (locatedIn (m .state)) bytes (m .store) (m .marks)
 
-by-word : (b : Bool) (l : Load) (bytes : List ℕ) (m x : Machine) → keptIn x ≡ keptIn m → keptIn (pick b x (loadWritten l (withState (m .state) (withBuffer bytes m)))) ≡ changed (pick b [] (loadChanges l bytes m)) (keptIn m)
+by-word : (b : Bool) (l : Load) (bytes : List ℕ) (m x : Machine) → storeMarksIn x ≡ storeMarksIn m → storeMarksIn (pick b x (loadWritten l (dropped (withBuffer bytes m)))) ≡ changed (pick b [] (loadChanges l bytes m)) (storeMarksIn m)
 unfolding changed
 by-word true l bytes m x e = e
 by-word false l bytes m x e = load-written l bytes m
 
-taken-written : (k : Take) (v : ℕ) (t : Transfer) (m : Machine) → keptIn (takenWritten k v t m .next) ≡ changed (takenChanges k v t m) (keptIn m)
+taken-written : (k : Take) (v : ℕ) (t : Transfer) (m : Machine) → storeMarksIn (takenWritten k v t m .next) ≡ changed (takenChanges k v t m) (storeMarksIn m)
 unfolding changed wordWritten
 taken-written Take.Refused v t m = refl
 taken-written (Take.Moves part false) v t m = refl
-taken-written (Take.Moves part true) v t m = by-word (ltb (t .words) 255) (t .load) (partWritten part (t .words) v (m .buffer)) m _ refl
+taken-written (Take.Moves part true) v t m = by-word (ltb (t .words) 255) (t .load) (withPart part (t .words) v (m .buffer)) m _ refl
 
-pub phase-written : (p : Phase) (port : Port) (v : ℕ) (m : Machine) → keptIn (phaseWritten p port v m .next) ≡ changed (phaseChanges p port v m) (keptIn m)
+pub phase-written : (p : Phase) (port : Port) (v : ℕ) (m : Machine) → storeMarksIn (phaseWritten p port v m .next) ≡ changed (phaseChanges p port v m) (storeMarksIn m)
 unfolding changed
 phase-written Idle port v m = refl
 phase-written (DataIn t) port v m = refl

@@ -4,7 +4,7 @@ use Prim.Native.Nat.{ℕ, zero, suc, _<_}
 use mathlib.Core.Path.{_≡_}
 use mathlib.Core.Bool.{true, false}
 use mathlib.Core.List.{List, [], _∷_}
-use lib.Dec.{ltb, eqb}
+use lib.Dec.{ltb}
 use lib.ListN.{length, getD, replicate}
 use Rattle.ground.specs.Choice.{pick}
 use Rattle.geometry.specs.declared.Address.{Address}
@@ -14,7 +14,7 @@ use Rattle.geometry.specs.declared.Located.the-variants.{Good, BadHeadOrSector,
 use Rattle.geometry.specs.Address.{locate}
 use Rattle.geometry.specs.Next.{nextOf}
 use Rattle.sectors.specs.Marks.{writable}
-use Rattle.sectors.specs.Sectors.{Kept, kept, stored}
+use Rattle.sectors.specs.Sectors.{StoreMarks, storeMarks, stored}
 use Rattle.maps.specs.declared.Port.{Port}
 use Rattle.maps.specs.declared.Register.{Register}
 use Rattle.maps.specs.declared.Register.the-variants.{ErrorFeature, SectorCount, SectorNumber, CylinderLow, CylinderHigh, DriveHead, StatusCommand, AlternateControl, DriveAddress}
@@ -24,13 +24,13 @@ use Rattle.registers.specs.declared.Transfer.{Transfer}
 use Rattle.registers.specs.declared.Phase.{Phase}
 use Rattle.registers.specs.declared.Phase.the-variants.{Idle, DataIn, DataOut}
 use Rattle.registers.specs.declared.State.{State}
-use Rattle.registers.specs.State.{Machine}
-use Rattle.registers.specs.WellMade.{totalIn, locatedIn}
+use Rattle.registers.specs.State.{totalIn, locatedIn}
+use Rattle.registers.specs.Machine.{Machine}
 use Rattle.port.specs.declared.Take.{Take}
 use Rattle.commands.specs.declared.Command.{Command}
 use Rattle.commands.specs.declared.Command.the-variants.{Read, Write, Verify, Erase, Identify, ReadBuffer, WriteBuffer, SetGeometry, Diagnose, Recalibrate, Seek, Sense, Other}
-use Rattle.port.specs.Halves.{takeOf, partWritten}
-use Rattle.commands.specs.Table.{commandOf}
+use Rattle.port.specs.Halves.{takeOf, withPart}
+use Rattle.commands.specs.Table.{countOf, commandOf}
 use Rattle.card.specs.declared.Meaning.{Meaning}
 use Rattle.card.specs.declared.Meaning.the-variants.{TupleByte, ReadOption, WriteOption, ReadRegister, WriteRegister, ReadData, WriteData}
 
@@ -40,12 +40,12 @@ pub record Change : Type 0 where
   pub bytes : List ℕ
 
 -- one after the other: the 512 bytes from 512 times the index, and the mark set to 0
-unfoldable pub changed : List Change → Kept → Kept
+unfoldable pub changed : List Change → StoreMarks → StoreMarks
 changed [] k = k
 changed (c ∷ l) k = changed l (stored (k .store) (k .marks) (c .index) (c .bytes))
 
-abbrev pub keptIn : Machine → Kept
-keptIn m = kept (m .store) (m .marks)
+abbrev pub storeMarksIn : Machine → StoreMarks
+storeMarksIn m = storeMarks (m .store) (m .marks)
 
 -- each is one of the card's sectors, and whole
 abbrev pub Whole : ℕ → List Change → Type 0
@@ -64,15 +64,11 @@ unfoldable pub erasures : ℕ → Address → Geometry → ℕ → List ℕ → 
 erasures zero a g total marks = []
 erasures (suc n) a g total marks = writes (locate a g total) marks (replicate 512 0xFF) (erasures n (nextOf a g) g total marks)
 
--- "Count 0 means 256."
-abbrev pub sectorsAsked : ℕ → ℕ
-sectorsAsked count = pick (eqb count 0) 256 count
-
 abbrev pub commandChanges : Command → State → List ℕ → List Change
 commandChanges Read s marks = []
 commandChanges Write s marks = []
 commandChanges Verify s marks = []
-commandChanges Erase s marks = erasures (sectorsAsked (s .registers .count)) (s .registers .address) (s .current) (totalIn s) marks
+commandChanges Erase s marks = erasures (countOf s) (s .registers .address) (s .current) (totalIn s) marks
 commandChanges Identify s marks = []
 commandChanges ReadBuffer s marks = []
 commandChanges WriteBuffer s marks = []
@@ -104,7 +100,7 @@ loadChanges (Sectors left) bytes m = writes (locatedIn (m .state)) (m .marks) by
 abbrev pub takenChanges : Take → ℕ → Transfer → Machine → List Change
 takenChanges Take.Refused v t m = []
 takenChanges (Take.Moves part false) v t m = []
-takenChanges (Take.Moves part true) v t m = pick (ltb (t .words) 255) [] (loadChanges (t .load) (partWritten part (t .words) v (m .buffer)) m)
+takenChanges (Take.Moves part true) v t m = pick (ltb (t .words) 255) [] (loadChanges (t .load) (withPart part (t .words) v (m .buffer)) m)
 
 abbrev pub phaseChanges : Phase → Port → ℕ → Machine → List Change
 phaseChanges Idle port v m = []

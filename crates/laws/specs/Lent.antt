@@ -3,5 +3,5 @@ use Prim.Native.Nat.{ℕ}
 use mathlib.Core.Path.{_≡_}
 use mathlib.Core.List.{List}
 
-abbrev pub Lent : List ℕ → List ℕ → List ℕ → List ℕ → List ℕ → List ℕ → Type 0
-Lent b b′ s s′ m m′ = (b ≡ b′) × (s ≡ s′) × (m ≡ m′)
+abbrev pub SameLent : List ℕ → List ℕ → List ℕ → List ℕ → List ℕ → List ℕ → Type 0
+SameLent b b′ s s′ m m′ = (b ≡ b′) × (s ≡ s′) × (m ≡ m′)

@@ -2,7 +2,8 @@
 use mathlib.Core.Path.{_≡_}
 use mathlib.Core.Bool.{false}
 use Rattle.answers.specs.Answers.{outcomeValue}
-use Rattle.registers.specs.State.{Machine, lineOf}
+use Rattle.registers.specs.State.{lineOf}
+use Rattle.registers.specs.Machine.{Machine}
 use Rattle.card.specs.declared.Card.{Card}
 use Rattle.card.specs.declared.Answer.{Answer}
 use Rattle.card.specs.Step.{Stepped}

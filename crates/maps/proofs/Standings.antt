@@ -11,7 +11,7 @@ use Rattle.answers.specs.Answers.{numberOf}
 use Rattle.answers.specs.declared.Refusal.{Refusal}
 use Rattle.answers.specs.declared.Refusal.the-variants.{NoRegister}
 use Rattle.maps.specs.declared.Register.{Register}
-use Rattle.maps.specs.declared.Port.the-variants.{Low, High, Word}
+use Rattle.maps.specs.declared.Port.the-variants.{Even, Odd, Word}
 use Rattle.maps.specs.declared.Target.{Target}
 use Rattle.maps.specs.declared.Target.the-variants.{Tuple, Option, Named, Data}
 use Rattle.maps.specs.declared.Standing.{Standing}
@@ -35,8 +35,8 @@ abbrev pub Fits : Standing → ℕ → ℕ → Bool → ℕ → Type 0
 Fits (There (Tuple number)) space width write value = (space ≡ 0) × (number ≤ 255) × (write ≡ false) × Byte width write value
 Fits (There Option) space width write value = (space ≡ 0) × (write ≡ true → value % 64 ≤ 3) × Byte width write value
 Fits (There (Named register)) space width write value = (space ≡ 0 → ⊥) × Byte width write value
-Fits (There (Data Low)) space width write value = (space ≡ 0 → ⊥) × Byte width write value
-Fits (There (Data High)) space width write value = (space ≡ 0 → ⊥) × Byte width write value
+Fits (There (Data Even)) space width write value = (space ≡ 0 → ⊥) × Byte width write value
+Fits (There (Data Odd)) space width write value = (space ≡ 0 → ⊥) × Byte width write value
 Fits (There (Data Word)) space width write value = (space ≡ 0 → ⊥) × (width ≡ 2)
 Fits (Refused refusal) space width write value = ofMaps refusal ≡ true
 
@@ -92,8 +92,8 @@ port-fits space width write value n =
     (λ f. (n, eqb-true _ _ f))
     (λ f. (n, byte-fits true width write value (simp f) e)))
 
--- offsets other than 0 and 8 name the high place, a register, or nothing
-pub named-elim : (P : Standing → Type 0) (offset : ℕ) → P (There (Data High)) → ((register : Register) → P (There (Named register))) → P (Refused NoRegister) → P (namedAt offset)
+-- offsets other than 0 and 8 name the odd place, a register, or nothing
+pub named-elim : (P : Standing → Type 0) (offset : ℕ) → P (There (Data Odd)) → ((register : Register) → P (There (Named register))) → P (Refused NoRegister) → P (namedAt offset)
 unfolding namedAt
 named-elim P offset h r n =
     pick-elim P (eqb offset 9) _ _ (λ e. h)
@@ -114,7 +114,7 @@ register-fits (At offset) space width write value n =
     pick-elim (λ (s : Standing). Fits s space width write value) (evenData offset) _ _
     (λ e. port-fits space width write value n)
     (λ e. named-elim (λ (s : Standing). Fits (sized s width write value) space width write value) offset
-    (byte-at-fits (Data High) space width write value (λ b. (n, b)))
+    (byte-at-fits (Data Odd) space width write value (λ b. (n, b)))
     (λ register. byte-at-fits (Named register) space width write value (λ b. (n, b)))
     refl)
 register-fits Nowhere space width write value n = refl

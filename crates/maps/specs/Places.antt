@@ -5,7 +5,7 @@ use mathlib.Core.Bool.{Bool, true, false, not, _&&_, _||_}
 use Rattle.ground.specs.Choice.{pick}
 use Rattle.answers.specs.declared.Refusal.the-variants.{NoRegister, WidthOrValue, IndexAboveThree}
 use Rattle.maps.specs.declared.Register.the-variants.{ErrorFeature, SectorCount, SectorNumber, CylinderLow, CylinderHigh, DriveHead, StatusCommand, AlternateControl, DriveAddress}
-use Rattle.maps.specs.declared.Port.the-variants.{Low, High, Word}
+use Rattle.maps.specs.declared.Port.the-variants.{Even, Odd, Word}
 use Rattle.maps.specs.declared.Target.{Target}
 use Rattle.maps.specs.declared.Target.the-variants.{Tuple, Option, Named, Data}
 use Rattle.maps.specs.declared.Standing.{Standing}
@@ -54,13 +54,13 @@ unfoldable pub portAt : ℕ → Bool → ℕ → Standing
 portAt width write value =
     pick (misfits true width write value) (Refused WidthOrValue)
     (pick (eqb width 2) (There (Data Word))
-    (There (Data Low)))
+    (There (Data Even)))
 
 -- 9 data; 1 and D Error/Feature; 2 Sector Count; 3 Sector Number; 4, 5 Cylinder; 6 Drive/Head; 7 Status/Command;
 -- E Alternate Status/Device Control; F Drive Address. No register stands at A, B, C.
 unfoldable pub namedAt : ℕ → Standing
 namedAt offset =
-    pick (eqb offset 9) (There (Data High))
+    pick (eqb offset 9) (There (Data Odd))
     (pick (eqb offset 1) (There (Named ErrorFeature))
     (pick (eqb offset 0xD) (There (Named ErrorFeature))
     (pick (eqb offset 2) (There (Named SectorCount))
@@ -73,7 +73,7 @@ namedAt offset =
     (pick (eqb offset 0xF) (There (Named DriveAddress))
     (Refused NoRegister)))))))))))
 
--- 6 before 9
+-- what is named there, if the access fits it: 6 before 9
 abbrev pub sized : Standing → ℕ → Bool → ℕ → Standing
 sized (There target) width write value = byteAt target width write value
 sized (Refused refusal) width write value = Refused refusal

@@ -1,4 +1,5 @@
 // 01, "Maps": from space, index, address, width and value to what an access means, or its refusal.
+// Spaces: 0 attribute, 1 memory, 2 I/O, 3 True IDE.
 use answers::Refusal;
 ghost use mathlib.Core.Path.{_≡_};
 ghost use Rattle.maps.specs.Spaces.{answersAt, cardAnswers};
@@ -25,10 +26,10 @@ pub enum Register {
     DriveAddress,
 }
 
-// The data port: its low place (a byte at offset 0 or 8), its high place (a byte at 9), or a word (at 0 or 8).
+// The data port: its even place (a byte at offset 0 or 8), its odd place (a byte at 9), or a word (at 0 or 8).
 pub enum Port {
-    Low,
-    High,
+    Even,
+    Odd,
     Word,
 }
 
@@ -232,7 +233,7 @@ fn attribute_at(address: u16, width: u8, write: bool, value: u16) -> Standing
     Standing::Refused(Refusal::NoRegister)
 }
 
-// An even data address: a byte goes to the low place, a word is allowed.
+// An even data address: a byte goes to the even place, a word is allowed.
 fn port_at(width: u8, write: bool, value: u16) -> Standing
     ensures { λ r. ⌜ r ≡ portAt width write value ⌝ }
 {
@@ -242,7 +243,7 @@ fn port_at(width: u8, write: bool, value: u16) -> Standing
     if width == 2 {
         return Standing::There(Target::Data(Port::Word));
     }
-    Standing::There(Target::Data(Port::Low))
+    Standing::There(Target::Data(Port::Even))
 }
 
 // 01, "Offsets": what a byte at an offset other than 0 and 8 means; nothing stands at A, B and C.
@@ -250,7 +251,7 @@ fn named_at(offset: u16) -> Standing
     ensures { λ r. ⌜ r ≡ namedAt offset ⌝ }
 {
     if offset == 9 {
-        return Standing::There(Target::Data(Port::High));
+        return Standing::There(Target::Data(Port::Odd));
     }
     if offset == 1 {
         return Standing::There(Target::Named(Register::ErrorFeature));

@@ -10,12 +10,12 @@ use Rattle.maps.specs.declared.Port.{Port}
 use Rattle.registers.specs.declared.Transfer.{Transfer}
 use Rattle.registers.specs.declared.Phase.{Phase}
 use Rattle.registers.specs.declared.Phase.the-variants.{Idle, DataIn, DataOut}
-use Rattle.registers.specs.State.{Machine, machine, core, withCore, withBuffer}
+use Rattle.registers.specs.Machine.{Machine, machine, core, withCore, withBuffer}
 use Rattle.port.specs.declared.Part.{Part}
 use Rattle.port.specs.declared.Take.{Take}
 use Rattle.port.specs.declared.Done.{Done}
-use Rattle.port.specs.Halves.{takeOf, partValue, partWritten, halved, nextWord}
-use Rattle.transfers.specs.Steps.{withState, loadRead, loadWritten}
+use Rattle.port.specs.Halves.{takeOf, partValue, withPart, halved, nextWord}
+use Rattle.transfers.specs.Steps.{loadRead, loadWritten, dropped}
 
 -- what an access leaves: its outcome and the machine
 pub record Effect : Type 0 where
@@ -35,7 +35,7 @@ withPhase p m = withCore (core p (m .state)) m
 
 -- a word is whole: the next one, or the last byte has gone
 unfoldable pub wordRead : Transfer → Machine → Machine
-wordRead t m = pick (ltb (t .words) 255) (withPhase (DataIn (nextWord t)) m) (loadRead (t .load) (withState (m .state) m))
+wordRead t m = pick (ltb (t .words) 255) (withPhase (DataIn (nextWord t)) m) (loadRead (t .load) (dropped m))
 
 -- a part has gone: the word is whole, or begun
 abbrev pub partRead : Bool → Part → Transfer → Machine → Machine
@@ -47,21 +47,21 @@ takenRead Take.Refused t m = record { outcome = Outcome.Refused HalfMoved; next 
 takenRead (Take.Moves part whole) t m = accepted (partValue part (t .words) (m .buffer)) (partRead whole part t m)
 
 -- "Refusal 11 is given only for an access in the running transfer's direction. With no transfer that way, a read gives FFH or FFFFH …"
-abbrev pub absent : Port → ℕ
-absent Port.Low = 0xFF
-absent Port.High = 0xFF
-absent Port.Word = 0xFFFF
+abbrev pub absentValue : Port → ℕ
+absentValue Port.Even = 0xFF
+absentValue Port.Odd = 0xFF
+absentValue Port.Word = 0xFFFF
 
 -- "reads of all offsets give 80H, data words 8080H"
 abbrev pub heldValue : Port → ℕ
-heldValue Port.Low = 0x80
-heldValue Port.High = 0x80
+heldValue Port.Even = 0x80
+heldValue Port.Odd = 0x80
 heldValue Port.Word = 0x8080
 
 abbrev pub phaseRead : Phase → Port → Machine → Effect
-phaseRead Idle port m = accepted (absent port) m
+phaseRead Idle port m = accepted (absentValue port) m
 phaseRead (DataIn t) port m = takenRead (takeOf (t .half) port) t m
-phaseRead (DataOut t) port m = accepted (absent port) m
+phaseRead (DataOut t) port m = accepted (absentValue port) m
 
 unfoldable pub dataRead : Port → Machine → Effect
 dataRead port m = pick (m .state .control .held) (accepted (heldValue port) m) (phaseRead (m .phase) port m)
@@ -69,17 +69,17 @@ dataRead port m = pick (m .state .control .held) (accepted (heldValue port) m) (
 -- ---- writing
 
 unfoldable pub wordWritten : Transfer → Machine → Machine
-wordWritten t m = pick (ltb (t .words) 255) (withPhase (DataOut (nextWord t)) m) (loadWritten (t .load) (withState (m .state) m))
+wordWritten t m = pick (ltb (t .words) 255) (withPhase (DataOut (nextWord t)) m) (loadWritten (t .load) (dropped m))
 
 -- a part has come: the word is whole, or begun
-abbrev pub partStored : Bool → Part → Transfer → Machine → Machine
-partStored true part t m = wordWritten t m
-partStored false part t m = withPhase (DataOut (halved part t)) m
+abbrev pub partWritten : Bool → Part → Transfer → Machine → Machine
+partWritten true part t m = wordWritten t m
+partWritten false part t m = withPhase (DataOut (halved part t)) m
 
 -- "Read sectors, Identify and writes pass through the same buffer, a written byte at once"
 abbrev pub takenWritten : Take → ℕ → Transfer → Machine → Effect
 takenWritten Take.Refused value t m = record { outcome = Outcome.Refused HalfMoved; next = m }
-takenWritten (Take.Moves part whole) value t m = accepted 0 (partStored whole part t (withBuffer (partWritten part (t .words) value (m .buffer)) m))
+takenWritten (Take.Moves part whole) value t m = accepted 0 (partWritten whole part t (withBuffer (withPart part (t .words) value (m .buffer)) m))
 
 -- "… and a write has no effect (H)"
 abbrev pub phaseWritten : Phase → Port → ℕ → Machine → Effect

@@ -15,14 +15,14 @@ use Rattle.port.specs.declared.Take.the-variants.{Refused, Moves}
 -- "A byte at 0 or 8 moves the low half if it hasn't moved, else the high. A byte at 9 moves the high half, else refusal 11";
 -- a word moves both, where nothing has moved. Beside the part: whether the word is whole with it.
 unfoldable pub takeOf : Half → Port → Take
-takeOf Half.Nothing Port.Low = Moves Low false
-takeOf Half.Nothing Port.High = Moves High false
+takeOf Half.Nothing Port.Even = Moves Low false
+takeOf Half.Nothing Port.Odd = Moves High false
 takeOf Half.Nothing Port.Word = Moves Both true
-takeOf Half.Low Port.Low = Moves High true
-takeOf Half.Low Port.High = Moves High true
+takeOf Half.Low Port.Even = Moves High true
+takeOf Half.Low Port.Odd = Moves High true
 takeOf Half.Low Port.Word = Refused
-takeOf Half.High Port.Low = Moves Low true
-takeOf Half.High Port.High = Refused
+takeOf Half.High Port.Even = Moves Low true
+takeOf Half.High Port.Odd = Refused
 takeOf Half.High Port.Word = Refused
 
 -- "A sector moves as 256 words, low byte first."
@@ -39,10 +39,10 @@ partValue High words buffer = getD buffer (highAt words) 0
 partValue Both words buffer = getD buffer (lowAt words) 0 + 256 * getD buffer (highAt words) 0
 
 -- the buffer with a part of a word written
-abbrev pub partWritten : Part → ℕ → ℕ → List ℕ → List ℕ
-partWritten Low words value buffer = set buffer (lowAt words) (value % 256)
-partWritten High words value buffer = set buffer (highAt words) (value % 256)
-partWritten Both words value buffer = set (set buffer (lowAt words) (value % 256)) (highAt words) (value / 256)
+abbrev pub withPart : Part → ℕ → ℕ → List ℕ → List ℕ
+withPart Low words value buffer = set buffer (lowAt words) (value % 256)
+withPart High words value buffer = set buffer (highAt words) (value % 256)
+withPart Both words value buffer = set (set buffer (lowAt words) (value % 256)) (highAt words) (value / 256)
 
 abbrev pub halfOf : Part → Half
 halfOf Low = Half.Low

@@ -10,9 +10,9 @@ use registers::Transfer;
 ghost use mathlib.Core.Path.{_≡_};
 ghost use Prim.Native.Nat.{_+_, _<_};
 ghost use lib.ListN.{getD, set};
-ghost use Rattle.registers.specs.State.{machine, core};
-ghost use Rattle.port.specs.Halves.{takeOf, partValue, partWritten, halfOf, halved};
-ghost use Rattle.port.specs.Data.{effect, wordRead, partRead, takenRead, absent, heldValue, dataRead, wordWritten, partStored, takenWritten, dataWritten};
+ghost use Rattle.registers.specs.Machine.{machine, core};
+ghost use Rattle.port.specs.Halves.{takeOf, partValue, withPart, halfOf, halved, nextWord};
+ghost use Rattle.port.specs.Data.{effect, wordRead, partRead, takenRead, absentValue, heldValue, dataRead, wordWritten, partWritten, takenWritten, dataWritten};
 
 // What of a word an access moves.
 pub enum Part {
@@ -39,18 +39,18 @@ fn take_of(half: Half, port: Port) -> Take
 {
     match half {
         Half::Nothing => match port {
-            Port::Low => Take::Moves(Part::Low, false),
-            Port::High => Take::Moves(Part::High, false),
+            Port::Even => Take::Moves(Part::Low, false),
+            Port::Odd => Take::Moves(Part::High, false),
             Port::Word => Take::Moves(Part::Both, true),
         },
         Half::Low => match port {
-            Port::Low => Take::Moves(Part::High, true),
-            Port::High => Take::Moves(Part::High, true),
-            Port::Word => Take::Refused,
+            Port::Even => Take::Moves(Part::High, true),
+            Port::Odd => Take::Moves(Part::High, true),
+            Port::Word => Take::Refused, // a word begun halfway
         },
         Half::High => match port {
-            Port::Low => Take::Moves(Part::Low, true),
-            Port::High => Take::Refused,
+            Port::Even => Take::Moves(Part::Low, true),
+            Port::Odd => Take::Refused,
             Port::Word => Take::Refused,
         },
     }
@@ -59,7 +59,7 @@ fn take_of(half: Half, port: Port) -> Take
 fn byte_at(buffer: &[u8; 512], at: usize) -> u16
     ensures { λ r. ⌜ (r ≡ getD (now (buffer .entry)) at 0) × (r < 256) ⌝ }
 {
-    ground::told(buffer);
+    ground::length_known(buffer);
     if at < 512 {
         return ground::wide(buffer[at]);
     }
@@ -69,7 +69,7 @@ fn byte_at(buffer: &[u8; 512], at: usize) -> u16
 fn set_byte(buffer: &mut [u8; 512], at: usize, byte: u8)
     ensures { λ _. ⌜ now (buffer .exit) ≡ set (now (buffer .entry)) at byte ⌝ }
 {
-    ground::told(buffer);
+    ground::length_known(buffer);
     if at < 512 {
         buffer[at] = byte;
     }
@@ -88,8 +88,8 @@ fn part_value(part: Part, words: u16, buffer: &[u8; 512]) -> u16
 }
 
 // The part of the word is written into the buffer.
-fn write_part(part: Part, words: u16, value: u16, buffer: &mut [u8; 512])
-    ensures { λ _. ⌜ now (buffer .exit) ≡ partWritten part words value (now (buffer .entry)) ⌝ }
+fn put_part(part: Part, words: u16, value: u16, buffer: &mut [u8; 512])
+    ensures { λ _. ⌜ now (buffer .exit) ≡ withPart part words value (now (buffer .entry)) ⌝ }
 {
     let low = 2 * (words as usize);
     match part {
@@ -112,6 +112,7 @@ fn half_of(part: Part) -> Half
     }
 }
 
+// The transfer with a word begun.
 fn halved(transfer: Transfer, part: Part) -> Transfer
     ensures { λ r. ⌜ r ≡ halved part transfer ⌝ }
 {
@@ -124,69 +125,75 @@ fn halved(transfer: Transfer, part: Part) -> Transfer
     }
 }
 
-fn next_word(transfer: Transfer, words: u16) -> Transfer
-    requires { ⌜ words < 255 ⌝ }
-    ensures { λ r. ⌜ r ≡ record { load = transfer .load; half = Half.Nothing; words = words + 1 } ⌝ }
+fn next_word(transfer: Transfer) -> Transfer
+    requires { ⌜ transfer .words < 255 ⌝ }
+    ensures { λ r. ⌜ r ≡ nextWord transfer ⌝ }
 {
     let load = transfer.load;
     Transfer {
         load: load,
         half: Half::Nothing,
-        words: words + 1,
+        words: transfer.words + 1,
     }
 }
 
 // ---- reading
 
 // A word is whole: the next one, or the last byte has gone.
-fn word_read(state: State, t: Transfer, buffer: &mut [u8; 512], store: &[u8], marks: &[u8]) -> Core
-    ensures { λ r. ⌜ machine r (now (buffer .exit)) (now (store .entry)) (now (marks .entry)) ≡ wordRead t (machine (core (Phase.DataIn t) state) (now (buffer .entry)) (now (store .entry)) (now (marks .entry))) ⌝ }
+fn word_read(
+    state: State,
+    transfer: Transfer,
+    buffer: &mut [u8; 512],
+    store: &[u8],
+    marks: &[u8],
+) -> Core
+    ensures { λ r. ⌜ machine r (now (buffer .exit)) (now (store .entry)) (now (marks .entry)) ≡ wordRead transfer (machine (core (Phase.DataIn transfer) state) (now (buffer .entry)) (now (store .entry)) (now (marks .entry))) ⌝ }
 {
-    let words = t.words;
-    if words < 255 {
-        let next = next_word(t, words);
+    if transfer.words < 255 {
+        let next = next_word(transfer);
         return Core {
             phase: Phase::DataIn(next),
             state: state,
         };
     }
-    let load = t.load;
+    let load = transfer.load;
     transfers::load_read(state, load, buffer, store, marks)
 }
 
 // A part has gone: the word is whole, or begun.
 fn part_read(
     core: Core,
-    t: Transfer,
+    transfer: Transfer,
     part: Part,
     whole: bool,
     buffer: &mut [u8; 512],
     store: &[u8],
     marks: &[u8],
 ) -> Core
-    ensures { λ r. ⌜ machine r (now (buffer .exit)) (now (store .entry)) (now (marks .entry)) ≡ partRead whole part t (machine core (now (buffer .entry)) (now (store .entry)) (now (marks .entry))) ⌝ }
+    ensures { λ r. ⌜ machine r (now (buffer .exit)) (now (store .entry)) (now (marks .entry)) ≡ partRead whole part transfer (machine core (now (buffer .entry)) (now (store .entry)) (now (marks .entry))) ⌝ }
 {
     let state = core.state;
     if whole {
-        return word_read(state, t, buffer, store, marks);
+        return word_read(state, transfer, buffer, store, marks);
     }
-    let next = halved(t, part);
+    let next = halved(transfer, part);
     Core {
         phase: Phase::DataIn(next),
         state: state,
     }
 }
 
-fn refused(core: Core) -> Done
-    ensures { λ r. ⌜ r ≡ record { outcome = Outcome.Refused Refusal.HalfMoved; core = core } ⌝ }
+// A refusal, which leaves the core.
+pub fn refused(core: Core, refusal: Refusal) -> Done
+    ensures { λ r. ⌜ r ≡ record { outcome = Outcome.Refused refusal; core = core } ⌝ }
 {
     Done {
-        outcome: Outcome::Refused(Refusal::HalfMoved),
+        outcome: Outcome::Refused(refusal),
         core: core,
     }
 }
 
-fn accepted(core: Core, value: u16) -> Done
+pub fn accepted(core: Core, value: u16) -> Done
     ensures { λ r. ⌜ r ≡ record { outcome = Outcome.Accepted value; core = core } ⌝ }
 {
     Done {
@@ -198,31 +205,31 @@ fn accepted(core: Core, value: u16) -> Done
 // A read in a transfer in.
 fn taken_read(
     core: Core,
-    t: Transfer,
+    transfer: Transfer,
     port: Port,
     buffer: &mut [u8; 512],
     store: &[u8],
     marks: &[u8],
 ) -> Done
-    ensures { λ r. ⌜ effect r (now (buffer .exit)) (now (store .entry)) (now (marks .entry)) ≡ takenRead (takeOf (t .half) port) t (machine core (now (buffer .entry)) (now (store .entry)) (now (marks .entry))) ⌝ }
+    ensures { λ r. ⌜ effect r (now (buffer .exit)) (now (store .entry)) (now (marks .entry)) ≡ takenRead (takeOf (transfer .half) port) transfer (machine core (now (buffer .entry)) (now (store .entry)) (now (marks .entry))) ⌝ }
 {
-    let half = t.half;
+    let half = transfer.half;
     match take_of(half, port) {
-        Take::Refused => refused(core),
+        Take::Refused => refused(core, Refusal::HalfMoved),
         Take::Moves(part, whole) => {
-            let value = part_value(part, t.words, buffer);
-            let next = part_read(core, t, part, whole, buffer, store, marks);
+            let value = part_value(part, transfer.words, buffer);
+            let next = part_read(core, transfer, part, whole, buffer, store, marks);
             accepted(next, value)
         }
     }
 }
 
-fn absent(port: Port) -> u16
-    ensures { λ r. ⌜ r ≡ absent port ⌝ }
+fn absent_value(port: Port) -> u16
+    ensures { λ r. ⌜ r ≡ absentValue port ⌝ }
 {
     match port {
-        Port::Low => 0xFF,
-        Port::High => 0xFF,
+        Port::Even => 0xFF,
+        Port::Odd => 0xFF,
         Port::Word => 0xFFFF,
     }
 }
@@ -231,8 +238,8 @@ fn held_value(port: Port) -> u16
     ensures { λ r. ⌜ r ≡ heldValue port ⌝ }
 {
     match port {
-        Port::Low => 0x80,
-        Port::High => 0x80,
+        Port::Even => 0x80,
+        Port::Odd => 0x80,
         Port::Word => 0x8080,
     }
 }
@@ -248,52 +255,52 @@ pub fn read_data(core: Core, port: Port, buffer: &mut [u8; 512], store: &[u8], m
     }
     let phase = core.phase;
     match phase {
-        Phase::Idle => accepted(core, absent(port)),
-        Phase::DataIn(t) => taken_read(core, t, port, buffer, store, marks),
-        Phase::DataOut(_) => accepted(core, absent(port)),
+        Phase::Idle => accepted(core, absent_value(port)),
+        Phase::DataIn(transfer) => taken_read(core, transfer, port, buffer, store, marks),
+        Phase::DataOut(_) => accepted(core, absent_value(port)),
     }
 }
 
 // ---- writing
 
+// A word is whole: the next one, or the last byte has come.
 fn word_written(
     state: State,
-    t: Transfer,
+    transfer: Transfer,
     buffer: &[u8; 512],
     store: &mut [u8],
     marks: &mut [u8],
 ) -> Core
-    ensures { λ r. ⌜ machine r (now (buffer .entry)) (now (store .exit)) (now (marks .exit)) ≡ wordWritten t (machine (core (Phase.DataOut t) state) (now (buffer .entry)) (now (store .entry)) (now (marks .entry))) ⌝ }
+    ensures { λ r. ⌜ machine r (now (buffer .entry)) (now (store .exit)) (now (marks .exit)) ≡ wordWritten transfer (machine (core (Phase.DataOut transfer) state) (now (buffer .entry)) (now (store .entry)) (now (marks .entry))) ⌝ }
 {
-    let words = t.words;
-    if words < 255 {
-        let next = next_word(t, words);
+    if transfer.words < 255 {
+        let next = next_word(transfer);
         return Core {
             phase: Phase::DataOut(next),
             state: state,
         };
     }
-    let load = t.load;
+    let load = transfer.load;
     transfers::load_written(state, load, buffer, store, marks)
 }
 
 // A part has come: the word is whole, or begun.
 fn part_written(
     core: Core,
-    t: Transfer,
+    transfer: Transfer,
     part: Part,
     whole: bool,
     buffer: &[u8; 512],
     store: &mut [u8],
     marks: &mut [u8],
 ) -> Core
-    ensures { λ r. ⌜ machine r (now (buffer .entry)) (now (store .exit)) (now (marks .exit)) ≡ partStored whole part t (machine core (now (buffer .entry)) (now (store .entry)) (now (marks .entry))) ⌝ }
+    ensures { λ r. ⌜ machine r (now (buffer .entry)) (now (store .exit)) (now (marks .exit)) ≡ partWritten whole part transfer (machine core (now (buffer .entry)) (now (store .entry)) (now (marks .entry))) ⌝ }
 {
     let state = core.state;
     if whole {
-        return word_written(state, t, buffer, store, marks);
+        return word_written(state, transfer, buffer, store, marks);
     }
-    let next = halved(t, part);
+    let next = halved(transfer, part);
     Core {
         phase: Phase::DataOut(next),
         state: state,
@@ -303,21 +310,21 @@ fn part_written(
 // A write in a transfer out: the part goes into the buffer at once.
 fn taken_written(
     core: Core,
-    t: Transfer,
+    transfer: Transfer,
     port: Port,
     value: u16,
     buffer: &mut [u8; 512],
     store: &mut [u8],
     marks: &mut [u8],
 ) -> Done
-    ensures { λ r. ⌜ effect r (now (buffer .exit)) (now (store .exit)) (now (marks .exit)) ≡ takenWritten (takeOf (t .half) port) value t (machine core (now (buffer .entry)) (now (store .entry)) (now (marks .entry))) ⌝ }
+    ensures { λ r. ⌜ effect r (now (buffer .exit)) (now (store .exit)) (now (marks .exit)) ≡ takenWritten (takeOf (transfer .half) port) value transfer (machine core (now (buffer .entry)) (now (store .entry)) (now (marks .entry))) ⌝ }
 {
-    let half = t.half;
+    let half = transfer.half;
     match take_of(half, port) {
-        Take::Refused => refused(core),
+        Take::Refused => refused(core, Refusal::HalfMoved),
         Take::Moves(part, whole) => {
-            write_part(part, t.words, value, buffer);
-            let next = part_written(core, t, part, whole, buffer, store, marks);
+            put_part(part, transfer.words, value, buffer);
+            let next = part_written(core, transfer, part, whole, buffer, store, marks);
             accepted(next, 0)
         }
     }
@@ -343,6 +350,14 @@ pub fn write_data(
     match phase {
         Phase::Idle => accepted(core, 0),
         Phase::DataIn(_) => accepted(core, 0),
-        Phase::DataOut(t) => taken_written(core, t, port, value, buffer, store, marks),
+        Phase::DataOut(transfer) => taken_written(
+            core,
+            transfer,
+            port,
+            value,
+            buffer,
+            store,
+            marks,
+        ),
     }
 }

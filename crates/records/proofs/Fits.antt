@@ -13,11 +13,11 @@ use Rattle.records.specs.declared.Break.{Break}
 use Rattle.records.specs.declared.Sizes.{Sizes}
 use Rattle.records.specs.declared.Record.{Record}
 use Rattle.records.specs.declared.Record.the-variants.{Opening, Access, Broken}
-use Rattle.records.specs.declared.Turn.{Turn}
-use Rattle.records.specs.Record.{wordAt, askedAt, valueAbove, fieldsTested, openingAt, accessAt, kindAt, recordAt, turnOf, sizeOf}
+use Rattle.records.specs.declared.After.{After}
+use Rattle.records.specs.Record.{wordAt, askedAt, valueAbove, fieldsTested, openingAt, accessAt, kindAt, recordAt, afterOf, sizeOf}
 
 abbrev Inside : Bool → Asked → ℕ → Record → Type 0
-Inside write q left r = turnOf r ≡ Turn.Access write q → sizeOf write ≤ left
+Inside write q left r = afterOf r ≡ After.Access write q → sizeOf write ≤ left
 
 stopped : (write : Bool) (q : Asked) (left : ℕ) (why : Break) → Inside write q left (Broken why)
 stopped write q left why e = let z : _≡_ {A = ℕ} 0 1 = cc in absurd (omega arith)
@@ -71,7 +71,7 @@ record-inside write q file at =
     (λ _. stopped write q left Break.Length)
     (λ _. kind-inside write q file at (wordAt file at) left (ltb-false left (wordAt file at) e))))
 
-pub access-fits : (write : Bool) (q : Asked) (file : List ℕ) (at : ℕ) → at < length file → turnOf (recordAt file at false) ≡ Turn.Access write q → at + sizeOf write ≤ length file
+pub access-fits : (write : Bool) (q : Asked) (file : List ℕ) (at : ℕ) → at < length file → afterOf (recordAt file at false) ≡ After.Access write q → at + sizeOf write ≤ length file
 access-fits write q file at h e =
     let i = record-inside write q file at e in
     omega arith

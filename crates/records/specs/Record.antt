@@ -11,7 +11,7 @@ use Rattle.records.specs.declared.Asked.{Asked}
 use Rattle.records.specs.declared.Record.{Record}
 use Rattle.records.specs.declared.Record.the-variants.{Opening, Access, Broken}
 use Rattle.records.specs.declared.First.{First}
-use Rattle.records.specs.declared.Turn.{Turn}
+use Rattle.records.specs.declared.After.{After}
 
 abbrev pub wordAt : List ℕ → ℕ → ℕ
 wordAt file at = getD file at 0 + 256 * getD file (at + 1) 0
@@ -78,7 +78,7 @@ firstOf (Opening s) = First.Opening s
 firstOf (Access write a) = First.Stop Misplaced
 firstOf (Broken b) = First.Stop b
 
-abbrev pub turnOf : Record → Turn
-turnOf (Opening s) = Turn.Stop Misplaced
-turnOf (Access write a) = Turn.Access write a
-turnOf (Broken b) = Turn.Stop b
+abbrev pub afterOf : Record → After
+afterOf (Opening s) = After.Stop Misplaced
+afterOf (Access write a) = After.Access write a
+afterOf (Broken b) = After.Stop b

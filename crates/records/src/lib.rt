@@ -3,7 +3,7 @@ ghost use mathlib.Core.Path.{_≡_};
 ghost use mathlib.Core.Bool.{true};
 ghost use Prim.Native.Nat.{_+_, _≤_};
 ghost use lib.ListN.{length};
-ghost use Rattle.records.specs.Record.{wordAt, valueAbove, fieldsTested, openingAt, sizeOf, valueAt, accessAt, kindAt, recordAt, firstOf, turnOf};
+ghost use Rattle.records.specs.Record.{wordAt, valueAbove, fieldsTested, openingAt, sizeOf, valueAt, accessAt, kindAt, recordAt, firstOf, afterOf};
 
 // Which test of a record, or of the whole file, broke it.
 pub enum Break {
@@ -47,7 +47,7 @@ pub enum First {
     Stop(Break),
 }
 
-pub enum Turn {
+pub enum After {
     Access(bool, Asked),
     Stop(Break),
 }
@@ -235,13 +235,13 @@ impl Record {
     }
 
     // After the opening.
-    pub fn turn(self) -> Turn
-        ensures { λ r. ⌜ r ≡ turnOf self ⌝ }
+    pub fn after(self) -> After
+        ensures { λ r. ⌜ r ≡ afterOf self ⌝ }
     {
         match self {
-            Record::Opening(_) => Turn::Stop(Break::Misplaced),
-            Record::Access(write, asked) => Turn::Access(write, asked),
-            Record::Broken(why) => Turn::Stop(why),
+            Record::Opening(_) => After::Stop(Break::Misplaced),
+            Record::Access(write, asked) => After::Access(write, asked),
+            Record::Broken(why) => After::Stop(why),
         }
     }
 }

@@ -9,7 +9,8 @@ use Rattle.registers.specs.declared.State.{State}
 use Rattle.registers.specs.declared.Core.{Core}
 use Rattle.registers.specs.declared.resets.Turn.{Turn}
 use Rattle.registers.specs.declared.resets.Turn.the-variants.{Enter, Leave, Stay}
-use Rattle.registers.specs.State.{core, withStatus, withMark, withOption, withControl, sresetIn}
+use Rattle.registers.specs.State.{withStatus, withMark, withOption, withControl, sresetIn}
+use Rattle.registers.specs.Machine.{core}
 use Rattle.registers.specs.PowerOn.{powerOn, zeros}
 
 -- what writing a reset's bit does: was the card held, is the bit set now
@@ -43,6 +44,13 @@ bufferTurned Stay b = b
 
 abbrev pub optionTurn : ℕ → State → Turn
 optionTurn v s = turnOf (sresetIn (s .option)) (sresetIn v)
+
+-- what a write of the Configuration Option Register leaves, and what it leaves in the buffer
+abbrev pub optionCore : ℕ → Phase → State → Core
+optionCore v p s = optionTurned (optionTurn v s) v p s
+
+abbrev pub optionBuffer : ℕ → State → List ℕ → List ℕ
+optionBuffer v s b = bufferTurned (optionTurn v s) b
 
 -- "Device Control bit 2 set: transfer ends … Clearing it gives the power-on registers, code 00H and default geometry; buffer and index
 -- are kept, and bit 1 is as just written."

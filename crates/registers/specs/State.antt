@@ -1,41 +1,18 @@
--- The card's state, and the machine that accesses change: the card's phase, state and buffer, the store and the marks.
+-- The card's state: changes of one part of it, and what is read off it.
 use Prim.Native.Nat.{ℕ, _%_}
 use mathlib.Core.Bool.{Bool, true, false}
-use mathlib.Core.List.{List}
 use lib.Dec.{leb}
 use Rattle.ground.specs.Choice.{pick}
 use Rattle.geometry.specs.declared.Address.{Address}
 use Rattle.geometry.specs.declared.Geometry.{Geometry}
+use Rattle.geometry.specs.declared.Located.{Located}
+use Rattle.geometry.specs.Limits.{totalOf}
+use Rattle.geometry.specs.Address.{locate}
 use Rattle.registers.specs.declared.Phase.{Phase}
 use Rattle.registers.specs.declared.Phase.the-variants.{Idle, DataIn, DataOut}
 use Rattle.registers.specs.declared.Registers.{Registers}
 use Rattle.registers.specs.declared.Control.{Control}
 use Rattle.registers.specs.declared.State.{State}
-use Rattle.registers.specs.declared.Core.{Core}
-
-pub record Machine : Type 0 where
-  pub phase : Phase
-  pub state : State
-  pub buffer : List ℕ
-  pub store : List ℕ
-  pub marks : List ℕ
-
--- of a core and what is lent
-abbrev pub machine : Core → List ℕ → List ℕ → List ℕ → Machine
-machine k buffer store marks = record { phase = k .phase; state = k .state; buffer = buffer; store = store; marks = marks }
-
-abbrev pub core : Phase → State → Core
-core p s = record { phase = p; state = s }
-
-abbrev pub coreOf : Machine → Core
-coreOf m = core (m .phase) (m .state)
-
--- the machine with another core, and with another buffer
-abbrev pub withCore : Core → Machine → Machine
-withCore k m = machine k (m .buffer) (m .store) (m .marks)
-
-abbrev pub withBuffer : List ℕ → Machine → Machine
-withBuffer b m = machine (coreOf m) b (m .store) (m .marks)
 
 -- changes of one part of the state
 abbrev pub withRegisters : Registers → State → State
@@ -84,3 +61,11 @@ runs (DataOut t) = true
 -- 01, "Interrupt mark": "Each answer says if the line is up (mark set, bit 1 clear)"; "Bit 1 masks the interrupt line"
 abbrev pub lineOf : State → Bool
 lineOf s = pick (s .control .masked) false (s .mark)
+
+-- N
+abbrev pub totalIn : State → ℕ
+totalIn s = totalOf (s .made .default)
+
+-- where the address registers point
+abbrev pub locatedIn : State → Located
+locatedIn s = locate (s .registers .address) (s .current) (totalIn s)

@@ -4,10 +4,8 @@ use mathlib.Core.Bool.{Bool, true, not}
 use mathlib.Core.List.{[], _∷_}
 use lib.Dec.{leb, eqb}
 use Rattle.ground.specs.Choice.{pick, every}
-use Rattle.geometry.specs.declared.Located.{Located}
-use Rattle.geometry.specs.Limits.{fits, totalOf, currentFor}
-use Rattle.geometry.specs.Address.{locate}
-use Rattle.geometry.specs.Codes.{found}
+use Rattle.geometry.specs.Limits.{fits, currentFor}
+use Rattle.geometry.specs.Address.{found}
 use Rattle.maps.specs.declared.Mode.{Mode}
 use Rattle.maps.specs.declared.Mode.the-variants.{PcCard, TrueIde}
 use Rattle.registers.specs.declared.Load.{Load}
@@ -15,15 +13,7 @@ use Rattle.registers.specs.declared.Load.the-variants.{Sectors, Buffer}
 use Rattle.registers.specs.declared.Phase.{Phase}
 use Rattle.registers.specs.declared.Phase.the-variants.{Idle, DataIn, DataOut}
 use Rattle.registers.specs.declared.State.{State}
-use Rattle.registers.specs.State.{sresetIn, indexIn}
-
--- N
-abbrev pub totalIn : State → ℕ
-totalIn s = totalOf (s .made .default)
-
--- where the address registers point
-abbrev pub locatedIn : State → Located
-locatedIn s = locate (s .registers .address) (s .current) (totalIn s)
+use Rattle.registers.specs.State.{sresetIn, indexIn, totalIn, locatedIn}
 
 -- the map index is 0..3
 unfoldable pub indexFits : ℕ → Bool

@@ -5,9 +5,9 @@ use geometry::Geometry;
 use geometry::Located;
 use maps::Mode;
 ghost use mathlib.Core.Path.{_≡_};
-ghost use Rattle.registers.specs.State.{runs, lineOf};
-ghost use Rattle.registers.specs.WellMade.{locatedIn, indexFits, sresetFits, atRest, statusFits, heldIn, holdFits, wordsFit, sectorsFit, loadFits, runFits, wellMade};
-ghost use Rattle.geometry.specs.Codes.{found};
+ghost use Rattle.registers.specs.State.{runs, lineOf, sresetIn, indexIn, totalIn, locatedIn};
+ghost use Rattle.registers.specs.WellMade.{indexFits, sresetFits, atRest, statusFits, heldIn, holdFits, wordsFit, sectorsFit, loadFits, runFits, wellMade};
+ghost use Rattle.geometry.specs.Address.{found};
 
 pub mod resets;
 pub mod values;
@@ -74,12 +74,28 @@ pub struct Core {
     pub state: State,
 }
 
+// ---- 01, "Maps": the Configuration Option Register
+
+// Bit 7.
+pub fn sreset_in(option: u8) -> bool
+    ensures { λ r. ⌜ r ≡ sresetIn option ⌝ }
+{
+    option >= 128
+}
+
+// Bits 5..0.
+pub fn index_in(option: u8) -> u8
+    ensures { λ r. ⌜ r ≡ indexIn option ⌝ }
+{
+    option % 64
+}
+
 // ---- 01, "A card value is well made if"
 
-fn index_fits(option: u8) -> bool
+pub fn index_fits(option: u8) -> bool
     ensures { λ r. ⌜ r ≡ indexFits option ⌝ }
 {
-    option % 64 <= 3
+    index_in(option) <= 3
 }
 
 fn sreset_fits(mode: Mode, option: u8) -> bool
@@ -87,12 +103,7 @@ fn sreset_fits(mode: Mode, option: u8) -> bool
 {
     match mode {
         Mode::PcCard => true,
-        Mode::TrueIde => {
-            if option >= 128 {
-                return false;
-            }
-            true
-        }
+        Mode::TrueIde => !sreset_in(option),
     }
 }
 
@@ -156,21 +167,35 @@ impl State {
     fn held_in(self) -> bool
         ensures { λ r. ⌜ r ≡ heldIn self ⌝ }
     {
-        if self.option >= 128 {
+        if sreset_in(self.option) {
             return true;
         }
         self.control.held
+    }
+
+    // N.
+    pub fn total(self) -> u16
+        ensures { λ r. ⌜ r ≡ totalIn self ⌝ }
+    {
+        let made = self.made;
+        let default = made.default;
+        default.total()
+    }
+
+    // Where the address registers point.
+    pub fn located(self) -> Located
+        ensures { λ r. ⌜ r ≡ locatedIn self ⌝ }
+    {
+        let registers = self.registers;
+        let address = registers.address;
+        address.locate(self.current, self.total())
     }
 
     // Whether the address registers name a sector.
     fn found(self) -> bool
         ensures { λ r. ⌜ r ≡ found (locatedIn self) ⌝ }
     {
-        let registers = self.registers;
-        let made = self.made;
-        let address = registers.address;
-        let default = made.default;
-        match address.locate(self.current, default.total()) {
+        match self.located() {
             Located::Good(_) => true,
             Located::BadHeadOrSector => false,
             Located::BadCylinder => false,
@@ -227,8 +252,7 @@ impl State {
     pub fn line(self) -> bool
         ensures { λ r. ⌜ r ≡ lineOf self ⌝ }
     {
-        let control = self.control;
-        if control.masked {
+        if self.control.masked {
             return false;
         }
         self.mark
@@ -249,7 +273,7 @@ impl Core {
         if !default.fits() {
             return false;
         }
-        if !current.current_for(default.total()) {
+        if !current.current_for(state.total()) {
             return false;
         }
         if !index_fits(state.option) {

@@ -8,7 +8,7 @@ use super::State;
 use geometry::Address;
 ghost use mathlib.Core.Path.{_≡_};
 ghost use Rattle.registers.specs.PowerOn.{powerOn};
-ghost use Rattle.registers.specs.Resets.{turnOf, restStatus, entered, optionTurn, optionTurned, bufferTurned, controlTurned, controlWritten};
+ghost use Rattle.registers.specs.Resets.{turnOf, restStatus, entered, optionTurned, bufferTurned, controlTurned, controlWritten, optionCore, optionBuffer};
 
 // What writing a reset's bit does to the hold.
 pub enum Turn {
@@ -108,10 +108,10 @@ impl Core {
             Turn::Leave => {
                 *buffer = [0u8; 512];
                 let made = state.made;
-                let fresh = made.power_on(value);
+                let powered = made.power_on(value);
                 Core {
                     phase: Phase::Idle,
-                    state: fresh,
+                    state: powered,
                 }
             }
             Turn::Stay => {
@@ -125,12 +125,12 @@ impl Core {
         }
     }
 
-    // A write of the Configuration Option Register, of an index that is 0..3.
+    // A write of the Configuration Option Register; row 10 is tested before it (D131).
     pub fn write_option(self, value: u8, buffer: &mut [u8; 512]) -> Core
-        ensures { λ r. ⌜ (r ≡ optionTurned (optionTurn value (self .state)) value (self .phase) (self .state)) × (now (buffer .exit) ≡ bufferTurned (optionTurn value (self .state)) (now (buffer .entry))) ⌝ }
+        ensures { λ r. ⌜ (r ≡ optionCore value (self .phase) (self .state)) × (now (buffer .exit) ≡ optionBuffer value (self .state) (now (buffer .entry))) ⌝ }
     {
         let state = self.state;
-        let turn = turn_of(state.option >= 128, value >= 128);
+        let turn = turn_of(super::sreset_in(state.option), super::sreset_in(value));
         self.option_turned(turn, value, buffer)
     }
 
@@ -151,11 +151,11 @@ impl Core {
             }
             Turn::Leave => {
                 let made = state.made;
-                let mut fresh = made.power_on(state.option);
-                fresh.control.masked = masked;
+                let mut powered = made.power_on(state.option);
+                powered.control.masked = masked;
                 Core {
                     phase: Phase::Idle,
-                    state: fresh,
+                    state: powered,
                 }
             }
             Turn::Stay => {

@@ -18,12 +18,12 @@ use Rattle.registers.specs.WellMade.{indexFits, sresetFits, atRest, statusFits,
 use Rattle.registers.specs.Resets.{turnOf, optionTurned, bufferTurned, controlTurned}
 use Rattle.registers.specs.Values.{valueRead, afterRead, registerSet}
 use Rattle.transfers.specs.Before.{addressTest, readTest, storeTest, sectorStored}
-use Rattle.transfers.specs.Steps.{passed, readSector, nextRead, askSector, nextAsked}
+use Rattle.transfers.specs.Steps.{sectorDone, readSector, nextRead, askSector, nextAsked}
 use Rattle.commands.specs.Runs.{verifyFrom, eraseFrom}
 use Rattle.commands.specs.Runs
 use Rattle.port.specs.Halves.{takeOf}
 use Rattle.port.specs.Data.{wordRead, dataRead, wordWritten, dataWritten}
-use Rattle.commands.specs.Table.{commandOf, countOf, commandGiven}
+use Rattle.commands.specs.Table.{sectorlessCommand, commandOf, countOf, commandGiven}
 use Rattle.card.specs.Access.{heldAway, decided, meaning}
 use Rattle.card.specs.Perform.{optionWritten, plainCore, registerWritten, perform}
 use Rattle.card.specs.Step.{step}
@@ -31,20 +31,21 @@ use Rattle.card.specs.Opening.{opened}
 use Rattle.registers.specs.PowerOn.{zeros}
 use Rattle.tuples.specs.Chain.{chainFrom}
 use Rattle.tuples.specs.Read.{counted, readOutcome}
-use Rattle.samples.specs.Hosts.{listed, store, marks, tuples, opening, agrees}
-use Rattle.samples.specs.Rows.{sector}
-use Rattle.samples.specs.List.{sample1, sample2, sample3, sample4, sample5, sample6, sample7, sample8, sample9, sample10, sample11, sample12, sample13, samples, identified, wordLines, sameEntries, readsAs, holdsOf, allOf, passes}
-use Rattle.samples.specs.Lazy.{refusesAll, readsFifty, ignoresWrites, countsAs, makesUpCount}
+use Rattle.samples.specs.Lines.{listed, store, marks, tuples, opening, agrees}
+use Rattle.samples.specs.Parts.{sector}
+use Rattle.samples.specs.List.{sample1, sample2, sample3, sample4, sample5, sample6, sample7, sample8, sample9, sample10, sample11, sample12, sample13, samples, identified, wordLines}
+use Rattle.samples.specs.Passes.{sameEntries, readsAs, holdsOf, allOf, passes}
+use Rattle.samples.specs.Lazy.{refusesAll, reads50H, ignoresWrites, countsAs, makesUpCount}
 
 -- of the card; of the card that refuses all, the one that always reads 50H, the one that ignores writes, and two that make up Sector Count
 computed :
     (passes step ≡ true)
     × (passes refusesAll ≡ false)
-    × (passes readsFifty ≡ false)
+    × (passes reads50H ≡ false)
     × (passes ignoresWrites ≡ false)
     × (passes (makesUpCount 1) ≡ false)
     × (passes (makesUpCount 224) ≡ false)
-unfolding samples sample1 sample2 sample3 sample4 sample5 sample6 sample7 sample8 sample9 sample10 sample11 sample12 sample13 identified wordLines sameEntries readsAs readOutcome counted chainFrom holdsOf allOf passes sector listed store marks tuples opening agrees step meaning decided heldAway answersAt cardAnswers standsAt attributeAt optionAt aboveThree tupleAt byteAt misfits registerAt placeAt portAt namedAt evenData offsetAt memoryAt ioAt windowAt within wellMade runFits loadFits sectorsFit wordsFit holdFits heldIn statusFits atRest sresetFits indexFits every fits totalOf currentFor locate locateChs locateLba byLba seek reshaped nextOf nextChs perform optionWritten registerWritten plainCore valueRead afterRead registerSet turnOf optionTurned bufferTurned controlTurned dataRead dataWritten wordRead wordWritten takeOf readSector nextRead askSector nextAsked passed readTest storeTest addressTest sectorStored stored withSector sectorOf bufferRead readable writable marksFit verifyFrom eraseFrom Rattle.commands.specs.Runs.blank identifyBytes identifyByte identifyWord firstWord laterWord Rattle.identify.specs.Words.blank countOf commandOf commandGiven opened zeros refusesAll readsFifty ignoresWrites makesUpCount countsAs
+unfolding samples sample1 sample2 sample3 sample4 sample5 sample6 sample7 sample8 sample9 sample10 sample11 sample12 sample13 identified wordLines sameEntries readsAs readOutcome counted chainFrom holdsOf allOf passes sector listed store marks tuples opening agrees step meaning decided heldAway answersAt cardAnswers standsAt attributeAt optionAt aboveThree tupleAt byteAt misfits registerAt placeAt portAt namedAt evenData offsetAt memoryAt ioAt windowAt within wellMade runFits loadFits sectorsFit wordsFit holdFits heldIn statusFits atRest sresetFits indexFits every fits totalOf currentFor locate locateChs locateLba byLba seek reshaped nextOf nextChs perform optionWritten registerWritten plainCore valueRead afterRead registerSet turnOf optionTurned bufferTurned controlTurned dataRead dataWritten wordRead wordWritten takeOf readSector nextRead askSector nextAsked sectorDone readTest storeTest addressTest sectorStored stored withSector sectorOf bufferRead readable writable marksFit verifyFrom eraseFrom Rattle.commands.specs.Runs.allFF identifyBytes identifyByte identifyWord firstWord laterWord Rattle.identify.specs.Words.blankWord countOf commandOf sectorlessCommand commandGiven opened zeros refusesAll reads50H ignoresWrites makesUpCount countsAs
 computed = (refl, refl, refl, refl, refl, refl)
 
 -- The thirteen samples.
@@ -55,8 +56,8 @@ samples-hold = computed .0
 pub refuses-all : passes refusesAll ≡ false
 refuses-all = computed .1
 
-pub reads-fifty : passes readsFifty ≡ false
-reads-fifty = computed .2
+pub reads-50h : passes reads50H ≡ false
+reads-50h = computed .2
 
 pub ignores-writes : passes ignoresWrites ≡ false
 ignores-writes = computed .3

@@ -1,4 +1,5 @@
-pub mod Hosts
-pub mod Rows
+pub mod Lines
+pub mod Parts
 pub mod List
+pub mod Passes
 pub mod Lazy

@@ -1,18 +1,11 @@
 -- 01, "Proved samples": "These thirteen form a single list of inputs and results with one proof over it."
-use Prim.Native.Nat.{ℕ, _+_, _-_}
-use mathlib.Core.Bool.{Bool, true, false, _&&_}
+use Prim.Native.Nat.{ℕ, _+_}
 use mathlib.Core.List.{List, [], _∷_, _++_}
-use lib.Dec.{eqb}
-use lib.ListN.{length, replicate}
-use Rattle.answers.specs.Answers.{outcomeNumber, outcomeValue}
-use Rattle.registers.specs.State.{Machine}
-use Rattle.card.specs.Access.{Access}
-use Rattle.card.specs.Step.{Stepped}
+use lib.ListN.{replicate}
 use Rattle.tuples.specs.declared.Entry.{Entry}
-use Rattle.tuples.specs.Chain.{entry, noEntry}
-use Rattle.tuples.specs.Read.{readOutcome, readList}
-use Rattle.samples.specs.Hosts.{Line, opening, reads, writes, agrees}
-use Rattle.samples.specs.Rows.{get, put, word, chs, lba, ends, sector, erases, shows}
+use Rattle.tuples.specs.Chain.{entry}
+use Rattle.samples.specs.Lines.{Line, reads, writes}
+use Rattle.samples.specs.Parts.{get, put, word, chs, lba, ends, sector, erases, shows}
 
 -- accesses to a card that was opened in a mode; or a chain of tuples, with its entries
 pub data Sample : Type 0 where
@@ -49,7 +42,7 @@ sample6 = ide (lba 3 30 ++ (put 7 0x20 ∷ (sector 30 ++ (sector 31 ++ (get 7 0x
 
 -- 7. Verify LBA 0, Count 0: ends at 32, Count 224.
 unfoldable pub sample7 : Sample
-sample7 = ide (lba 0 0 ++ (ends 0x40 0x51 0x10 0x2F ++ shows 224 32))
+sample7 = ide (lba 0 0 ++ (put 7 0x40 ∷ get 7 0x51 ∷ get 1 0x10 ∷ (shows 224 32 ++ (put 7 0x03 ∷ get 1 0x2F ∷ []))))
 
 -- Identify's words, of a card with current C 2, H 3, S 5: 57 and 58 are its capacity, 30
 unfoldable pub identified : List ℕ
@@ -137,32 +130,3 @@ samples =
     ∷ sample12
     ∷ sample13
     ∷ []
-
--- the entries that the reader leaves in a list of 127 places are these, in order, and the next place keeps what it held
-unfoldable pub sameEntries : List Entry → List Entry → Bool
-sameEntries [] [] = false
-sameEntries [] (e ∷ l) = eqb (e .code) 0
-sameEntries (e ∷ l) [] = false
-sameEntries (e ∷ l) (f ∷ k) = let rest = sameEntries l k in eqb (e .code) (f .code) && (eqb (e .start) (f .start) && (eqb (e .length) (f .length) && rest))
-
--- a tuple buffer: these bytes, then FFH
-abbrev pub bufferOf : List ℕ → List ℕ
-bufferOf bytes = bytes ++ replicate (256 - length bytes) 0xFF
-
-unfoldable pub readsAs : List ℕ → List Entry → Bool
-readsAs buffer entries =
-    eqb (outcomeNumber (readOutcome buffer 127)) 0
-    && (eqb (outcomeValue (readOutcome buffer 127)) (length entries)
-    && sameEntries entries (readList buffer (replicate 127 noEntry)))
-
-unfoldable pub holdsOf : (Machine → Access → Stepped) → Sample → Bool
-holdsOf turn (Accesses mode lines) = agrees turn (opening mode) lines
-holdsOf turn (Tuples bytes entries) = readsAs (bufferOf bytes) entries
-
-unfoldable pub allOf : (Machine → Access → Stepped) → List Sample → Bool
-allOf turn [] = true
-allOf turn (s ∷ l) = let rest = allOf turn l in holdsOf turn s && rest
-
--- the samples as a demand on any machine
-unfoldable pub passes : (Machine → Access → Stepped) → Bool
-passes turn = allOf turn samples

@@ -18,16 +18,16 @@ unfoldable pub bufferRead : List ℕ → ℕ → List ℕ → List ℕ
 bufferRead store i buffer = pick (ltb i (length store / 512)) (sectorOf store i) buffer
 
 -- a store and its marks
-pub record Kept : Type 0 where
+pub record StoreMarks : Type 0 where
   pub store : List ℕ
   pub marks : List ℕ
 
-abbrev pub kept : List ℕ → List ℕ → Kept
-kept s m = record { store = s; marks = m }
+abbrev pub storeMarks : List ℕ → List ℕ → StoreMarks
+storeMarks s m = record { store = s; marks = m }
 
 -- 01, "Commands": a sector is stored, and its mark set to 0
-unfoldable pub stored : List ℕ → List ℕ → ℕ → List ℕ → Kept
+unfoldable pub stored : List ℕ → List ℕ → ℕ → List ℕ → StoreMarks
 stored store marks i bytes =
     pick (ltb i (length store / 512))
-    (pick (ltb i (length marks)) (kept (withSector store i bytes) (set marks i 0)) (kept store marks))
-    (kept store marks)
+    (pick (ltb i (length marks)) (storeMarks (withSector store i bytes) (set marks i 0)) (storeMarks store marks))
+    (storeMarks store marks)

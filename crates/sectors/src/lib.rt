@@ -1,9 +1,9 @@
 // The sector rules over a lent store and its marks: what a mark allows, a sector read, a sector stored and its mark cleared.
 ghost use mathlib.Core.Path.{_≡_};
 ghost use Prim.Native.Nat.{_+_, _*_, _≤_, _<_};
-ghost use lib.ListN.{length, getD};
+ghost use lib.ListN.{length};
 ghost use Rattle.sectors.specs.Marks.{readable, writable, marksFit};
-ghost use Rattle.sectors.specs.Sectors.{sectorOf, withSector, bufferRead, kept, stored};
+ghost use Rattle.sectors.specs.Sectors.{sectorOf, withSector, bufferRead, storeMarks, stored};
 
 // 01: 1 is unreadable, and a mark above 2 counts as 1.
 pub fn readable(mark: u8) -> bool
@@ -25,13 +25,6 @@ pub fn writable(mark: u8) -> bool
     true
 }
 
-// The mark of sector i, 0 where there is none.
-pub fn mark_at(marks: &[u8], i: usize) -> u8
-    ensures { λ r. ⌜ r ≡ getD (now (marks .entry)) i 0 ⌝ }
-{
-    ground::byte_or_zero(marks, i)
-}
-
 // Whether no mark is above 2.
 pub fn marks_fit(marks: &[u8]) -> bool
     ensures { λ r. ⌜ r ≡ marksFit (now (marks .entry)) ⌝ }
@@ -47,18 +40,18 @@ pub fn marks_fit(marks: &[u8]) -> bool
 }
 
 // Sector i comes into the buffer.
-pub fn read_sector(buffer: &mut [u8; 512], store: &[u8], i: usize)
+pub fn read_sector(store: &[u8], i: usize, buffer: &mut [u8; 512])
     ensures { λ _. ⌜ now (buffer .exit) ≡ bufferRead (now (store .entry)) i (now (buffer .entry)) ⌝ }
 {
     let sectors = store.len() / 512;
     if i < sectors {
-        get_sector(buffer, store, i);
+        get_sector(store, i, buffer);
     }
 }
 
 // The bytes are stored as sector i, and its mark is cleared: the one place for a write and for Erase.
 pub fn store_sector(store: &mut [u8], marks: &mut [u8], i: usize, bytes: &[u8; 512])
-    ensures { λ _. ⌜ kept (now (store .exit)) (now (marks .exit)) ≡ stored (now (store .entry)) (now (marks .entry)) i (now (bytes .entry)) ⌝ }
+    ensures { λ _. ⌜ storeMarks (now (store .exit)) (now (marks .exit)) ≡ stored (now (store .entry)) (now (marks .entry)) i (now (bytes .entry)) ⌝ }
 {
     let sectors = store.len() / 512;
     if i < sectors {
@@ -69,11 +62,12 @@ pub fn store_sector(store: &mut [u8], marks: &mut [u8], i: usize, bytes: &[u8; 5
     }
 }
 
-fn get_sector(buffer: &mut [u8; 512], store: &[u8], i: usize)
+// Sector i of a store that has it.
+fn get_sector(store: &[u8], i: usize, buffer: &mut [u8; 512])
     requires { ⌜ 512 * i + 512 ≤ length (now store) ⌝ }
     ensures { λ _. ⌜ now (buffer .exit) ≡ sectorOf (now (store .entry)) i ⌝ }
 {
-    ground::told(buffer);
+    ground::length_known(buffer);
     let a = 512 * i;
     let mut k = 0;
     while k < 512 {
@@ -92,11 +86,12 @@ fn put_sector(store: &mut [u8], i: usize, bytes: &[u8; 512])
     fill(&mut store[a..e], bytes);
 }
 
+// A part of 512 bytes is filled from the buffer.
 fn fill(part: &mut [u8], bytes: &[u8; 512])
     requires { ⌜ length (now part) ≡ 512 ⌝ }
     ensures { λ _. ⌜ now (part .exit) ≡ now (bytes .entry) ⌝ }
 {
-    ground::told(bytes);
+    ground::length_known(bytes);
     let mut i = 0;
     while i < 512 {
         part[i] = bytes[i];

@@ -12,7 +12,7 @@ use Rattle.ground.proofs.Picks.{pick-elim}
 use Rattle.answers.specs.declared.Outcome.{Outcome}
 use Rattle.answers.specs.declared.Refusal.the-variants.{GeometryOrMode}
 use Rattle.geometry.specs.Limits.{capacityOf}
-use Rattle.registers.specs.State.{Machine}
+use Rattle.registers.specs.Machine.{Machine}
 use Rattle.card.specs.declared.Card.{Card}
 use Rattle.card.specs.Access.{Access}
 use Rattle.card.specs.Step.{play, step}
@@ -22,12 +22,12 @@ use Rattle.text.specs.Text.{header, shownValue}
 use Rattle.text.proofs.Length.{line-length, bad-length, unopened-length}
 use Rattle.records.specs.declared.Sizes.{Sizes}
 use Rattle.records.specs.declared.First.{First}
-use Rattle.records.specs.declared.Turn.{Turn}
+use Rattle.records.specs.declared.After.{After}
 use Rattle.session.specs.declared.Ending.{Ending}
 use Rattle.session.specs.declared.Ending.the-variants.{Whole, Broken, Unopened}
-use Rattle.records.specs.Record.{recordAt, turnOf, firstOf, sizeOf}
-use Rattle.session.specs.Run.{Script, byTurn, scriptFrom, wrapped, lineOf, linesOf, endText, resultOf}
-use Rattle.session.specs.Play.{Session, opensAs, openedOn, begun, byFirst, sessionOf, printOf, geometryOf, zeroBytes, noTuples}
+use Rattle.records.specs.Record.{recordAt, afterOf, firstOf, sizeOf}
+use Rattle.session.specs.Run.{Script, byTurn, scriptFrom, wrapped, lineText, linesOf, endText, resultOf}
+use Rattle.session.specs.Play.{Session, opensAs, openedOn, opening, byFirst, sessionOf, printOf, geometryOf, zeroBytes, noTuples}
 use Rattle.records.proofs.Fits.{access-fits}
 
 -- a record has 8 bytes or more: the accesses of a part, and where it ends
@@ -38,14 +38,14 @@ wide : (write : Bool) → 8 ≤ sizeOf write
 wide true = omega arith
 wide false = omega arith
 
-turn-short : (t : Turn) (bound : ℕ) (part tuples : List ℕ) (rest : ℕ → Script) (at : ℕ) → length part ≤ bound → at < length part → turnOf (recordAt part at false) ≡ t →
+turn-short : (t : After) (bound : ℕ) (part tuples : List ℕ) (rest : ℕ → Script) (at : ℕ) → length part ≤ bound → at < length part → afterOf (recordAt part at false) ≡ t →
     ((next : ℕ) → next ≤ bound → Short bound next (rest next)) → Short bound at (byTurn t rest tuples at)
-turn-short (Turn.Access write q) bound part tuples rest at h g e ih =
+turn-short (After.Access write q) bound part tuples rest at h g e ih =
     let f = access-fits write q part at g e in
     let w = wide write in
     let i = ih (at + sizeOf write) (omega arith) in
     (omega (arith, i .0), i .1)
-turn-short (Turn.Stop why) bound part tuples rest at h g e ih = (omega arith, omega arith)
+turn-short (After.Stop why) bound part tuples rest at h g e ih = (omega arith, omega arith)
 
 script-short : (n bound : ℕ) (part tuples : List ℕ) (at : ℕ) → length part ≤ bound → at ≤ bound → Short bound at (scriptFrom n part tuples at)
 unfolding scriptFrom
@@ -53,7 +53,7 @@ script-short zero bound part tuples at h g = (omega arith, g)
 script-short (suc n) bound part tuples at h g =
     pick-elim (Short bound at) (leb (length part) at) _ _
     (λ _. (omega arith, g))
-    (λ e. turn-short (turnOf (recordAt part at false)) bound part tuples (scriptFrom n part tuples) at h (leb-false _ _ e) refl (λ next k. script-short n bound part tuples next h k))
+    (λ e. turn-short (afterOf (recordAt part at false)) bound part tuples (scriptFrom n part tuples) at h (leb-false _ _ e) refl (λ next k. script-short n bound part tuples next h k))
 
 -- no more text than a line of 15 bytes for each access
 lines-length : (l : List Access) (m : Machine) (number : ℕ) → number + length l ≤ 10000 → length (linesOf number l (play m l .steps)) ≤ 15 * length l
@@ -64,7 +64,7 @@ lines-length (a ∷ l) m number h =
     let w : wrapped (number + 1) ≡ number + 1 = mod-eq-of-lt (omega arith) in
     let f = line-length number (a .write) o (shownValue o (a .write) (a .value)) (omega arith) in
     let g = subst (λ (n : ℕ). length (linesOf n l (play (step m a .next) l .steps)) ≤ 15 * length l) (sym w) (lines-length l (step m a .next) (number + 1) (omega arith)) in
-    let e = length-append (lineOf number a o) (linesOf (wrapped (number + 1)) l (play (step m a .next) l .steps)) in
+    let e = length-append (lineText number a o) (linesOf (wrapped (number + 1)) l (play (step m a .next) l .steps)) in
     omega arith
 
 end-length : (e : Ending) (place : ℕ) → place < 100000 → length (endText e place) ≤ 10
@@ -90,9 +90,9 @@ opens-length : (o : Outcome) (c : Card) (file store marks tuples : List ℕ) →
 opens-length (Outcome.Accepted v) c file store marks tuples h = run-length file tuples (machineOf c store marks) h
 opens-length (Outcome.Refused r) c file store marks tuples h = let f = unopened-length r in omega arith
 
-begun-length : (s : Sizes) (file : List ℕ) → length file ≤ 32768 → length (begun s file .text) ≤ 61420
-unfolding begun openedOn
-begun-length s file h =
+opening-length : (s : Sizes) (file : List ℕ) → length file ≤ 32768 → length (opening s file .text) ≤ 61420
+unfolding opening openedOn
+opening-length s file h =
     let n = capacityOf (geometryOf s) in
     let answer = opened (geometryOf s) (s .mode) (zeroBytes (512 * n)) (zeroBytes n) noTuples in
     pick-elim (λ (x : Session). length (x .text) ≤ 61420) (ltb 32 (capacityOf (geometryOf s))) _ _
@@ -100,7 +100,7 @@ begun-length s file h =
     (λ _. opens-length (answer .outcome) (answer .card) file (zeroBytes (512 * n)) (zeroBytes n) noTuples h)
 
 first-length : (f : First) (file : List ℕ) → length file ≤ 32768 → length (byFirst f file .text) ≤ 61420
-first-length (First.Opening s) file h = begun-length s file h
+first-length (First.Opening s) file h = opening-length s file h
 first-length (First.Stop why) file h = let f = bad-length 0 (omega arith) in omega arith
 
 session-length : (file : List ℕ) → length (sessionOf file .text) ≤ 61420

@@ -1,29 +1,25 @@
 -- Laws of zero bytes and of a text after the header.
-use Prim.Native.Nat.{ℕ, zero, suc, _+_, _-_, _≤_, min}
+use Prim.Native.Nat.{ℕ, _+_, _-_, _≤_, min}
 use mathlib.Core.Path.{_≡_, refl, sym, ap, _∙_}
-use mathlib.Core.List.{List, _∷_}
+use mathlib.Core.List.{List}
 use native.Mathlib.Omega.{arith}
-use native.Mathlib.Nat.{not-suc-le-zero, min-le-left, min-le-right, min-eq-left, min-eq-right, le-of-lt}
+use native.Mathlib.Nat.{min-le-left, min-le-right, min-eq-left, min-eq-right, le-of-lt}
 use lib.Dec.{leb}
 use lib.Seq.{length-take-le}
 use borrow.Author.Tests.{leb-true, leb-false}
 use mathlib.Core.Bool.{Bool, true, false}
-use lib.ListN.{length, take, drop, replicate, length-replicate, length-append, length-take, length-drop}
+use lib.ListN.{length, take, drop, length-replicate, length-append, length-take, length-drop}
 use Rattle.text.specs.Text.{header}
 use Rattle.session.specs.declared.Told.{Told}
-use Rattle.text.specs.Output.{Output, output, put, holding, Counts}
+use Rattle.text.specs.Output.{Output, output, put, holding, LiesIn}
 use Rattle.session.specs.Play.{zeroBytes, sessionOf, Printed, printedIn, printedAt, printed, printOf, toldAs}
 use Rattle.text.proofs.Outputs.{put-then, put-holds}
-
-take-replicate : (k n : ℕ) → k ≤ n → take {A = ℕ} k (replicate n 0) ≡ replicate k 0
-take-replicate zero n h = refl
-take-replicate (suc k) zero h = absurd (not-suc-le-zero h)
-take-replicate (suc k) (suc n) h = ap (λ (l : List ℕ). 0 ∷ l) (take-replicate k n (omega arith))
+use Rattle.ground.proofs.Lists.{take-replicate}
 
 -- a part of zero bytes
 pub zero-part : (k n : ℕ) → k ≤ n → take k (zeroBytes n) ≡ zeroBytes k
 unfolding zeroBytes
-zero-part k n h = take-replicate k n h
+zero-part k n h = take-replicate k n 0 h
 
 pub zero-length : (n : ℕ) → length (zeroBytes n) ≡ n
 unfolding zeroBytes
@@ -50,8 +46,8 @@ holding-length bytes text =
     rw (e, t, d) (min-sub (length bytes) (length text))
 
 -- the bytes that are told lie in the output
-pub text-counts : (bytes file : List ℕ) (t : Told) (out : List ℕ) → toldAs t out ≡ printed bytes file → Counts (t .text) out
-text-counts bytes file t out e =
+pub text-lies : (bytes file : List ℕ) (t : Told) (out : List ℕ) → toldAs t out ≡ printed bytes file → LiesIn (t .text) out
+text-lies bytes file t out e =
     let n : t .text ≡ min (length (printOf file)) (length bytes) = ap (λ (p : Printed). p .out .at) e in
     let l : length out ≡ length bytes = ap (λ (p : Printed). length (p .out .bytes)) e ∙ holding-length bytes (printOf file) in
     let h : t .text ≤ length out = rw (n, l) (min-le-right (length (printOf file)) (length bytes)) in

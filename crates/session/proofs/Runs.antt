@@ -8,18 +8,18 @@ use native.Mathlib.Numerals.{sub-one}
 use native.Mathlib.Omega.{arith}
 use lib.ListN.{length}
 use borrow.Author.Tests.{le-leb, lt-leb}
-use Rattle.registers.specs.State.{Machine}
+use Rattle.registers.specs.Machine.{Machine}
 use Rattle.card.specs.Access.{Access}
 use Rattle.card.specs.Step.{Stepped, play, step}
 use Rattle.records.specs.declared.Asked.{Asked}
-use Rattle.records.specs.declared.Turn.{Turn}
+use Rattle.records.specs.declared.After.{After}
 use Rattle.records.specs.declared.Break.{Break}
 use Rattle.session.specs.declared.Ending.{Ending}
 use Rattle.session.specs.declared.Ending.the-variants.{Whole, Broken}
-use Rattle.records.specs.Record.{recordAt, turnOf, sizeOf}
+use Rattle.records.specs.Record.{recordAt, afterOf, sizeOf}
 use Rattle.text.specs.Text.{bad}
 use Rattle.text.specs.Output.{Output, put}
-use Rattle.session.specs.Run.{Script, ends, asks, accessOf, scriptFrom, wrapped, lineOf, endText, Result, resultOf, shown}
+use Rattle.session.specs.Run.{Script, ends, asks, accessOf, scriptFrom, wrapped, lineText, endText, Result, resultOf, shown}
 use Rattle.text.proofs.Outputs.{put-then}
 
 -- the part's end, a broken record, an access
@@ -33,13 +33,13 @@ unfolding scriptFrom
 script-none zero part tuples at h = refl
 script-none (suc n) part tuples at h = absurd (not-suc-le-zero h)
 
-script-stop : (n : ℕ) (part tuples : List ℕ) (at : ℕ) (why : Break) → 0 < n → at < length part → turnOf (recordAt part at false) ≡ Turn.Stop why →
+script-stop : (n : ℕ) (part tuples : List ℕ) (at : ℕ) (why : Break) → 0 < n → at < length part → afterOf (recordAt part at false) ≡ After.Stop why →
     scriptFrom n part tuples at ≡ ends at (Broken why)
 unfolding scriptFrom
 script-stop zero part tuples at why h g e = absurd (not-suc-le-zero h)
 script-stop (suc n) part tuples at why h g e = simp (lt-leb _ _ g, e)
 
-script-access : (n : ℕ) (part tuples : List ℕ) (at : ℕ) (write : Bool) (q : Asked) → 0 < n → at < length part → turnOf (recordAt part at false) ≡ Turn.Access write q →
+script-access : (n : ℕ) (part tuples : List ℕ) (at : ℕ) (write : Bool) (q : Asked) → 0 < n → at < length part → afterOf (recordAt part at false) ≡ After.Access write q →
     scriptFrom n part tuples at ≡ asks (accessOf write q tuples) (scriptFrom (n - 1) part tuples (at + sizeOf write))
 unfolding scriptFrom
 script-access zero part tuples at write q h g e = absurd (not-suc-le-zero h)
@@ -55,7 +55,7 @@ unfolding resultOf play
 result-ends first number done m at e = let z : done + 0 ≡ done = omega arith in rw z
 
 result-asks : (first number done : ℕ) (m : Machine) (a : Access) (s : Script) →
-    resultOf first number done m (asks a s) ≡ ahead (lineOf number a (step m a .outcome)) (resultOf first (wrapped (number + 1)) (done + 1) (step m a .next) s)
+    resultOf first number done m (asks a s) ≡ ahead (lineText number a (step m a .outcome)) (resultOf first (wrapped (number + 1)) (done + 1) (step m a .next) s)
 unfolding resultOf play
 result-asks first number done m a s =
     let z : done + suc (length (s .accesses)) ≡ done + 1 + length (s .accesses) = omega arith in
@@ -78,14 +78,14 @@ pub lines-none : (o : Output) (first number done n at : ℕ) (part tuples : List
     shown o (resultOf first number done m (scriptFrom n part tuples at)) ≡ record { machine = m; place = wrapped (first + at); done = done; end = Whole; out = o }
 lines-none o first number done n at part tuples m h = lines-whole o first number done n at part tuples m (script-none n part tuples at h)
 
-pub lines-stop : (o : Output) (first number done n at : ℕ) (part tuples : List ℕ) (m : Machine) (why : Break) → 0 < n → at < length part → turnOf (recordAt part at false) ≡ Turn.Stop why →
+pub lines-stop : (o : Output) (first number done n at : ℕ) (part tuples : List ℕ) (m : Machine) (why : Break) → 0 < n → at < length part → afterOf (recordAt part at false) ≡ After.Stop why →
     shown o (resultOf first number done m (scriptFrom n part tuples at)) ≡ record { machine = m; place = wrapped (first + at); done = done; end = Broken why; out = put o (bad (wrapped (first + at))) }
 lines-stop o first number done n at part tuples m why h g e =
     ap (λ (s : Script). shown o (resultOf first number done m s)) (script-stop n part tuples at why h g e) ∙ ap (shown o) (result-ends first number done m at (Broken why))
 
 pub lines-turn : (o o′ : Output) (first number done n at : ℕ) (part tuples : List ℕ) (m : Machine) (write : Bool) (q : Asked) (s : Stepped) →
-    0 < n → at < length part → turnOf (recordAt part at false) ≡ Turn.Access write q → s ≡ step m (accessOf write q tuples) →
-    o′ ≡ put o (lineOf number (accessOf write q tuples) (s .outcome)) →
+    0 < n → at < length part → afterOf (recordAt part at false) ≡ After.Access write q → s ≡ step m (accessOf write q tuples) →
+    o′ ≡ put o (lineText number (accessOf write q tuples) (s .outcome)) →
     shown o′ (resultOf first (wrapped (number + 1)) (done + 1) (s .next) (scriptFrom (n - 1) part tuples (at + sizeOf write)))
     ≡ shown o (resultOf first number done m (scriptFrom n part tuples at))
 lines-turn o o′ first number done n at part tuples m write q s h g e f p =
@@ -93,7 +93,7 @@ lines-turn o o′ first number done n at part tuples m write q s h g e f p =
     let rest = scriptFrom (n - 1) part tuples (at + sizeOf write) in
     let after : Stepped → Result = λ (s : Stepped). resultOf first (wrapped (number + 1)) (done + 1) (s .next) rest in
     ap (λ (x : Output). shown x (after s)) p
-    ∙ ap (λ (s : Stepped). shown (put o (lineOf number a (s .outcome))) (after s)) f
-    ∙ sym (shown-ahead o (lineOf number a (step m a .outcome)) (after (step m a)))
+    ∙ ap (λ (s : Stepped). shown (put o (lineText number a (s .outcome))) (after s)) f
+    ∙ sym (shown-ahead o (lineText number a (step m a .outcome)) (after (step m a)))
     ∙ ap (shown o) (sym (result-asks first number done m a rest))
     ∙ ap (λ (s : Script). shown o (resultOf first number done m s)) (sym (script-access n part tuples at write q h g e))

@@ -57,13 +57,13 @@ unfoldable pub noTuples : List ℕ
 noTuples = replicate 256 0xFF
 
 -- "N at most 32"; "N above 32 counts as refusal 1"
-unfoldable pub begun : Sizes → List ℕ → Session
-begun s file =
+unfoldable pub opening : Sizes → List ℕ → Session
+opening s file =
     pick (ltb 32 (capacityOf (geometryOf s))) (stopped 0 (Unopened GeometryOrMode))
     (openedOn s file (zeroBytes (512 * capacityOf (geometryOf s))) (zeroBytes (capacityOf (geometryOf s))) noTuples)
 
 abbrev pub byFirst : First → List ℕ → Session
-byFirst (First.Opening s) file = begun s file
+byFirst (First.Opening s) file = opening s file
 byFirst (First.Stop why) file = stopped 0 (Broken why)
 
 -- "A longer file runs nothing and is broken at 32768"; "Broken: empty (place 0)"

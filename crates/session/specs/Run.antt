@@ -7,16 +7,16 @@ use lib.ListN.{length}
 use Rattle.ground.specs.Choice.{pick}
 use Rattle.answers.specs.Answers.{numberOf, outcomeNumber}
 use Rattle.answers.specs.declared.Outcome.{Outcome}
-use Rattle.registers.specs.State.{Machine}
+use Rattle.registers.specs.Machine.{Machine}
 use Rattle.card.specs.Access.{Access}
 use Rattle.card.specs.Step.{Stepped, Played, play}
 use Rattle.card.specs.Doors.{machineOf}
 use Rattle.records.specs.declared.Asked.{Asked}
-use Rattle.records.specs.declared.Turn.{Turn}
+use Rattle.records.specs.declared.After.{After}
 use Rattle.session.specs.declared.Ending.{Ending}
 use Rattle.session.specs.declared.Ending.the-variants.{Whole, Broken, Unopened}
 use Rattle.session.specs.declared.Ran.{Ran}
-use Rattle.records.specs.Record.{recordAt, turnOf, sizeOf}
+use Rattle.records.specs.Record.{recordAt, afterOf, sizeOf}
 use Rattle.text.specs.Text.{line, shownValue, bad, unopened}
 use Rattle.text.specs.Output.{Output, output, put, holding}
 
@@ -35,28 +35,28 @@ asks a s = record { accesses = a ∷ s .accesses; place = s .place; end = s .end
 abbrev pub accessOf : Bool → Asked → List ℕ → Access
 accessOf write a tuples = record { space = a .space; width = a .width; write = write; address = a .address; value = a .value; tuples = tuples }
 
-abbrev pub byTurn : Turn → (ℕ → Script) → List ℕ → ℕ → Script
-byTurn (Turn.Access write a) rest tuples at = asks (accessOf write a tuples) (rest (at + sizeOf write))
-byTurn (Turn.Stop why) rest tuples at = ends at (Broken why)
+abbrev pub byTurn : After → (ℕ → Script) → List ℕ → ℕ → Script
+byTurn (After.Access write a) rest tuples at = asks (accessOf write a tuples) (rest (at + sizeOf write))
+byTurn (After.Stop why) rest tuples at = ends at (Broken why)
 
 -- at most so many accesses, from a place on: "accesses before it stand", and nothing after it
 unfoldable pub scriptFrom : ℕ → List ℕ → List ℕ → ℕ → Script
 scriptFrom zero part tuples at = ends at Whole
 scriptFrom (suc most) part tuples at =
     pick (leb (length part) at) (ends at Whole)
-    (byTurn (turnOf (recordAt part at false)) (scriptFrom most part tuples) tuples at)
+    (byTurn (afterOf (recordAt part at false)) (scriptFrom most part tuples) tuples at)
 
 -- numbers and places have 64 bits
 abbrev pub wrapped : ℕ → ℕ
 wrapped n = n % 2 ^ 64
 
-abbrev pub lineOf : ℕ → Access → Outcome → List ℕ
-lineOf number a o = line number (a .write) (outcomeNumber o) (shownValue o (a .write) (a .value))
+abbrev pub lineText : ℕ → Access → Outcome → List ℕ
+lineText number a o = line number (a .write) (outcomeNumber o) (shownValue o (a .write) (a .value))
 
 abbrev pub linesOf : ℕ → List Access → List Stepped → List ℕ
 linesOf number [] steps = []
 linesOf number (a ∷ l) [] = []
-linesOf number (a ∷ l) (s ∷ steps) = lineOf number a (s .outcome) ++ linesOf (wrapped (number + 1)) l steps
+linesOf number (a ∷ l) (s ∷ steps) = lineText number a (s .outcome) ++ linesOf (wrapped (number + 1)) l steps
 
 -- "at a broken record `bad` and the place of its first byte"; "A refused opening prints `open` and the number"
 abbrev pub endText : Ending → ℕ → List ℕ

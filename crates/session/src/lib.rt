@@ -13,12 +13,6 @@ pub enum Ending {
     Unopened(Refusal),
 }
 
-// What rows 12, 2, 3 and 5 say of every access to a card with what is lent to it: no access changes it.
-pub enum Verdict {
-    Fit,
-    Refused(Refusal),
-}
-
 // What a run gives back: the card, the place reached, the accesses done, how it ended, and how much text the output holds.
 pub struct Ran {
     pub card: Card,

@@ -11,30 +11,30 @@ use records::First;
 use records::Sizes;
 ghost use mathlib.Core.Path.{_≡_};
 ghost use Rattle.session.specs.declared.Ending.the-variants.{Broken, Unopened};
-ghost use Rattle.text.specs.Output.{output, Counts};
-ghost use Rattle.session.specs.Play.{stopped, openedOn, zeroBytes, noTuples, begun, sessionOf, printedAt, printed, toldAs, endNumber};
+ghost use Rattle.text.specs.Output.{output, LiesIn};
+ghost use Rattle.session.specs.Play.{stopped, openedOn, zeroBytes, noTuples, opening, sessionOf, printedAt, printed, toldAs, endNumber};
 
 fn bad(out: &mut [u8], at: usize, place: u64, why: Break) -> Told
     ensures { λ r. ⌜ toldAs r (now (out .exit)) ≡ printedAt (output (now (out .entry)) at) (stopped place (Broken why)) ⌝ }
 {
-    let size = text::put_bad(out, at, place);
+    let next = text::put_bad(out, at, place);
     Told {
         place: place,
         done: 0,
         end: Ending::Broken(why),
-        text: size,
+        text: next,
     }
 }
 
 fn unopened(out: &mut [u8], at: usize, refusal: Refusal) -> Told
     ensures { λ r. ⌜ toldAs r (now (out .exit)) ≡ printedAt (output (now (out .entry)) at) (stopped 0 (Unopened refusal)) ⌝ }
 {
-    let size = text::put_unopened(out, at, refusal.number());
+    let next = text::put_unopened(out, at, refusal.number());
     Told {
         place: 0,
         done: 0,
         end: Ending::Unopened(refusal),
-        text: size,
+        text: next,
     }
 }
 
@@ -95,8 +95,8 @@ fn no_tuples() -> [u8; 256]
 }
 
 // 01: N at most 32.
-fn begun(sizes: Sizes, file: &[u8], out: &mut [u8], at: usize) -> Told
-    ensures { λ r. ⌜ toldAs r (now (out .exit)) ≡ printedAt (output (now (out .entry)) at) (begun sizes (now (file .entry))) ⌝ }
+fn opening(sizes: Sizes, file: &[u8], out: &mut [u8], at: usize) -> Told
+    ensures { λ r. ⌜ toldAs r (now (out .exit)) ≡ printedAt (output (now (out .entry)) at) (opening sizes (now (file .entry))) ⌝ }
 {
     let geometry = Geometry {
         cylinders: sizes.cylinders,
@@ -134,7 +134,7 @@ fn session(file: &[u8], out: &mut [u8], at: usize) -> Told
     }
     let record = records::first_record(file);
     match record.first() {
-        First::Opening(sizes) => begun(sizes, file, out, at),
+        First::Opening(sizes) => opening(sizes, file, out, at),
         First::Stop(why) => bad(out, at, 0, why),
     }
 }
@@ -142,7 +142,7 @@ fn session(file: &[u8], out: &mut [u8], at: usize) -> Told
 // Everything that is printed of any bytes.
 pub fn play(file: &[u8], out: &mut [u8]) -> Told
     ensures { λ r. ⌜ toldAs r (now (out .exit)) ≡ printed (now (out .entry)) (now (file .entry)) ⌝ }
-    ensures { λ r. ⌜ Counts (r .text) (now (out .exit)) ⌝ }
+    ensures { λ r. ⌜ LiesIn (r .text) (now (out .exit)) ⌝ }
 {
     let at = text::put_header(out, 0);
     session(file, out, at)

@@ -1,96 +1,31 @@
 // The run of a part of a file: its accesses in turn, and their lines.
 use super::Ending;
 use super::Ran;
-use super::Verdict;
 use answers::Outcome;
-use answers::Refusal;
 use card::Card;
-use card::Reply;
-use records::Asked;
-use records::Turn;
+use card::Verdict;
+use records::After;
 use registers::Core;
-use text::Four;
+use text::LineNumber;
 ghost use mathlib.Core.Path.{_≡_};
 ghost use Prim.Native.Nat.{_+_, _<_};
 ghost use lib.ListN.{length};
 ghost use Rattle.ground.specs.Choice.{pick};
-ghost use Rattle.registers.specs.State.{machine};
 ghost use Rattle.card.specs.Doors.{machineOf, cardOf};
-ghost use Rattle.card.specs.Step.{replied};
 ghost use Rattle.answers.specs.Answers.{outcomeNumber};
 ghost use Rattle.text.specs.Text.{line, shownValue};
-ghost use Rattle.text.specs.Digits.{fourOf};
+ghost use Rattle.text.specs.Digits.{lineNumber};
 ghost use Rattle.text.specs.Output.{output, put};
-ghost use Rattle.session.specs.Run.{accessOf, wrapped, scriptFrom, resultOf, shown, held, ranAs};
-ghost use Rattle.session.specs.Verdict.{verdictOf, byVerdict};
+ghost use Rattle.session.specs.Run.{wrapped, scriptFrom, resultOf, shown, held, ranAs};
+ghost use Rattle.card.specs.Verdict.{verdictOf};
 
-fn shown_value(write: bool, value: u16, read: u16) -> u16
+fn written_or_read(write: bool, value: u16, read: u16) -> u16
     ensures { λ r. ⌜ r ≡ pick write value read ⌝ }
 {
     if write {
         return value;
     }
     read
-}
-
-fn verdict_of(core: Core, store: &[u8], marks: &[u8], tuples: &[u8]) -> Verdict
-    ensures { λ r. ⌜ r ≡ verdictOf (core .phase) (core .state) (now (store .entry)) (now (marks .entry)) (now (tuples .entry)) ⌝ }
-{
-    let state = core.state;
-    let made = state.made;
-    let default = made.default;
-    let total = default.total() as usize;
-    if !core.well_made() {
-        return Verdict::Refused(Refusal::NotWellMade);
-    }
-    if store.len() != 512 * total {
-        return Verdict::Refused(Refusal::StoreLength);
-    }
-    if marks.len() != total {
-        return Verdict::Refused(Refusal::MarksLength);
-    }
-    if tuples.len() != 256 {
-        return Verdict::Refused(Refusal::TupleBufferLength);
-    }
-    Verdict::Fit
-}
-
-// One access: the one place of a run where the card's inner step is called.
-fn answer(
-    verdict: Verdict,
-    core: Core,
-    write: bool,
-    asked: Asked,
-    tuples: &[u8],
-    buffer: &mut [u8; 512],
-    store: &mut [u8],
-    marks: &mut [u8],
-) -> Reply
-    ensures { λ r. ⌜ replied r (now (buffer .exit)) (now (store .exit)) (now (marks .exit)) ≡ byVerdict verdict (machine core (now (buffer .entry)) (now (store .entry)) (now (marks .entry))) (accessOf write asked (now (tuples .entry))) ⌝ }
-{
-    match verdict {
-        Verdict::Fit => card::work(
-            core,
-            asked.space,
-            asked.width,
-            write,
-            asked.address,
-            asked.value,
-            tuples,
-            buffer,
-            store,
-            marks,
-        ),
-        Verdict::Refused(refusal) => {
-            let state = core.state;
-            let line = state.line();
-            Reply {
-                outcome: Outcome::Refused(refusal),
-                line: line,
-                core: core,
-            }
-        }
-    }
 }
 
 // A register is a byte.
@@ -130,22 +65,22 @@ fn ran(
 fn put_answer(
     out: &mut [u8],
     at: usize,
-    four: Four,
+    number: LineNumber,
     write: bool,
     value: u16,
     outcome: Outcome,
 ) -> usize
-    requires { ⌜ four ≡ fourOf (four .number) ⌝ }
-    ensures { λ r. ⌜ output (now (out .exit)) r ≡ put (output (now (out .entry)) at) (line (four .number) write (outcomeNumber outcome) (shownValue outcome write value)) ⌝ }
+    requires { ⌜ number ≡ lineNumber (number .value) ⌝ }
+    ensures { λ r. ⌜ output (now (out .exit)) r ≡ put (output (now (out .entry)) at) (line (number .value) write (outcomeNumber outcome) (shownValue outcome write value)) ⌝ }
 {
     match outcome {
         Outcome::Accepted(read) => {
-            let shown = shown_value(write, value, read);
-            text::put_accepted(out, at, four, write, shown)
+            let shown = written_or_read(write, value, read);
+            text::put_accepted(out, at, number, write, shown)
         }
         Outcome::Refused(refusal) => {
             let answer = refusal.number();
-            text::put_line(out, at, four, write, answer, 0)
+            text::put_line(out, at, number, write, answer, 0)
         }
     }
 }
@@ -175,7 +110,7 @@ fn lines(
         state: state,
     };
     let mut at = from;
-    let mut four = Four::of(number);
+    let mut counter = LineNumber::of(number);
     let mut done = 0;
     let mut text = start;
     let mut left = part.len();
@@ -184,20 +119,23 @@ fn lines(
             return ran(core, buffer, first, at, done, Ending::Whole, text);
         }
         let record = records::record_at(part, at, false);
-        match record.turn() {
-            Turn::Stop(why) => {
+        match record.after() {
+            After::Stop(why) => {
                 let place = std::num::wrapping_add_u64(first, at as u64);
-                let size = text::put_bad(out, text, place);
-                return ran(core, buffer, first, at, done, Ending::Broken(why), size);
+                let next = text::put_bad(out, text, place);
+                return ran(core, buffer, first, at, done, Ending::Broken(why), next);
             }
-            Turn::Access(write, asked) => {
-                ground::told(&buffer);
+            After::Access(write, asked) => {
+                ground::length_known(&buffer);
                 count_known(core);
-                let reply = answer(
+                let reply = card::by_verdict(
                     verdict,
                     core,
+                    asked.space,
+                    asked.width,
                     write,
-                    asked,
+                    asked.address,
+                    asked.value,
                     tuples,
                     &mut buffer,
                     store,
@@ -205,9 +143,9 @@ fn lines(
                 );
                 let outcome = reply.outcome;
                 let after = reply.core;
-                text = put_answer(out, text, four, write, asked.value, outcome);
+                text = put_answer(out, text, counter, write, asked.value, outcome);
                 core = after;
-                four = four.next();
+                counter = counter.next();
                 at += records::size_of(write) as usize;
                 done += 1;
                 left -= 1;
@@ -238,7 +176,7 @@ pub fn run_from(
         phase: phase,
         state: state,
     };
-    let verdict = verdict_of(core, store, marks, tuples);
+    let verdict = card::verdict_of(core, store, marks, tuples);
     lines(
         verdict,
         card,

@@ -1,4 +1,4 @@
--- The digits that are counted up are those of the number, and they print it.
+-- The digits that are digitsUp up are those of the number, and they print it.
 use Prim.Native.Nat.{ℕ, suc, _+_, _/_, _%_, _^_, _<_, _≤_}
 use mathlib.Core.Path.{_≡_, refl, sym, ap, _∙_}
 use mathlib.Core.List.{List, [], _∷_, _++_}
@@ -6,9 +6,9 @@ use native.Mathlib.Omega.{arith}
 use lib.Dec.{eqb, ltb}
 use borrow.Author.Tests.{ltb-true, ltb-false, eqb-true, eqb-false}
 use Rattle.ground.proofs.Picks.{pick-elim}
-use Rattle.text.specs.declared.Four.{Four}
+use Rattle.text.specs.declared.LineNumber.{LineNumber}
 use Rattle.text.specs.Text.{furtherDigits, lastDigits, decimal}
-use Rattle.text.specs.Digits.{fourOf, counted, fourAfter, fourText, numeral}
+use Rattle.text.specs.Digits.{lineNumber, digitsUp, nextNumber, shortNumeral, numeral}
 use Rattle.text.proofs.Texts.{digits-one, digits-more}
 
 -- a digit that has room, and a nine
@@ -19,19 +19,19 @@ carries : (n : ℕ) → 57 ≤ 48 + n % 10 → ((n + 1) / 10 ≡ n / 10 + 1) × 
 carries n h = (omega arith, omega arith)
 
 -- the same digits, one division after another
-abbrev byTens : ℕ → Four
-byTens n = record { number = n; thousands = 48 + n / 10 / 10 / 10 % 10; hundreds = 48 + n / 10 / 10 % 10; tens = 48 + n / 10 % 10; ones = 48 + n % 10 }
+abbrev byTens : ℕ → LineNumber
+byTens n = record { value = n; thousands = 48 + n / 10 / 10 / 10 % 10; hundreds = 48 + n / 10 / 10 % 10; tens = 48 + n / 10 % 10; ones = 48 + n % 10 }
 
-by-tens : (n : ℕ) → fourOf n ≡ byTens n
+by-tens : (n : ℕ) → lineNumber n ≡ byTens n
 by-tens n =
     let e : n / 100 ≡ n / 10 / 10 = omega arith in
     let f : n / 1000 ≡ n / 10 / 10 / 10 = omega arith in
     rw (e, f) refl
 
-tens-count : (n : ℕ) → byTens (n + 1) ≡ counted (byTens n) (n + 1)
-unfolding counted
+tens-count : (n : ℕ) → byTens (n + 1) ≡ digitsUp (byTens n) (n + 1)
+unfolding digitsUp
 tens-count n =
-    let Next : Four → Type 0 = λ (f : Four). byTens (n + 1) ≡ f in
+    let Next : LineNumber → Type 0 = λ (f : LineNumber). byTens (n + 1) ≡ f in
     pick-elim Next (ltb (48 + n % 10) 57) _ _
     (λ e. let a = stays n (ltb-true _ _ e) in rw (a .0, a .1) refl)
     (λ e. let a = carries n (ltb-false _ _ e) in
@@ -46,18 +46,18 @@ tens-count n =
     (λ h. let d = carries (n / 10 / 10 / 10) (ltb-false _ _ h) in rw (a .0, a .1, b .0, b .1, c .0, c .1, d .1) refl))))
 
 -- one up, with the carries
-pub counts : (n : ℕ) → fourOf (n + 1) ≡ counted (fourOf n) (n + 1)
-counts n = by-tens (n + 1) ∙ tens-count n ∙ ap (λ (f : Four). counted f (n + 1)) (sym (by-tens n))
+pub digits-up : (n : ℕ) → lineNumber (n + 1) ≡ digitsUp (lineNumber n) (n + 1)
+digits-up n = by-tens (n + 1) ∙ tens-count n ∙ ap (λ (f : LineNumber). digitsUp f (n + 1)) (sym (by-tens n))
 
 -- numbers of 64 bits go round
-pub counts-round : (n : ℕ) → n < 2 ^ 64 → fourOf ((n + 1) % 2 ^ 64) ≡ fourAfter (fourOf n)
-unfolding fourAfter
-counts-round n h =
-    pick-elim (λ (f : Four). fourOf ((n + 1) % 2 ^ 64) ≡ f) (eqb ((n + 1) % 2 ^ 64) 0) _ _
-    (λ e. ap fourOf (eqb-true _ _ e))
+pub next-number : (n : ℕ) → n < 2 ^ 64 → lineNumber ((n + 1) % 2 ^ 64) ≡ nextNumber (lineNumber n)
+unfolding nextNumber
+next-number n h =
+    pick-elim (λ (f : LineNumber). lineNumber ((n + 1) % 2 ^ 64) ≡ f) (eqb ((n + 1) % 2 ^ 64) 0) _ _
+    (λ e. ap lineNumber (eqb-true _ _ e))
     (λ e. let i : (n + 1) % 2 ^ 64 ≡ 0 → ⊥ = eqb-false _ _ e in
     let j : (n + 1) % 2 ^ 64 ≡ n + 1 = omega arith in
-    ap fourOf j ∙ counts n ∙ ap (counted (fourOf n)) (sym j))
+    ap lineNumber j ∙ digits-up n ∙ ap (digitsUp (lineNumber n)) (sym j))
 
 -- two, three and four digits
 two : (k n : ℕ) → 10 ≤ n → n < 100 → lastDigits (furtherDigits (suc k) n + 1) n ≡ (48 + n / 10 % 10) ∷ (48 + n % 10) ∷ []
@@ -75,8 +75,8 @@ all-four k n g h =
     let f : n / 10 / 100 ≡ n / 1000 = omega arith in
     digits-more (suc (suc k)) n (omega arith) ∙ ap (λ (l : List ℕ). l ++ ((48 + n % 10) ∷ [])) (rw (e, f) at (three k (n / 10) (omega arith) (omega arith)))
 
-short : (n : ℕ) → n < 10000 → fourText (fourOf n) ≡ decimal n
-unfolding fourText
+short : (n : ℕ) → n < 10000 → shortNumeral (lineNumber n) ≡ decimal n
+unfolding shortNumeral
 short n h =
     let Prints : List ℕ → Type 0 = λ (t : List ℕ). t ≡ decimal n in
     pick-elim Prints (eqb (48 + n / 1000 % 10) 48) _ _
@@ -90,6 +90,6 @@ short n h =
     (λ e. let a = eqb-false (48 + n / 1000 % 10) 48 e in sym (all-four 16 n (omega (arith, a)) h))
 
 -- a number's own digits print it
-pub numeral-of : (n : ℕ) → numeral (fourOf n) ≡ decimal n
+pub numeral-of : (n : ℕ) → numeral (lineNumber n) ≡ decimal n
 unfolding numeral
 numeral-of n = pick-elim (λ (t : List ℕ). t ≡ decimal n) (ltb n 10000) _ _ (λ e. short n (ltb-true _ _ e)) (λ e. refl)

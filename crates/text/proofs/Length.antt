@@ -7,9 +7,9 @@ use lib.Dec.{ltb}
 use lib.ListN.{length, length-append}
 use Rattle.ground.proofs.Picks.{pick-elim}
 use Rattle.answers.specs.declared.Refusal.{Refusal}
-use Rattle.answers.specs.declared.Refusal.the-variants.{GeometryOrMode, StoreLength, MarksLength, MarkAboveTwo, TupleBufferLength, NoRegister, SpaceSilent, HeldBySreset, WidthOrValue, IndexAboveThree, HalfMoved, NotWellMade, ChainBroken, TuplesTooLong, TupleBad, ListTooShort, SessionBroken}
 use Rattle.answers.specs.declared.Outcome.{Outcome}
 use Rattle.answers.specs.Answers.{numberOf, outcomeNumber}
+use Rattle.answers.proofs.Outcomes.{number-range}
 use Rattle.text.specs.Text.{furtherDigits, decimal, letter, hexFour, line, bad, unopened}
 use Rattle.text.proofs.Texts.{further-small, last-length}
 
@@ -28,49 +28,30 @@ more bound most w (suc k) n h =
     (λ e. omega arith)
     (λ e. let f = w k (n / 10) (omega arith) in omega arith)
 
-pub decimal-length : (n bound most : ℕ) → Within bound most → n < bound → length (decimal n) ≤ most + 1
+decimal-length : (n bound most : ℕ) → Within bound most → n < bound → length (decimal n) ≤ most + 1
 decimal-length n bound most w h =
     let e = last-length (furtherDigits 19 n + 1) n in
     let f = w 19 n h in
     omega arith
 
-pub two : Within 100 1
-two = more 10 0 ten
+two-digits : Within 100 1
+two-digits = more 10 0 ten
 
-pub four : Within 10000 3
-four = more 1000 2 (more 100 1 two)
+four-digits : Within 10000 3
+four-digits = more 1000 2 (more 100 1 two-digits)
 
-pub five : Within 100000 4
-five = more 10000 3 four
+five-digits : Within 100000 4
+five-digits = more 10000 3 four-digits
 
-pub number-below : (r : Refusal) → numberOf r < 100
-number-below GeometryOrMode = omega arith
-number-below StoreLength = omega arith
-number-below MarksLength = omega arith
-number-below MarkAboveTwo = omega arith
-number-below TupleBufferLength = omega arith
-number-below NoRegister = omega arith
-number-below SpaceSilent = omega arith
-number-below HeldBySreset = omega arith
-number-below WidthOrValue = omega arith
-number-below IndexAboveThree = omega arith
-number-below HalfMoved = omega arith
-number-below NotWellMade = omega arith
-number-below ChainBroken = omega arith
-number-below TuplesTooLong = omega arith
-number-below TupleBad = omega arith
-number-below ListTooShort = omega arith
-number-below SessionBroken = omega arith
-
-pub answer-below : (o : Outcome) → outcomeNumber o < 100
+answer-below : (o : Outcome) → outcomeNumber o < 100
 answer-below (Outcome.Accepted v) = omega arith
-answer-below (Outcome.Refused r) = number-below r
+answer-below (Outcome.Refused r) = omega (arith, number-range r)
 
 -- a line of a number below 10,000 has at most 15 bytes, `bad` with a place below 100,000 at most 10, `open` at most 8
 pub line-length : (number : ℕ) (write : Bool) (o : Outcome) (value : ℕ) → number < 10000 → length (line number write (outcomeNumber o) value) ≤ 15
 line-length number write o value h =
-    let d = decimal-length number 10000 3 four h in
-    let a = decimal-length (outcomeNumber o) 100 1 two (answer-below o) in
+    let d = decimal-length number 10000 3 four-digits h in
+    let a = decimal-length (outcomeNumber o) 100 1 two-digits (answer-below o) in
     rw (
       length-append (decimal number) (letter write ++ (decimal (outcomeNumber o) ++ ((32 ∷ []) ++ (hexFour value ++ (10 ∷ []))))),
       length-append (decimal (outcomeNumber o)) ((32 ∷ []) ++ (hexFour value ++ (10 ∷ []))),
@@ -79,12 +60,12 @@ line-length number write o value h =
 
 pub bad-length : (place : ℕ) → place < 100000 → length (bad place) ≤ 10
 bad-length place h =
-    let d = decimal-length place 100000 4 five h in
+    let d = decimal-length place 100000 4 five-digits h in
     let e = length-append (decimal place) (10 ∷ []) in
     omega arith
 
 pub unopened-length : (r : Refusal) → length (unopened (numberOf r)) ≤ 8
 unopened-length r =
-    let d = decimal-length (numberOf r) 100 1 two (number-below r) in
+    let d = decimal-length (numberOf r) 100 1 two-digits (omega (arith, number-range r)) in
     let e = length-append (decimal (numberOf r)) (10 ∷ []) in
     omega arith

@@ -25,9 +25,6 @@ wrote-then {b} {at} {s} {b′} {next} {t} {b″} {last} p q =
       place = let e = length-append s t in let f = p .place in let g = q .place in omega arith;
     }
 
-pub wrote-as : {b : List ℕ} {at : ℕ} {s : List ℕ} {t : List ℕ} {b′ : List ℕ} {next : ℕ} → s ≡ t → Wrote b at t b′ next → Wrote b at s b′ next
-wrote-as {b} {at} {s} {t} {b′} {next} e w = rw e w
-
 -- a byte that is written before the text in front of it
 pub written-set : (s b : List ℕ) (at k x : ℕ) → at + length s ≤ k → written (set b k x) at s ≡ set (written b at s) k x
 unfolding written

@@ -5,10 +5,8 @@ use mathlib.Core.List.{List, [], _∷_, _++_}
 use native.Mathlib.Nat.{not-suc-le-zero}
 use native.Mathlib.Numerals.{add-one, sub-one}
 use native.Mathlib.Omega.{arith}
-use lib.Dec.{ltb}
 use lib.ListN.{length, set, length-append}
 use borrow.Author.Tests.{lt-ltb, le-ltb}
-use Rattle.ground.proofs.Picks.{pick-elim}
 use Rattle.text.specs.Text.{furtherDigits, lastDigits}
 use Rattle.text.specs.Output.{written}
 use Rattle.text.proofs.Outputs.{written-last}
@@ -28,14 +26,6 @@ pub further-none : (k n : ℕ) → k ≤ 0 → furtherDigits k n ≡ 0
 unfolding furtherDigits
 further-none zero n h = refl
 further-none (suc k) n h = absurd (not-suc-le-zero h)
-
-pub further-bound : (k n : ℕ) → furtherDigits k n ≤ k
-unfolding furtherDigits
-further-bound zero n = omega arith
-further-bound (suc k) n =
-    pick-elim (λ (x : ℕ). x ≤ suc k) (ltb n 10) _ _
-    (λ e. omega arith)
-    (λ e. let h = further-bound k (n / 10) in omega arith)
 
 -- the last digits
 pub last-length : (k n : ℕ) → length (lastDigits k n) ≡ k

@@ -37,5 +37,5 @@ pub record Wrote (before : List ℕ) (at : ℕ) (text after : List ℕ) (next : 
   pub place : next ≡ at + length text
 
 -- a number of bytes at an output's start, as a caller needs it who takes them
-abbrev pub Counts : ℕ → List ℕ → Type 0
-Counts n bytes = (n ≤ length bytes) × (n ≡ length (take n bytes))
+abbrev pub LiesIn : ℕ → List ℕ → Type 0
+LiesIn n bytes = (n ≤ length bytes) × (n ≡ length (take n bytes))

@@ -6,24 +6,24 @@ ghost use lib.ListN.{length};
 ghost use lib.Dec.{leb};
 ghost use Rattle.ground.specs.Choice.{pick};
 ghost use Rattle.text.specs.Text.{digitCount, lastDigits, decimal, hexDigit, hexFour, letter, newline, lineBy, header, bad, unopened};
-ghost use Rattle.text.specs.Digits.{fourOf, fourAfter, fourText, numeral};
+ghost use Rattle.text.specs.Digits.{lineNumber, nextNumber, shortNumeral, numeral};
 ghost use Rattle.text.specs.Output.{output, putByte, put, written, Wrote};
 
-// A number with its last four digits as text: counting them up takes no division.
-pub struct Four {
-    pub number: u64,
+// A number with its last number digits as text: counting them up takes no division.
+pub struct LineNumber {
+    pub value: u64,
     pub thousands: u8,
     pub hundreds: u8,
     pub tens: u8,
     pub ones: u8,
 }
 
-impl Four {
-    pub fn of(n: u64) -> Four
-        ensures { λ r. ⌜ r ≡ fourOf n ⌝ }
+impl LineNumber {
+    pub fn of(n: u64) -> LineNumber
+        ensures { λ r. ⌜ r ≡ lineNumber n ⌝ }
     {
-        Four {
-            number: n,
+        LineNumber {
+            value: n,
             thousands: 48 + (n / 1000 % 10) as u8,
             hundreds: 48 + (n / 100 % 10) as u8,
             tens: 48 + (n / 10 % 10) as u8,
@@ -32,20 +32,20 @@ impl Four {
     }
 
     // The next number: a nine becomes a zero and carries, and past the last number comes 0.
-    pub fn next(mut self) -> Four
-        ensures { λ r. ⌜ r ≡ fourAfter self ⌝ }
+    pub fn next(mut self) -> LineNumber
+        ensures { λ r. ⌜ r ≡ nextNumber self ⌝ }
     {
-        let number = std::num::wrapping_add_u64(self.number, 1);
-        if number == 0 {
-            return Four {
-                number: 0,
+        let value = std::num::wrapping_add_u64(self.value, 1);
+        if value == 0 {
+            return LineNumber {
+                value: 0,
                 thousands: 48,
                 hundreds: 48,
                 tens: 48,
                 ones: 48,
             };
         }
-        self.number = number;
+        self.value = value;
         if self.ones < 57 {
             self.ones += 1;
             return self;
@@ -117,36 +117,36 @@ fn byte(out: &mut [u8], at: usize, b: u8) -> usize
 }
 
 // A short number's text: no zeros in front.
-fn four_text(out: &mut [u8], at: usize, four: Four) -> usize
+fn short_numeral(out: &mut [u8], at: usize, number: LineNumber) -> usize
     requires { ⌜ at + 4 ≤ length (now out) ⌝ }
-    ensures { λ r. ⌜ Wrote (now (out .entry)) at (fourText four) (now (out .exit)) r × (r ≤ at + 4) ⌝ }
+    ensures { λ r. ⌜ Wrote (now (out .entry)) at (shortNumeral number) (now (out .exit)) r × (r ≤ at + 4) ⌝ }
 {
-    if four.thousands != 48 {
-        let second = byte(out, at, four.thousands);
-        let third = byte(out, second, four.hundreds);
-        let last = byte(out, third, four.tens);
-        return byte(out, last, four.ones);
+    if number.thousands != 48 {
+        let second = byte(out, at, number.thousands);
+        let third = byte(out, second, number.hundreds);
+        let last = byte(out, third, number.tens);
+        return byte(out, last, number.ones);
     }
-    if four.hundreds != 48 {
-        let second = byte(out, at, four.hundreds);
-        let third = byte(out, second, four.tens);
-        return byte(out, third, four.ones);
+    if number.hundreds != 48 {
+        let second = byte(out, at, number.hundreds);
+        let third = byte(out, second, number.tens);
+        return byte(out, third, number.ones);
     }
-    if four.tens != 48 {
-        let second = byte(out, at, four.tens);
-        return byte(out, second, four.ones);
+    if number.tens != 48 {
+        let second = byte(out, at, number.tens);
+        return byte(out, second, number.ones);
     }
-    byte(out, at, four.ones)
+    byte(out, at, number.ones)
 }
 
-fn numeral(out: &mut [u8], at: usize, four: Four) -> usize
+fn numeral(out: &mut [u8], at: usize, number: LineNumber) -> usize
     requires { ⌜ at + 20 ≤ length (now out) ⌝ }
-    ensures { λ r. ⌜ Wrote (now (out .entry)) at (numeral four) (now (out .exit)) r × (r ≤ at + 20) ⌝ }
+    ensures { λ r. ⌜ Wrote (now (out .entry)) at (numeral number) (now (out .exit)) r × (r ≤ at + 20) ⌝ }
 {
-    if four.number < 10000 {
-        return four_text(out, at, four);
+    if number.value < 10000 {
+        return short_numeral(out, at, number);
     }
-    decimal(out, at, four.number)
+    decimal(out, at, number.value)
 }
 
 fn hex_digit(d: u16) -> u8
@@ -193,11 +193,11 @@ fn letter(out: &mut [u8], at: usize, write: bool) -> usize
 }
 
 // An access's line, where there is room for the longest.
-fn line(out: &mut [u8], at: usize, four: Four, write: bool, answer: u8, value: u16) -> usize
+fn line(out: &mut [u8], at: usize, number: LineNumber, write: bool, answer: u8, value: u16) -> usize
     requires { ⌜ at + 64 ≤ length (now out) ⌝ }
-    ensures { λ r. ⌜ Wrote (now (out .entry)) at (lineBy (numeral four) write answer value) (now (out .exit)) r × (r ≤ at + 64) ⌝ }
+    ensures { λ r. ⌜ Wrote (now (out .entry)) at (lineBy (numeral number) write answer value) (now (out .exit)) r × (r ≤ at + 64) ⌝ }
 {
-    let after_number = numeral(out, at, four);
+    let after_number = numeral(out, at, number);
     let after_letter = letter(out, after_number, write);
     let after_answer = decimal(out, after_letter, answer as u64);
     let after_blank = byte(out, after_answer, b' ');
@@ -206,11 +206,11 @@ fn line(out: &mut [u8], at: usize, four: Four, write: bool, answer: u8, value: u
 }
 
 // The same of an accepted access, whose answer is 0, with a short number.
-fn accepted_line(out: &mut [u8], at: usize, four: Four, write: bool, value: u16) -> usize
+fn accepted_line(out: &mut [u8], at: usize, number: LineNumber, write: bool, value: u16) -> usize
     requires { ⌜ at + 64 ≤ length (now out) ⌝ }
-    ensures { λ r. ⌜ Wrote (now (out .entry)) at (lineBy (fourText four) write 0 value) (now (out .exit)) r × (r ≤ at + 64) ⌝ }
+    ensures { λ r. ⌜ Wrote (now (out .entry)) at (lineBy (shortNumeral number) write 0 value) (now (out .exit)) r × (r ≤ at + 64) ⌝ }
 {
-    let after_number = four_text(out, at, four);
+    let after_number = short_numeral(out, at, number);
     let after_letter = letter(out, after_number, write);
     let after_answer = byte(out, after_letter, b'0');
     let after_blank = byte(out, after_answer, b' ');
@@ -255,28 +255,35 @@ fn roomy(size: usize, at: usize) -> bool
 }
 
 // An access's line, as far as the output goes.
-pub fn put_line(out: &mut [u8], at: usize, four: Four, write: bool, answer: u8, value: u16) -> usize
-    ensures { λ r. ⌜ output (now (out .exit)) r ≡ put (output (now (out .entry)) at) (lineBy (numeral four) write answer value) ⌝ }
+pub fn put_line(
+    out: &mut [u8],
+    at: usize,
+    number: LineNumber,
+    write: bool,
+    answer: u8,
+    value: u16,
+) -> usize
+    ensures { λ r. ⌜ output (now (out .exit)) r ≡ put (output (now (out .entry)) at) (lineBy (numeral number) write answer value) ⌝ }
 {
     if roomy(out.len(), at) {
-        return line(out, at, four, write, answer, value);
+        return line(out, at, number, write, answer, value);
     }
     let mut text = [0u8; 64];
-    let size = line(&mut text, 0, four, write, answer, value);
+    let size = line(&mut text, 0, number, write, answer, value);
     put(out, at, &text[..size])
 }
 
 // The line of an accepted access, as far as the output goes. A short number where there is room is the common case and goes straight to its place.
-pub fn put_accepted(out: &mut [u8], at: usize, four: Four, write: bool, value: u16) -> usize
-    ensures { λ r. ⌜ output (now (out .exit)) r ≡ put (output (now (out .entry)) at) (lineBy (numeral four) write 0 value) ⌝ }
+pub fn put_accepted(out: &mut [u8], at: usize, number: LineNumber, write: bool, value: u16) -> usize
+    ensures { λ r. ⌜ output (now (out .exit)) r ≡ put (output (now (out .entry)) at) (lineBy (numeral number) write 0 value) ⌝ }
 {
-    if 10000 <= four.number {
-        return put_line(out, at, four, write, 0, value);
+    if 10000 <= number.value {
+        return put_line(out, at, number, write, 0, value);
     }
     if roomy(out.len(), at) {
-        return accepted_line(out, at, four, write, value);
+        return accepted_line(out, at, number, write, value);
     }
-    put_line(out, at, four, write, 0, value)
+    put_line(out, at, number, write, 0, value)
 }
 
 // A number ends a line.

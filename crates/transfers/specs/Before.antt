@@ -8,7 +8,7 @@ use Rattle.geometry.specs.declared.Located.{Located}
 use Rattle.sectors.specs.Marks.{readable, writable}
 use Rattle.sectors.specs.Sectors.{stored}
 use Rattle.registers.specs.declared.State.{State}
-use Rattle.registers.specs.WellMade.{locatedIn}
+use Rattle.registers.specs.State.{locatedIn}
 use Rattle.transfers.specs.declared.End.{End}
 use Rattle.transfers.specs.declared.Tested.{Tested}
 use Rattle.transfers.specs.declared.Tested.the-variants.{Passes, Fails}

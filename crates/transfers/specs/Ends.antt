@@ -4,7 +4,8 @@ use mathlib.Core.Bool.{Bool}
 use Rattle.registers.specs.declared.Phase.the-variants.{Idle}
 use Rattle.registers.specs.declared.State.{State}
 use Rattle.registers.specs.declared.Core.{Core}
-use Rattle.registers.specs.State.{core, withStatus, withError, withCode, withMark}
+use Rattle.registers.specs.State.{withStatus, withError, withCode, withMark}
+use Rattle.registers.specs.Machine.{core}
 use Rattle.transfers.specs.declared.End.{End}
 use Rattle.transfers.specs.declared.End.the-variants.{Good, BadHeadOrSector, BadCylinder, BadLba, Unreadable, WriteFault, BadGeometry, NoSuchCommand}
 

@@ -14,7 +14,8 @@ use Rattle.registers.specs.declared.Phase.{Phase}
 use Rattle.registers.specs.declared.Phase.the-variants.{Idle, DataIn, DataOut}
 use Rattle.registers.specs.declared.State.{State}
 use Rattle.registers.specs.declared.Core.{Core}
-use Rattle.registers.specs.State.{Machine, machine, core, withCore, withStatus, withMark, withCount, withAddress}
+use Rattle.registers.specs.State.{withStatus, withMark, withCount, withAddress}
+use Rattle.registers.specs.Machine.{Machine, machine, core, withCore}
 use Rattle.transfers.specs.declared.End.the-variants.{Good}
 use Rattle.transfers.specs.declared.Tested.{Tested}
 use Rattle.transfers.specs.declared.Tested.the-variants.{Passes, Fails}
@@ -27,16 +28,21 @@ use Rattle.transfers.specs.Before.{addressTest, readTest, StoreTested, s
 abbrev pub idle : State → List ℕ → List ℕ → List ℕ → Machine
 idle s buffer store marks = machine (core Idle s) buffer store marks
 
-abbrev pub withState : State → Machine → Machine
-withState s m = idle s (m .buffer) (m .store) (m .marks)
+-- the machine with this state and no transfer
+abbrev pub idleWith : State → Machine → Machine
+idleWith s m = idle s (m .buffer) (m .store) (m .marks)
+
+-- the transfer is dropped
+abbrev pub dropped : Machine → Machine
+dropped m = idleWith (m .state) m
 
 -- "Interrupt mark: set when a read sector or buffer becomes ready, when a second or later write sector is asked for"
 abbrev pub markBegun : Way → Bool → Bool → Bool
 markBegun In first mark = true
 markBegun Out first mark = pick first mark true
 
-abbrev pub fresh : Load → Transfer
-fresh load = record { load = load; half = Nothing; words = 0 }
+abbrev pub newTransfer : Load → Transfer
+newTransfer load = record { load = load; half = Nothing; words = 0 }
 
 abbrev pub phaseOf : Way → Transfer → Phase
 phaseOf In t = DataIn t
@@ -44,13 +50,13 @@ phaseOf Out t = DataOut t
 
 -- a sector or the buffer is ready to be read, or asked for
 abbrev pub begun : Way → Load → Bool → State → Core
-begun way load first s = core (phaseOf way (fresh load)) (withMark (markBegun way first (s .mark)) (withStatus 0x58 s))
+begun way load first s = core (phaseOf way (newTransfer load)) (withMark (markBegun way first (s .mark)) (withStatus 0x58 s))
 
 -- a sector is done: Count holds those left, and the address goes on where one is left. So "on an error the registers name the failing sector and
 -- Count holds the sectors not done, modulo 256; those before it stay done. At a good end of a sector command Count is 0 and the address is the
 -- last sector's."
-unfoldable pub passed : ℕ → State → State
-passed left s = pick (eqb left 0) (withCount 0 s) (withCount (left % 256) (withAddress (nextOf (s .registers .address) (s .current)) s))
+unfoldable pub sectorDone : ℕ → State → State
+sectorDone left s = pick (eqb left 0) (withCount 0 s) (withCount (left % 256) (withAddress (nextOf (s .registers .address) (s .current)) s))
 
 -- ---- reading
 
@@ -66,8 +72,8 @@ readSector left m = readTested (readTest (m .state) (m .marks)) left m
 unfoldable pub nextRead : ℕ → Machine → Machine
 nextRead left m =
     pick (eqb left 0)
-    (withCore (ended Good (m .state .mark) (passed left (m .state))) m)
-    (readSector left (withState (passed left (m .state)) m))
+    (withCore (ended Good (m .state .mark) (sectorDone left (m .state))) m)
+    (readSector left (idleWith (sectorDone left (m .state)) m))
 
 abbrev pub loadRead : Load → Machine → Machine
 loadRead Buffer m = withCore (ended Good (m .state .mark) (m .state)) m
@@ -85,7 +91,7 @@ askSector left first s = askTested (addressTest s) left first s
 
 -- a sector is stored, and `left` are still to do
 unfoldable pub nextAsked : ℕ → State → Core
-nextAsked left s = pick (eqb left 0) (ended Good true (passed left s)) (askSector left false (passed left s))
+nextAsked left s = pick (eqb left 0) (ended Good true (sectorDone left s)) (askSector left false (sectorDone left s))
 
 abbrev pub coreWritten : Tested → ℕ → State → Core
 coreWritten (Passes spot) left s = nextAsked left s

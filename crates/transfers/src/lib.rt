@@ -9,10 +9,10 @@ use registers::State;
 use registers::Transfer;
 ghost use mathlib.Core.Path.{_≡_};
 ghost use Prim.Native.Nat.{_-_};
-ghost use Rattle.registers.specs.State.{machine};
+ghost use Rattle.registers.specs.Machine.{machine};
 ghost use Rattle.transfers.specs.Ends.{endStatus, endError, endCode, ended};
 ghost use Rattle.transfers.specs.Before.{addressTest, readTest, storeTest, storeTested, sectorStored};
-ghost use Rattle.transfers.specs.Steps.{idle, markBegun, phaseOf, begun, passed, readSector, nextRead, loadRead, askSector, nextAsked, loadWritten};
+ghost use Rattle.transfers.specs.Steps.{idle, markBegun, phaseOf, begun, sectorDone, readSector, nextRead, loadRead, askSector, nextAsked, loadWritten};
 
 // How a command ends: well, or by the test of the command table that failed.
 pub enum End {
@@ -109,12 +109,7 @@ pub fn ended(state: State, end: End, mark: bool) -> Core
 fn address_test(state: State) -> Tested
     ensures { λ r. ⌜ r ≡ addressTest state ⌝ }
 {
-    let registers = state.registers;
-    let address = registers.address;
-    let made = state.made;
-    let default = made.default;
-    let current = state.current;
-    match address.locate(current, default.total()) {
+    match state.located() {
         Located::Good(spot) => Tested::Passes(spot),
         Located::BadHeadOrSector => Tested::Fails(End::BadHeadOrSector),
         Located::BadCylinder => Tested::Fails(End::BadCylinder),
@@ -129,7 +124,7 @@ pub fn read_test(state: State, marks: &[u8]) -> Tested
     match address_test(state) {
         Tested::Passes(spot) => {
             let i = spot.index;
-            if sectors::readable(sectors::mark_at(marks, i)) {
+            if sectors::readable(ground::byte_or_zero(marks, i)) {
                 return Tested::Passes(spot);
             }
             Tested::Fails(End::Unreadable)
@@ -145,7 +140,7 @@ fn store_test(state: State, marks: &[u8]) -> Tested
     match address_test(state) {
         Tested::Passes(spot) => {
             let i = spot.index;
-            if sectors::writable(sectors::mark_at(marks, i)) {
+            if sectors::writable(ground::byte_or_zero(marks, i)) {
                 return Tested::Passes(spot);
             }
             Tested::Fails(End::WriteFault)
@@ -155,7 +150,7 @@ fn store_test(state: State, marks: &[u8]) -> Tested
 }
 
 // The sector is stored and its mark cleared, unless a test fails: for a write and for Erase.
-pub fn store_tested(state: State, bytes: &[u8; 512], store: &mut [u8], marks: &mut [u8]) -> Tested
+pub fn sector_stored(state: State, bytes: &[u8; 512], store: &mut [u8], marks: &mut [u8]) -> Tested
     ensures { λ r. ⌜ storeTested r (now (store .exit)) (now (marks .exit)) ≡ sectorStored state (now (bytes .entry)) (now (store .entry)) (now (marks .entry)) ⌝ }
 {
     match store_test(state, marks) {
@@ -193,7 +188,7 @@ fn phase_of(way: Way, transfer: Transfer) -> Phase
     }
 }
 
-// A sector or the buffer is ready to be read, or asked for.
+// A sector or the buffer is ready to be read, or asked for. `first` matters to a write alone: what is ready to be read always sets the mark.
 pub fn begun(state: State, way: Way, load: Load, first: bool) -> Core
     ensures { λ r. ⌜ r ≡ begun way load first state ⌝ }
 {
@@ -214,8 +209,8 @@ pub fn begun(state: State, way: Way, load: Load, first: bool) -> Core
 }
 
 // A sector is done, and `left` are still to do.
-pub fn passed(state: State, left: u16) -> State
-    ensures { λ r. ⌜ r ≡ passed left state ⌝ }
+pub fn sector_done(state: State, left: u16) -> State
+    ensures { λ r. ⌜ r ≡ sectorDone left state ⌝ }
 {
     let mut registers = state.registers;
     let mut s = state;
@@ -234,6 +229,7 @@ pub fn passed(state: State, left: u16) -> State
     s
 }
 
+// 0 left, which no well-made card has, counts as none more (D132).
 fn less_one(left: u16) -> u16
     ensures { λ r. ⌜ r ≡ left - 1 ⌝ }
 {
@@ -258,7 +254,7 @@ pub fn read_sector(
     match read_test(state, marks) {
         Tested::Passes(spot) => {
             let i = spot.index;
-            sectors::read_sector(buffer, store, i);
+            sectors::read_sector(store, i, buffer);
             begun(state, Way::In, Load::Sectors(left), true)
         }
         Tested::Fails(end) => ended(state, end, true),
@@ -268,7 +264,7 @@ pub fn read_sector(
 fn next_read(state: State, left: u16, buffer: &mut [u8; 512], store: &[u8], marks: &[u8]) -> Core
     ensures { λ r. ⌜ machine r (now (buffer .exit)) (now (store .entry)) (now (marks .entry)) ≡ nextRead left (idle state (now (buffer .entry)) (now (store .entry)) (now (marks .entry))) ⌝ }
 {
-    let next = passed(state, left);
+    let next = sector_done(state, left);
     if left == 0 {
         return ended(next, End::Good, state.mark);
     }
@@ -306,7 +302,7 @@ pub fn ask_sector(state: State, left: u16, first: bool) -> Core
 fn next_asked(state: State, left: u16) -> Core
     ensures { λ r. ⌜ r ≡ nextAsked left state ⌝ }
 {
-    let next = passed(state, left);
+    let next = sector_done(state, left);
     if left == 0 {
         return ended(next, End::Good, true);
     }
@@ -325,7 +321,7 @@ pub fn load_written(
 {
     match load {
         Load::Buffer => ended(state, End::Good, true),
-        Load::Sectors(left) => match store_tested(state, buffer, store, marks) {
+        Load::Sectors(left) => match sector_stored(state, buffer, store, marks) {
             Tested::Passes(_) => next_asked(state, less_one(left)),
             Tested::Fails(end) => ended(state, end, true),
         },

@@ -9,18 +9,18 @@ use card::Card;
 // The A line.
 fn answer_line(answer: Answer) {
     let outcome = answer.outcome;
-    let mut numbers = trial_cards::row(answer.card);
+    let mut numbers = trial_cards::row_of(answer.card);
     numbers[0] = ground::wide(outcome.number());
     numbers[1] = outcome.value();
-    numbers[2] = trial_cards::one(answer.line);
+    numbers[2] = trial_cards::one_of(answer.line);
     lines::line(
         b"A 10 3210 0 10 10 10 10 10 10 10 10 10 10 0 3210 3210 3210 0 0 3210 3210\n",
         &numbers,
     );
 }
 
-fn open(w: Words, chain: &[u8], store: &[u8], marks: &[u8]) -> Card {
-    let answer = Card::open(w.w1, w.w2, w.w3, w.w4, store, marks, chain);
+fn open(w: Words, tuples: &[u8], store: &[u8], marks: &[u8]) -> Card {
+    let answer = Card::open(w.w1, w.w2, w.w3, w.w4, store, marks, tuples);
     answer_line(answer);
     answer.card
 }
@@ -32,15 +32,16 @@ fn access(
     write: bool,
     address: u16,
     value: u16,
-    chain: &[u8],
+    tuples: &[u8],
     store: &mut [u8],
     marks: &mut [u8],
 ) -> Card {
-    let answer = card.access(space, width, write, address, value, chain, store, marks);
+    let answer = card.access(space, width, write, address, value, tuples, store, marks);
     answer_line(answer);
     answer.card
 }
 
+// An access is done once at least, and 256 times at most.
 fn times(asked: u16) -> u16 {
     if asked == 0 {
         return 1;
@@ -59,7 +60,7 @@ fn next_value(value: u16, width: u8, step: u16) -> u16 {
     next % 256
 }
 
-fn accesses(card: Card, w: Words, chain: &[u8], store: &mut [u8], marks: &mut [u8]) -> Card {
+fn accesses(card: Card, w: Words, tuples: &[u8], store: &mut [u8], marks: &mut [u8]) -> Card {
     let space = low(w.w1);
     let width = low(w.w2);
     let n = times(w.w6);
@@ -67,43 +68,54 @@ fn accesses(card: Card, w: Words, chain: &[u8], store: &mut [u8], marks: &mut [u
     let mut value = w.w5;
     let mut i: u16 = 0;
     while i < n {
-        c = access(c, space, width, w.w3 != 0, w.w4, value, chain, store, marks);
+        c = access(
+            c,
+            space,
+            width,
+            w.w3 != 0,
+            w.w4,
+            value,
+            tuples,
+            store,
+            marks,
+        );
         value = next_value(value, width, w.w7);
         i += 1;
     }
     c
 }
 
+// The buffer comes by value, and a sum is of lent bytes.
 fn sum_of(buffer: [u8; 512]) -> u16 {
     bytes::sum(&buffer)
 }
 
 // The S line and the M line.
-fn show(buffer: [u8; 512], chain: &[u8], store: &[u8], marks: &[u8]) {
-    let numbers = [bytes::sum(store), sum_of(buffer), bytes::sum(chain)];
+fn show(buffer: [u8; 512], tuples: &[u8], store: &[u8], marks: &[u8]) {
+    let numbers = [bytes::sum(store), sum_of(buffer), bytes::sum(tuples)];
     lines::line(b"S 3210 3210 3210\n", &numbers);
     lines::bytes_line(b"M ", marks);
 }
 
 // Kinds 1 and 12, which change no row.
-fn opened(card: Card, w: Words, chain: &[u8], store: &[u8], marks: &[u8]) -> Card {
+fn opened(card: Card, w: Words, tuples: &[u8], store: &[u8], marks: &[u8]) -> Card {
     if w.w0 == 1 {
-        return open(w, chain, store, marks);
+        return open(w, tuples, store, marks);
     }
     let buffer = card.buffer;
-    show(buffer, chain, store, marks);
+    show(buffer, tuples, store, marks);
     card
 }
 
 pub(crate) fn record(
     card: Card,
     w: Words,
-    chain: &[u8],
+    tuples: &[u8],
     store: &mut [u8],
     marks: &mut [u8],
 ) -> Card {
     if w.w0 == 3 {
-        return accesses(card, w, chain, store, marks);
+        return accesses(card, w, tuples, store, marks);
     }
-    opened(card, w, chain, store, marks)
+    opened(card, w, tuples, store, marks)
 }

@@ -27,48 +27,48 @@ fn entry_line(e: Entry) {
 }
 
 // The places that are shown: the entries, and two more.
-fn shown(entries: u16) -> usize {
+fn places_shown(entries: u16) -> usize {
     if entries < 254 {
         return entries as usize + 2;
     }
     256
 }
 
-fn read(w: Words, chain: &[u8]) {
+fn read(w: Words, buffer: &[u8]) {
     let places = w.w1 as usize;
     let held = entry(w);
-    let first = tuples::read_held(chain, places, held, 0);
+    let first = tuples::read_held(buffer, places, held, 0);
     let outcome = first.outcome;
     outcome_line(b"R 10 3210\n", outcome, 0);
-    let n = shown(outcome.value());
+    let n = places_shown(outcome.value());
     let mut i: usize = 0;
     while i < n {
-        let h = tuples::read_held(chain, places, held, i);
+        let h = tuples::read_held(buffer, places, held, i);
         entry_line(h.entry);
         i += 1;
     }
 }
 
-fn written(w: Words, last: Entry, bodies: &[u8], chain: &mut [u8]) -> Outcome {
+fn written(w: Words, last: Entry, bodies: &[u8], buffer: &mut [u8]) -> Outcome {
     if w.w0 == 7 {
-        return tuples::write_made(entry(w), last, w.w1 as usize, bodies, chain);
+        return tuples::write_made(entry(w), last, w.w1 as usize, bodies, buffer);
     }
-    tuples::write_back(bodies, chain)
+    tuples::write_back(bodies, buffer)
 }
 
 // The W line and the T line.
-fn written_lines(outcome: Outcome, chain: &[u8]) {
-    outcome_line(b"W 10 3210 3210\n", outcome, bytes::sum(chain));
-    lines::bytes_line(b"T ", chain);
+fn written_lines(outcome: Outcome, buffer: &[u8]) {
+    outcome_line(b"W 10 3210 3210\n", outcome, bytes::sum(buffer));
+    lines::bytes_line(b"T ", buffer);
 }
 
-pub(crate) fn record(w: Words, last: Entry, bodies: &[u8], chain: &mut [u8]) {
+pub(crate) fn record(w: Words, last: Entry, bodies: &[u8], buffer: &mut [u8]) {
     if w.w0 == 6 {
-        read(w, chain);
+        read(w, buffer);
         return;
     }
     if w.w0 == 7 || w.w0 == 14 {
-        let outcome = written(w, last, bodies, chain);
-        written_lines(outcome, chain);
+        let outcome = written(w, last, bodies, buffer);
+        written_lines(outcome, buffer);
     }
 }

@@ -31,10 +31,11 @@ struct Side {
 // The rows of bytes, but for the store.
 struct Rows {
     marks: [u8; 1024],
-    chain: [u8; 512],
+    tuples: [u8; 512],
     bodies: [u8; 1024],
 }
 
+// The card and the rows, kept from record to record.
 struct Held {
     card: Card,
     rows: Rows,
@@ -46,7 +47,7 @@ fn start() -> Held {
         card: card,
         rows: Rows {
             marks: [0; 1024],
-            chain: [0xFF; 512],
+            tuples: [0xFF; 512],
             bodies: [0; 1024],
         },
     }
@@ -104,10 +105,10 @@ fn row_record(rows: Rows, w: Words) -> Rows {
         return marked(rows, w.w1 as usize, low(w.w2));
     }
     if w.w0 == 9 {
-        let mut chain = rows.chain;
-        bytes::put(&mut chain, w);
+        let mut tuples = rows.tuples;
+        bytes::put(&mut tuples, w);
         return Rows {
-            chain: chain,
+            tuples: tuples,
             ..rows
         };
     }
@@ -125,7 +126,7 @@ fn row_record(rows: Rows, w: Words) -> Rows {
 // Kinds 4 and 13.
 fn card_record(card: Card, w: Words) -> Card {
     if w.w0 == 4 {
-        return trial_cards::broken(card, w.w1, w.w2);
+        return trial_cards::broken_of(card, w.w1, w.w2);
     }
     if w.w0 == 13 {
         let mut buffer = card.buffer;
@@ -143,24 +144,24 @@ fn list_record(rows: Rows, side: Side, w: Words) -> Rows {
     let lent = side.lent;
     let last = side.last;
     let bodies = rows.bodies;
-    let mut chain = rows.chain;
+    let mut tuples = rows.tuples;
     let b = io::count(lent.bodies as isize, &bodies);
-    let t = io::count(lent.tuples as isize, &chain);
-    lists::record(w, last, &bodies[..b], &mut chain[..t]);
+    let t = io::count(lent.tuples as isize, &tuples);
+    lists::record(w, last, &bodies[..b], &mut tuples[..t]);
     Rows {
-        chain: chain,
+        tuples: tuples,
         ..rows
     }
 }
 
 // Kinds 1, 3 and 12.
 fn door_record(card: Card, rows: Rows, lent: Lengths, w: Words, store: &mut [u8]) -> Held {
-    let chain = rows.chain;
+    let tuples = rows.tuples;
     let mut marks = rows.marks;
-    let t = io::count(lent.tuples as isize, &chain);
+    let t = io::count(lent.tuples as isize, &tuples);
     let m = io::count(lent.marks as isize, &marks);
     let s = io::count(lent.store as isize, store);
-    let next = doors::record(card, w, &chain[..t], &mut store[..s], &mut marks[..m]);
+    let next = doors::record(card, w, &tuples[..t], &mut store[..s], &mut marks[..m]);
     Held {
         card: next,
         rows: Rows {

@@ -1,13 +1,10 @@
--- The card value as a row of 30 numbers, and a card of such a row: 0 to 2 are for an answer, 3 to 20 are the card's as the A line of oracle/TRIAL.md shows them, the rest are what it does not show.
-use Prim.Native.Nat.{ℕ, _+_, _*_, _/_, _%_}
-use mathlib.Core.Bool.{Bool, true, false}
+-- A card of a row of 30 numbers (Rows.antt), and a card with one field set.
+use Prim.Native.Nat.{ℕ, _+_, _*_, _%_}
+use mathlib.Core.Bool.{Bool, true}
 use mathlib.Core.List.{List, [], _∷_}
 use lib.Dec.{eqb, ltb}
-use lib.ListN.{getD, set, replicate}
+use lib.ListN.{getD, set}
 use Rattle.ground.specs.Choice.{pick}
-use Rattle.maps.specs.declared.Mode.{Mode}
-use Rattle.maps.specs.declared.Mode.the-variants.{PcCard, TrueIde}
-use Rattle.registers.specs.declared.Control.{Control}
 use Rattle.registers.specs.declared.Half.{Half}
 use Rattle.registers.specs.declared.Half.the-variants.{Nothing, Low, High}
 use Rattle.registers.specs.declared.Load.{Load}
@@ -19,63 +16,8 @@ use Rattle.registers.specs.declared.Registers.{Registers}
 use Rattle.registers.specs.declared.State.{State}
 use Rattle.registers.specs.declared.Transfer.{Transfer}
 use Rattle.card.specs.declared.Card.{Card}
-
--- ---- from the card
-
-abbrev pub oneOf : Bool → ℕ
-oneOf true = 1
-oneOf false = 0
-
-abbrev pub modeNumber : Mode → ℕ
-modeNumber PcCard = 0
-modeNumber TrueIde = 1
-
-abbrev pub halfNumber : Half → ℕ
-halfNumber Nothing = 0
-halfNumber Low = 1
-halfNumber High = 2
-
-abbrev pub withRegisters : List ℕ → Registers → List ℕ
-withRegisters l r =
-    set (set (set (set (set (set (set l 3 (r .status)) 4 (r .error)) 5 (r .count)) 6 (r .address .sector)) 7 (r .address .low)) 8 (r .address .high)) 9 (r .address .head)
-
--- Configuration Option and its two parts, Device Control and its two bits
-abbrev pub withOption : List ℕ → ℕ → Control → List ℕ
-withOption l o k =
-    set (set (set (set (set (set l 10 o) 11 (4 * oneOf (k .held) + 2 * oneOf (k .masked))) 26 (o % 128)) 27 (o / 128)) 28 (oneOf (k .held))) 29 (oneOf (k .masked))
-
-abbrev pub withMade : List ℕ → Made → List ℕ
-withMade l m =
-    set (set (set (set l 21 (m .default .cylinders)) 22 (m .default .heads)) 23 (m .default .sectors)) 24 (modeNumber (m .mode))
-
-abbrev pub stateRow : State → List ℕ
-stateRow s =
-    withOption
-    (withRegisters
-    (set (set (set (set (set (withMade (replicate 30 0) (s .made)) 12 (s .code)) 13 (oneOf (s .mark))) 14 (s .current .cylinders)) 15 (s .current .heads)) 16 (s .current .sectors))
-    (s .registers))
-    (s .option)
-    (s .control)
-
-abbrev pub withLoad : List ℕ → Load → List ℕ
-withLoad l (Sectors left) = set (set l 20 left) 25 1
-withLoad l Buffer = l
-
-abbrev pub withTransfer : List ℕ → ℕ → Transfer → List ℕ
-withTransfer l phase t = withLoad (set (set (set l 17 phase) 18 (halfNumber (t .half))) 19 (t .words)) (t .load)
-
-abbrev pub withPhase : List ℕ → Phase → List ℕ
-withPhase l Idle = l
-withPhase l (DataIn t) = withTransfer l 1 t
-withPhase l (DataOut t) = withTransfer l 2 t
-
-unfoldable pub rowOf : Card → List ℕ
-rowOf c = withPhase (stateRow (c .state)) (c .phase)
-
--- ---- and back
-
-abbrev pub modeOf : ℕ → Mode
-modeOf n = pick (eqb n 0) PcCard TrueIde
+use Rattle.card.specs.Opening.{modeOf}
+use Rattle.trial_cards.specs.Rows.{rowOf}
 
 abbrev pub halfOf : ℕ → Half
 halfOf n = pick (eqb n 0) Nothing (pick (eqb n 1) Low High)
@@ -116,11 +58,8 @@ phaseWith n t = pick (eqb n 0) Idle (pick (eqb n 1) (DataIn t) (DataOut t))
 abbrev pub phaseOf : List ℕ → Phase
 phaseOf l = phaseWith (getD l 17 0) (transferOf l)
 
-unfoldable pub cardOf : List ℕ → List ℕ → Card
-cardOf l buffer = record { phase = phaseOf l; state = stateOf l; buffer = buffer }
-
-unfoldable pub zeroCard : Card
-zeroCard = cardOf (replicate 30 0) (replicate 512 0)
+unfoldable pub cardFromRow : List ℕ → List ℕ → Card
+cardFromRow l buffer = record { phase = phaseOf l; state = stateOf l; buffer = buffer }
 
 -- ---- kind 4
 
@@ -141,4 +80,4 @@ abbrev pub withNumber : List ℕ → ℕ → ℕ → List ℕ
 withNumber l at value = pick (ltb at 30) (set l at value) l
 
 unfoldable pub brokenOf : Card → ℕ → ℕ → Card
-brokenOf c field value = cardOf (withNumber (rowOf c) (placeOf field value) value) (c .buffer)
+brokenOf c field value = cardFromRow (withNumber (rowOf c) (placeOf field value) value) (c .buffer)

@@ -13,11 +13,13 @@ use registers::State;
 use registers::Transfer;
 ghost use Prim.Native.Nat.{_<_};
 ghost use mathlib.Core.Path.{_≡_};
-ghost use Rattle.trial_cards.specs.Cards.{oneOf, modeNumber, withRegisters, withOption, withMade, stateRow, halfNumber, withLoad, withTransfer, withPhase, rowOf, modeOf, madeOf, registersOf, stateOf, halfOf, loadOf, phaseWith, phaseOf, takenOf, placeOf, cardOf, brokenOf, zeroCard, withNumber};
+ghost use Rattle.trial_cards.specs.Cards.{madeOf, registersOf, stateOf, halfOf, loadOf, phaseWith, phaseOf, takenOf, placeOf, cardFromRow, brokenOf, withNumber};
+ghost use Rattle.trial_cards.specs.Rows.{oneOf, modeNumber, withRegisters, withOption, withMade, stateRow, halfNumber, withLoad, withTransfer, withPhase, rowOf};
+ghost use Rattle.card.specs.Opening.{zeroCard};
 
 // ---- from the card
 
-pub fn one(flag: bool) -> u16
+pub fn one_of(flag: bool) -> u16
     ensures { λ r. ⌜ (r ≡ oneOf flag) × (r < 2) ⌝ }
 {
     if flag {
@@ -53,8 +55,8 @@ fn with_registers(row: [u16; 30], registers: Registers) -> [u16; 30]
 fn with_option(row: [u16; 30], option: u8, control: Control) -> [u16; 30]
     ensures { λ r. ⌜ r ≡ withOption row option control ⌝ }
 {
-    let held = one(control.held);
-    let masked = one(control.masked);
+    let held = one_of(control.held);
+    let masked = one_of(control.masked);
     let mut r = row;
     r[10] = option as u16;
     r[11] = 4 * held + 2 * masked;
@@ -84,7 +86,7 @@ fn state_row(state: State) -> [u16; 30]
     let current = state.current;
     let mut r = with_made([0; 30], state.made);
     r[12] = ground::wide(state.code);
-    r[13] = one(state.mark);
+    r[13] = one_of(state.mark);
     r[14] = current.cylinders;
     r[15] = current.heads;
     r[16] = current.sectors;
@@ -141,7 +143,7 @@ fn with_phase(row: [u16; 30], phase: Phase) -> [u16; 30]
     }
 }
 
-pub fn row(card: Card) -> [u16; 30]
+pub fn row_of(card: Card) -> [u16; 30]
     ensures { λ r. ⌜ r ≡ rowOf card ⌝ }
 {
     let state = card.state;
@@ -151,20 +153,11 @@ pub fn row(card: Card) -> [u16; 30]
 
 // ---- and back
 
-fn mode_of(n: u16) -> Mode
-    ensures { λ r. ⌜ r ≡ modeOf n ⌝ }
-{
-    if n == 0 {
-        return Mode::PcCard;
-    }
-    Mode::TrueIde
-}
-
 fn made_of(row: [u16; 30]) -> Made
     ensures { λ r. ⌜ r ≡ madeOf row ⌝ }
 {
     Made {
-        mode: mode_of(row[24]),
+        mode: card::opening::mode_of(row[24]),
         default: Geometry {
             cylinders: row[21],
             heads: row[22],
@@ -257,7 +250,7 @@ fn phase_of(row: [u16; 30]) -> Phase
 // ---- kind 4
 
 // A half word and a phase are at most 2, a mode and what a transfer moves at most 1.
-fn taken(field: u16, value: u16) -> bool
+fn taken_of(field: u16, value: u16) -> bool
     ensures { λ r. ⌜ r ≡ takenOf field value ⌝ }
 {
     if field == 20 {
@@ -276,10 +269,10 @@ fn taken(field: u16, value: u16) -> bool
 }
 
 // Where the row has a field; 0, which is not the card's, if nothing is to be done.
-fn place(field: u16, value: u16) -> usize
+fn place_of(field: u16, value: u16) -> usize
     ensures { λ r. ⌜ r ≡ placeOf field value ⌝ }
 {
-    if taken(field, value) {
+    if taken_of(field, value) {
         return ground::byte_or_zero(
             b"\x00\x15\x16\x17\x0E\x0F\x10\x1A\x1B\x1C\x1D\x0D\x03\x04\x05\x06\x07\x08\x09\x0C\x12\x13\x14\x18\x11\x19",
             field as usize,
@@ -298,8 +291,8 @@ fn with_number(row: [u16; 30], at: usize, value: u16) -> [u16; 30]
     r
 }
 
-fn card_of(row: [u16; 30], buffer: [u8; 512]) -> Card
-    ensures { λ r. ⌜ r ≡ cardOf row buffer ⌝ }
+fn card_from_row(row: [u16; 30], buffer: [u8; 512]) -> Card
+    ensures { λ r. ⌜ r ≡ cardFromRow row buffer ⌝ }
 {
     let phase = phase_of(row);
     let state = state_of(row);
@@ -310,16 +303,19 @@ fn card_of(row: [u16; 30], buffer: [u8; 512]) -> Card
     }
 }
 
-pub fn broken(card: Card, field: u16, value: u16) -> Card
+pub fn broken_of(card: Card, field: u16, value: u16) -> Card
     ensures { λ r. ⌜ r ≡ brokenOf card field value ⌝ }
 {
     let buffer = card.buffer;
-    card_of(with_number(row(card), place(field, value), value), buffer)
+    card_from_row(
+        with_number(row_of(card), place_of(field, value), value),
+        buffer,
+    )
 }
 
 // The all-zero card.
 pub fn zero() -> Card
     ensures { λ r. ⌜ r ≡ zeroCard ⌝ }
 {
-    card_of([0; 30], [0; 512])
+    card_from_row([0; 30], [0; 512])
 }

@@ -47,7 +47,7 @@ fn page(given: &[u8], rest: u8) -> [u8; 256] {
     p
 }
 
-fn wide(x: u8) -> u64 {
+fn as_u64(x: u8) -> u64 {
     x as u64
 }
 
@@ -59,9 +59,9 @@ fn bytes(b: &[u8]) {
     while i < b.len() {
         if i < 16 {
             text(b" ");
-            io::print_hex(1, wide(b[i]), 2);
+            io::print_hex(1, as_u64(b[i]), 2);
         }
-        sum = std::num::wrapping_add_u64(sum, wide(b[i]));
+        sum = std::num::wrapping_add_u64(sum, as_u64(b[i]));
         i += 1;
     }
     number(sum);

@@ -22,6 +22,7 @@ use Rattle.tuples.specs.Read.{counted, readOutcome, filled, unlessRefuse
 use Rattle.tuples.specs.declared.Entry.{Entry}
 use Rattle.tuples.proofs.Chains.{yes-no}
 use Rattle.tuples.proofs.Filling.{all}
+use Rattle.answers.proofs.Outcomes.{accepts-not}
 
 -- ---- how many entries a chain has room for
 abbrev Room : ℕ → ℕ → Chain → Type 0
@@ -51,11 +52,8 @@ pub record Bounds (s : List ℕ) (ls : List Entry) (o : Outcome) : Type 0 where
   pub few : (n : ℕ) → o ≡ Accepted n → (n ≡ length (all s)) × (length (all s) ≤ 127)
   pub left : take (outcomeValue o) (all s) ++ drop (outcomeValue o) ls ≡ unlessRefused o (filled (all s) ls) ls
 
-pub not-both : {A : Type 0} (x : Refusal) (n : ℕ) → Refused x ≡ Accepted n → A
-not-both x n p = let z : _≡_ {A = ℕ} 0 1 = cc in let k : ⊥ = omega arith in absurd k
-
 of-none : (s : List ℕ) (ls : List Entry) (x : Refusal) → Bounds s ls (Refused x)
-of-none s ls x = record { in-es = omega arith; in-ls = omega arith; sized = λ p. let z : ⊥ = omega arith in absurd z; few = λ n p. not-both x n p; left = refl }
+of-none s ls x = record { in-es = omega arith; in-ls = omega arith; sized = λ p. let z : ⊥ = omega arith in absurd z; few = λ n p. accepts-not n x (sym p); left = refl }
 
 by-end : (s : List ℕ) (ls : List Entry) → length s ≡ 256 → 127 ≤ length ls → (t : Bool) → chainAt s 0 .ended ≡ t → Bounds s ls (pick t (Accepted (length (all s))) (Refused ChainBroken))
 by-end s ls h l true e =

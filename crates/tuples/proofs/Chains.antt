@@ -8,16 +8,17 @@ use mathlib.Core.List.{List, _∷_, []}
 use Prim.Native.Nat.{ℕ, zero, suc, _+_, _<_, _≤_}
 use native.Mathlib.Omega.{arith}
 use native.Mathlib.Nat.{add-zero}
-use native.Mathlib.Numerals.{add-one}
 use lib.ListN.{length, getD, drop, drop-of-length-le, length-drop}
 use lib.Seq.{drop-cons, drop-drop}
 use lib.Dec.{leb, ltb, eqb}
 use borrow.Author.Tests.{ltb-true, ltb-false, le-leb, lt-leb, leb-true, leb-false}
 use Rattle.ground.specs.Choice.{pick}
+use Rattle.ground.proofs.Picks.{pick-same}
 use Rattle.tuples.specs.Chain.{Chain, stop, grow, entry, endOf, stepAt, chainFrom, chainAt}
 use Rattle.tuples.specs.declared.Entry.{Entry}
 use Rattle.tuples.specs.declared.Step.{Step}
 use Rattle.tuples.specs.declared.Step.the-variants.{Tuple, Null, End, Broken}
+use Rattle.ground.proofs.Lists.{drop-two}
 
 pub yes-no : {A : Type 0} → true ≡ false → A
 yes-no p = let z : _≡_ {A = ℕ} 0 1 = cc in let n : ⊥ = omega arith in absurd n
@@ -51,20 +52,9 @@ after-pick : (s : List ℕ) (at : ℕ) (t : Bool) (a b : Step) → after s at (p
 after-pick s at true a b = refl
 after-pick s at false a b = refl
 
-pick-same : {A : Type 0} (t : Bool) (a : A) → pick t a a ≡ a
-pick-same true a = refl
-pick-same false a = refl
-
 pick-stop : (t : Bool) → stop t ≡ pick t (stop true) (stop false)
 pick-stop true = refl
 pick-stop false = refl
-
--- the first two bytes of a part that has them
-two : (s : List ℕ) (at : ℕ) → at + 1 < length s → drop at s ≡ getD s at 0 ∷ (getD s (at + 1) 0 ∷ drop (at + 2) s)
-two s at h =
-    let more : suc (suc at) ≡ at + 2 = omega arith in
-    drop-cons s at 0 (omega arith)
-    ∙ ap (λ (l : List ℕ). getD s at 0 ∷ l) (drop-cons s (suc at) 0 (omega arith) ∙ ap (λ (k : ℕ). getD s k 0 ∷ drop (suc (suc at)) s) (sym (add-one at)) ∙ ap (λ (k : ℕ). getD s (at + 1) 0 ∷ drop k s) more)
 
 -- a body fits where its end does
 fits-by : (s : List ℕ) (a n : ℕ) → a ≤ length s → (t : Bool) → leb (a + n) (length s) ≡ t → leb n (length (drop a s)) ≡ leb (a + n) (length s)
@@ -85,7 +75,7 @@ inner s at h =
     let b = getD s at 0 in
     let n = getD s (at + 1) 0 in
     let more : suc (at + 1) ≡ at + 2 = omega arith in
-    ap (λ (l : List ℕ). chainFrom 0 l at) (two s at h)
+    ap (λ (l : List ℕ). chainFrom 0 l at) (drop-two s at h)
     ∙ ap (λ (X : Chain). pick (eqb b 255) (stop true) (pick (eqb b 0) X (pick (leb n (length (drop (at + 2) s))) (grow (entry b (at + 2) n) (chainFrom n (drop (at + 2) s) (at + 2))) (stop false))))
     (ap (λ (l : List ℕ). chainFrom 0 l (at + 1)) (sym (drop-cons s (at + 1) 0 h ∙ ap (λ (k : ℕ). n ∷ drop k s) more)))
     ∙ ap (λ (t : Bool). pick (eqb b 255) (stop true) (pick (eqb b 0) (chainAt s (at + 1)) (pick t (grow (entry b (at + 2) n) (chainFrom n (drop (at + 2) s) (at + 2))) (stop false))))

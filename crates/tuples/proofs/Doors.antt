@@ -12,28 +12,24 @@ use lib.Seq.{take-at, take-suc-set}
 use lib.Dec.{ltb}
 use borrow.Author.Tests.{ltb-false, ne-eqb}
 use Rattle.ground.specs.Choice.{pick}
-use Rattle.answers.specs.Answers.{outcomeValue}
+use Rattle.answers.specs.Answers.{outcomeValue, refused}
 use Rattle.answers.specs.declared.Outcome.{Outcome}
 use Rattle.answers.specs.declared.Outcome.the-variants.{Accepted, Refused}
 use Rattle.tuples.specs.Chain.{noEntry}
-use Rattle.tuples.specs.Read.{readOutcome, readList, filled, unlessRefused, refused, handed, heldAfter, atMost}
+use Rattle.tuples.specs.Read.{readOutcome, readList, filled, unlessRefused, handed, heldAfter, atMost}
 use Rattle.tuples.specs.Write.{made, lastPlace, Writes, WritesBack, writeOutcome, backOutcome, filledUp, tupleBytes}
 use Rattle.tuples.specs.declared.Entry.{Entry}
 use Rattle.tuples.proofs.Chains.{yes-no}
 use Rattle.tuples.proofs.Filling.{all}
 use Rattle.tuples.proofs.Bounds.{bounds}
-use Rattle.tuples.proofs.Rows.{drop-rep}
+use Rattle.tuples.proofs.Fills.{drop-rep}
+use Rattle.ground.proofs.Lists.{take-replicate}
 
 -- ---- what a place holds after reading
 beyond-rep : {A : Type 0} (m j : ℕ) (x : A) → getD (replicate m x) j x ≡ x
 beyond-rep zero j x = refl
 beyond-rep (suc m) zero x = refl
 beyond-rep (suc m) (suc j) x = beyond-rep m j x
-
-take-rep : {A : Type 0} (j m : ℕ) (x : A) → j ≤ m → take j (replicate m x) ≡ replicate j x
-take-rep zero m x h = refl
-take-rep (suc j) zero x h = let z : ⊥ = omega arith in absurd z
-take-rep (suc j) (suc m) x h = ap (λ l. x ∷ l) (take-rep j m x (omega arith))
 
 -- what stands after the entries is as good as nothing
 getD-rep : {A : Type 0} (es : List A) (m j : ℕ) (x : A) → getD (es ++ replicate m x) j x ≡ getD es j x
@@ -79,7 +75,7 @@ held-place s m i x =
 -- an array of 256 places of x, of which the first m were lent
 module _ (s : List ℕ) (places i m p : ℕ) (x : Entry) (ls zs : List Entry) (em : m ≡ atMost places 256) (most : m ≤ 256) (all-x : ls ≡ replicate 256 x) where
   pub lent : take m ls ≡ replicate m x
-  lent = ap (take m) all-x ∙ take-rep m 256 x most
+  lent = ap (take m) all-x ∙ take-replicate m 256 x most
 
   pub held-outcome : (r : Outcome) → r ≡ readOutcome s (length (take m ls)) → r ≡ readOutcome s (atMost places 256)
   held-outcome r e = e ∙ ap (λ (l : List Entry). readOutcome s (length l)) lent ∙ ap (readOutcome s) (length-replicate m x ∙ em)
@@ -105,7 +101,7 @@ made-is (suc j) e f h =
     let one : suc j - 1 ≡ j = omega arith in
     let back : lastPlace (suc j) ≡ j = ap (λ (t : Bool). pick t 255 (suc j - 1)) (ne-eqb (suc j) 0 (λ q. let z : ⊥ = omega (arith, q) in z)) ∙ one in
     let room : j ≤ 256 = omega arith in
-    ap (λ (k : ℕ). take (suc j) (set (replicate 256 e) k f)) back ∙ take-suc-set (replicate 256 e) j f less ∙ ap (λ (l : List Entry). l ++ (f ∷ [])) (take-rep j 256 e room)
+    ap (λ (k : ℕ). take (suc j) (set (replicate 256 e) k f)) back ∙ take-suc-set (replicate 256 e) j f less ∙ ap (λ (l : List Entry). l ++ (f ∷ [])) (take-replicate j 256 e room)
 
 -- ---- written back
 pub back-refused : (s os : List ℕ) (o : Outcome) → o ≡ readOutcome s 127 → refused o ≡ true → WritesBack s os o os

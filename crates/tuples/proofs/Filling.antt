@@ -11,7 +11,7 @@ use lib.ListN.{length, getD, take, drop, set}
 use lib.Seq.{drop-cons, drop-drop, take-suc, set-at, length-take-le, length-front, append-snoc}
 use lib.Dec.{leb, eqb, lit<}
 use Rattle.ground.specs.Choice.{pick}
-use Rattle.tuples.specs.Chain.{Chain, stop, grow, entry, noEntry, endOf, chainFrom, chainAt, nextAt, firstOf, found}
+use Rattle.tuples.specs.Chain.{Chain, stop, grow, entry, noEntry, endOf, chainFrom, chainAt, nextAt, firstFound, found}
 use Rattle.tuples.specs.declared.Entry.{Entry}
 use Rattle.tuples.specs.declared.Found.{Found}
 use Rattle.tuples.proofs.Chains.{none, body}
@@ -48,7 +48,7 @@ onward-by s (b ∷ (n ∷ r)) at d =
 pub onward : (s : List ℕ) (at : ℕ) (e : Entry) (es : List Entry) → chainAt s at .entries ≡ e ∷ es → (nextAt s at .entry ≡ e) × (chainAt s (nextAt s at .next) .entries ≡ es)
 unfolding nextAt
 onward s at e es p =
-    (ap (λ (l : List Entry). firstOf l at .entry) p, ap (λ (l : List Entry). chainAt s (firstOf l at .next) .entries) p ∙ onward-by s (drop at s) at refl e es p)
+    (ap (λ (l : List Entry). firstFound l at .entry) p, ap (λ (l : List Entry). chainAt s (firstFound l at .next) .entries) p ∙ onward-by s (drop at s) at refl e es p)
 
 -- ---- the loop
 pub record Filling (s : List ℕ) (ls : List Entry) (n : ℕ) : Type 0 where

@@ -1,6 +1,6 @@
 -- What a tuple that may be written is known to be.
-use mathlib.Core.Path.{_≡_, refl, sym, ap}
-use mathlib.Core.Bool.{Bool, true, false, not}
+use mathlib.Core.Path.{_≡_, refl, sym}
+use mathlib.Core.Bool.{Bool, true, false}
 use mathlib.Core.List.{List}
 use Prim.Native.Nat.{ℕ, _+_, _≤_}
 use native.Mathlib.Omega.{arith}
@@ -12,11 +12,6 @@ use Rattle.ground.specs.Choice.{pick}
 use Rattle.tuples.specs.Write.{good, bodyOf}
 use Rattle.tuples.specs.declared.Entry.{Entry}
 use Rattle.tuples.proofs.Chains.{yes-no}
-
--- a test that was negated
-pub un-not : (b t : Bool) → not b ≡ t → b ≡ not t
-un-not true t p = ap not p
-un-not false t p = ap not p
 
 pub both-of : (t u : Bool) → pick t u false ≡ true → (t ≡ true) × (u ≡ true)
 both-of true u p = (refl, p)

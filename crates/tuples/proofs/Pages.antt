@@ -11,6 +11,7 @@ use lib.Seq.{paste}
 use lib.Dec.{leb, eqb}
 use borrow.Author.Tests.{leb-true, leb-false}
 use Rattle.ground.specs.Choice.{pick}
+use Rattle.ground.proofs.Picks.{pick-same}
 use Rattle.answers.specs.declared.Outcome.{Outcome}
 use Rattle.answers.specs.declared.Outcome.the-variants.{Accepted, Refused}
 use Rattle.answers.specs.declared.Refusal.the-variants.{TupleBufferLength, TuplesTooLong, TupleBad}
@@ -19,7 +20,7 @@ use Rattle.tuples.specs.Page.{page, newPage, withTuple, addedTo, pages, 
 use Rattle.tuples.specs.Write.{good, bodyOf, tupleBytes, allGood, filledUp, writeOutcome, Writes}
 use Rattle.tuples.specs.declared.Entry.{Entry}
 use Rattle.tuples.specs.declared.Page.{Page}
-use Rattle.tuples.proofs.Rows.{put}
+use Rattle.tuples.proofs.Fills.{put}
 use Rattle.tuples.proofs.Goods.{Good, is-good, both-of, long-body}
 
 -- ---- the marks
@@ -32,10 +33,6 @@ field-bad : (t u : Bool) (a b c : Page) → pick t (pick u a b) c .bad ≡ pick 
 field-bad true true a b c = refl
 field-bad true false a b c = refl
 field-bad false u a b c = refl
-
-pick-same : (t : Bool) (b : Bool) → pick t b b ≡ b
-pick-same true b = refl
-pick-same false b = refl
 
 pages-bad : (bs : List ℕ) (w : Page) (es : List Entry) → pages bs w es .bad ≡ pick (allGood bs es) (w .bad) true
 unfolding pages addedTo allGood

@@ -16,13 +16,15 @@ use Rattle.answers.specs.declared.Outcome.{Outcome}
 use Rattle.answers.specs.declared.Outcome.the-variants.{Accepted, Refused}
 use Rattle.answers.specs.declared.Refusal.the-variants.{TupleBufferLength, ListTooShort, ChainBroken, TuplesTooLong, TupleBad}
 use Rattle.tuples.specs.Chain.{Chain, chainFrom, chainAt}
-use Rattle.tuples.specs.Read.{readOutcome, counted, filled, unlessRefused, refused, Reads}
+use Rattle.tuples.specs.Read.{readOutcome, counted, filled, unlessRefused, Reads}
+use Rattle.answers.specs.Answers.{refused}
 use Rattle.tuples.specs.Write.{bodyOf, tupleBytes, allGood, filledUp, writeOutcome, backOutcome, nullsDropped, Writes, WritesBack}
 use Rattle.tuples.specs.declared.Entry.{Entry}
 use Rattle.tuples.proofs.Filling.{all}
-use Rattle.tuples.proofs.Bounds.{not-both, most-entries}
+use Rattle.tuples.proofs.Bounds.{most-entries}
 use Rattle.tuples.proofs.Doors.{back-written}
 use Rattle.tuples.proofs.RoundTrip.{laid, whole, reads-back, codes, same-codes, same-count, same-bodies, back}
+use Rattle.answers.proofs.Outcomes.{accepts-not}
 
 -- ---- what an accepted answer says
 pub record ReadWell (s : List ℕ) (places n : ℕ) : Type 0 where
@@ -34,9 +36,9 @@ pub record ReadWell (s : List ℕ) (places n : ℕ) : Type 0 where
 read-by : (s : List ℕ) (places n : ℕ) (t u v : Bool) → eqb (length s) 256 ≡ t → leb 127 places ≡ u → chainAt s 0 .ended ≡ v
     → pick t (pick u (pick v (Accepted (length (all s))) (Refused ChainBroken)) (Refused ListTooShort)) (Refused TupleBufferLength) ≡ Accepted n → ReadWell s places n
 read-by s places n true true true a b c p = let q : length (all s) ≡ n = cc in record { sized = eqb-true (length s) 256 a; enough = leb-true 127 places b; ended = c; count = sym q }
-read-by s places n true true false a b c p = not-both ChainBroken n p
-read-by s places n true false v a b c p = not-both ListTooShort n p
-read-by s places n false u v a b c p = not-both TupleBufferLength n p
+read-by s places n true true false a b c p = accepts-not n ChainBroken (sym p)
+read-by s places n true false v a b c p = accepts-not n ListTooShort (sym p)
+read-by s places n false u v a b c p = accepts-not n TupleBufferLength (sym p)
 
 pub read-well : (s : List ℕ) (places n : ℕ) → readOutcome s places ≡ Accepted n → ReadWell s places n
 unfolding readOutcome counted
@@ -49,9 +51,9 @@ pub record WrittenWell (bs : List ℕ) (es : List Entry) : Type 0 where
 write-by : (bs : List ℕ) (es : List Entry) (v : ℕ) (t g l : Bool) → allGood bs es ≡ g → leb (length (tupleBytes bs es)) 255 ≡ l
     → pick t (pick g (pick l (Accepted 0) (Refused TuplesTooLong)) (Refused TupleBad)) (Refused TupleBufferLength) ≡ Accepted v → WrittenWell bs es
 write-by bs es v true true true a b p = record { all-good = a; short = leb-true (length (tupleBytes bs es)) 255 b }
-write-by bs es v true true false a b p = not-both TuplesTooLong v p
-write-by bs es v true false l a b p = not-both TupleBad v p
-write-by bs es v false g l a b p = not-both TupleBufferLength v p
+write-by bs es v true true false a b p = accepts-not v TuplesTooLong (sym p)
+write-by bs es v true false l a b p = accepts-not v TupleBad (sym p)
+write-by bs es v false g l a b p = accepts-not v TupleBufferLength (sym p)
 
 pub written-well : (bs : List ℕ) (es : List Entry) (places v : ℕ) → writeOutcome bs es places ≡ Accepted v → WrittenWell bs es
 unfolding writeOutcome
@@ -99,10 +101,10 @@ written-reads-back bs es out r z w v p ls r′ zs l e =
     subst (λ (y : List ℕ). Reads y ls r′ zs → SameTuples bs es y r′ zs) (sym is) (of-page bs es ls r′ zs (ok .all-good) (ok .short) l) e
 
 -- ---- what was read is written back
-abbrev Plain : List ℕ → Outcome → List ℕ → Type 0
-Plain s r z = (r ≡ Accepted 0) × (z ≡ filledUp (nullsDropped 0 s))
+abbrev WrittenBack : List ℕ → Outcome → List ℕ → Type 0
+WrittenBack s r z = (r ≡ Accepted 0) × (z ≡ filledUp (nullsDropped 0 s))
 
-of-chain : (s out : List ℕ) (r : Outcome) (z : List ℕ) → length s ≡ 256 → chainAt s 0 .ended ≡ true → length out ≡ 256 → Writes s (all s) out r z → Plain s r z
+of-chain : (s out : List ℕ) (r : Outcome) (z : List ℕ) → length s ≡ 256 → chainAt s 0 .ended ≡ true → length out ≡ 256 → Writes s (all s) out r z → WrittenBack s r z
 unfolding writeOutcome
 of-chain s out r z ls c lo w =
     let b = back s 0 s 0 refl c in
@@ -111,12 +113,12 @@ of-chain s out r z ls c lo w =
     (w .0 ∙ o, w .1 ∙ ap (λ (o : Outcome). unlessRefused o (filledUp (tupleBytes s (all s))) out) o ∙ ap filledUp (sym (b .same)))
 
 pub read-then-written-back : (s : List ℕ) (ls : List Entry) (r : Outcome) (zs : List Entry) → Reads s ls r zs → (n : ℕ) → r ≡ Accepted n
-    → (out : List ℕ) (r′ : Outcome) (z : List ℕ) → length out ≡ 256 → Writes s (take n zs) out r′ z → Plain s r′ z
+    → (out : List ℕ) (r′ : Outcome) (z : List ℕ) → length out ≡ 256 → Writes s (take n zs) out r′ z → WrittenBack s r′ z
 read-then-written-back s ls r zs e n p out r′ z lo w =
     let ok = read-well s (length ls) n (sym (e .0) ∙ p) in
     of-chain s out r′ z (ok .sized) (ok .ended) lo (subst (λ (es : List Entry). Writes s es out r′ z) (entries-first s ls r zs e n p) w)
 
-pub door-written-back : (s out : List ℕ) (r : Outcome) (z : List ℕ) → WritesBack s out r z → length s ≡ 256 → chainAt s 0 .ended ≡ true → length out ≡ 256 → Plain s r z
+pub door-written-back : (s out : List ℕ) (r : Outcome) (z : List ℕ) → WritesBack s out r z → length s ≡ 256 → chainAt s 0 .ended ≡ true → length out ≡ 256 → WrittenBack s r z
 unfolding readOutcome counted
 door-written-back s out r z w ls c lo =
     let o : readOutcome s 127 ≡ Accepted (length (all s)) = simp (eq-eqb _ _ ls, c) in

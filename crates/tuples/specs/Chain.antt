@@ -61,12 +61,12 @@ abbrev pub found : Entry → ℕ → Found
 found e n = record { entry = e; next = n }
 
 -- the next tuple is the first of the chain from a place on, and the place moves behind its body; where no tuple is left, there is none and the place stays
-abbrev pub firstOf : List Entry → ℕ → Found
-firstOf [] from = found noEntry from
-firstOf (e ∷ es) from = found e (endOf e)
+abbrev pub firstFound : List Entry → ℕ → Found
+firstFound [] from = found noEntry from
+firstFound (e ∷ es) from = found e (endOf e)
 
 unfoldable pub nextAt : List ℕ → ℕ → Found
-nextAt s from = firstOf (chainAt s from .entries) from
+nextAt s from = firstFound (chainAt s from .entries) from
 
 -- whether a link of the chain is FFH; the first k bytes are a body
 unfoldable pub linkFF : ℕ → List ℕ → Bool

@@ -1,7 +1,6 @@
 -- 01, "Tuples" and "Answers": what the reader answers and what it leaves in the lent list.
 use Prim.Native.Nat.{ℕ}
 use mathlib.Core.Path.{_≡_}
-use mathlib.Core.Bool.{Bool, true, false}
 use mathlib.Core.List.{List, _++_, []}
 use lib.ListN.{length, getD, drop, replicate}
 use lib.Dec.{leb, ltb, eqb}
@@ -27,10 +26,6 @@ readOutcome s places = pick (eqb (length s) 256) (pick (leb 127 places) (counted
 abbrev pub unlessRefused {ℓ} : {A : Type ℓ} → Outcome → A → A → A
 unlessRefused (Accepted value) new old = new
 unlessRefused (Refused refusal) new old = old
-
-abbrev pub refused : Outcome → Bool
-refused (Accepted value) = false
-refused (Refused refusal) = true
 
 -- "fills a lent list of entries …. Places after the last entry keep what they held."
 abbrev pub filled : List Entry → List Entry → List Entry

@@ -4,9 +4,9 @@ ghost use Prim.Native.Nat.{_≤_, _+_};
 ghost use mathlib.Core.List.{[]};
 ghost use lib.ListN.{length, drop};
 ghost use lib.Seq.{paste};
-ghost use Rattle.answers.specs.Answers.{outcomeValue};
-ghost use Rattle.tuples.specs.Chain.{endOf, stepAt, chainAt, nextAt, firstOf, found};
-ghost use Rattle.tuples.specs.Read.{counted, readOutcome, refused, checked, atMost, heldAfter, Reads, handed};
+ghost use Rattle.answers.specs.Answers.{outcomeValue, refused};
+ghost use Rattle.tuples.specs.Chain.{endOf, stepAt, chainAt, nextAt, firstFound, found};
+ghost use Rattle.tuples.specs.Read.{counted, readOutcome, checked, atMost, heldAfter, Reads, handed};
 ghost use Rattle.tuples.specs.Write.{good, Writes, WritesBack, made, lastPlace};
 ghost use Rattle.tuples.specs.Page.{newPage, addedTo, Puts};
 use answers::Outcome;
@@ -137,7 +137,7 @@ struct Found {
 
 // No tuple is left: the place stays.
 fn nothing(place: usize) -> Found
-    ensures { λ r. ⌜ r ≡ firstOf [] place ⌝ }
+    ensures { λ r. ⌜ r ≡ firstFound [] place ⌝ }
 {
     Found {
         entry: Entry {

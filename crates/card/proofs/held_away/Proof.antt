@@ -1,19 +1,29 @@
-use borrow.Author.Tests.{eq-eqb, ne-eqb, le-leb, lt-leb}
+use mathlib.Core.Path.{sym, _∙_}
+use Rattle.ground.proofs.Picks.{un-not}
+use borrow.Author.Tests.{eq-eqb, ne-eqb}
 use Rattle.card.specs.Access.{heldAway}
+use borrow.Author.Needs.{needs}
 use Rattle.card.proofs.held_away.Statement.{statement}
 use Rattle.card.proofs.held_away.Tie as tie
 
+-- src/lib.rt
+sreset-in-requires : tie.Need-sreset-in-requires
+sreset-in-requires c κs = search needs
+
+-- src/lib.rt
 returns : tie.Need-returns
 unfolding heldAway
-returns c = simp (lt-leb _ _ (c .if1 .taken))
+returns c = let w = sym (c .before .sreset-in .ensures) ∙ un-not _ _ (c .if1 .taken) in simp w
 
+-- src/lib.rt
 returns-2 : tie.Need-returns-2
 unfolding heldAway
-returns-2 c = simp (le-leb _ _ (c .before .if1 .left), eq-eqb _ _ (c .if2 .taken))
+returns-2 c = let w = sym (c .before .before .sreset-in .ensures) ∙ un-not _ _ (c .before .if1 .left) in simp (w, eq-eqb _ _ (c .if2 .taken))
 
+-- src/lib.rt
 returns-3 : tie.Need-returns-3
 unfolding heldAway
-returns-3 c = simp (le-leb _ _ (c .before .if1 .left), ne-eqb _ _ (c .if2 .left))
+returns-3 c = let w = sym (c .before .before .sreset-in .ensures) ∙ un-not _ _ (c .before .if1 .left) in simp (w, ne-eqb _ _ (c .if2 .left))
 
 pub held-away-spec : {M : Type 1} → statement M
-held-away-spec = tie.close (tie.spec returns returns-2 returns-3)
+held-away-spec = tie.close (tie.spec sreset-in-requires returns returns-2 returns-3)

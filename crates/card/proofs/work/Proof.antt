@@ -11,8 +11,8 @@ decide-requires c κs = search needs
 perform-requires : tie.Need-perform-requires
 perform-requires c κs = search needs
 
-replied-as-requires : tie.Need-replied-as-requires
-replied-as-requires c κs = search needs
+reply-of-requires : tie.Need-reply-of-requires
+reply-of-requires c κs = search needs
 
 same-length : tie.Need-same-length
 same-length c = search needs
@@ -22,7 +22,7 @@ same-length-2 c = search needs
 
 returns : tie.Need-returns
 unfolding worked
-returns c = simp (c .replied-as .ensures) (ap (λ (x : Effect). stepped x) (simp (c .before .before .before .before .before .before .before .before .before .decide .ensures) at (c .before .before .before .before .before .perform .ensures)))
+returns c = simp (c .reply-of .ensures) (ap (λ (x : Effect). stepped x) (simp (c .before .before .before .before .before .before .before .before .before .decide .ensures) at (c .before .before .before .before .before .perform .ensures)))
 
 pub work-spec : {M : Type 1} → statement M
 work-spec =
@@ -30,7 +30,7 @@ work-spec =
     (tie.spec
     decide-requires
     perform-requires
-    replied-as-requires
+    reply-of-requires
     same-length
     same-length-2
     returns)

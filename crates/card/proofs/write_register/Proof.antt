@@ -6,38 +6,38 @@ use Rattle.card.proofs.write_register.Tie as tie
 enum-told : tie.Need-enum-told
 enum-told c = search needs
 
-plain-write-requires : tie.Need-plain-write-requires
-plain-write-requires c κs = search needs
+plain-core-requires : tie.Need-plain-core-requires
+plain-core-requires c κs = search needs
 
 enum-told-2 : tie.Need-enum-told-2
 enum-told-2 c = search needs
 
-plain-write-requires-2 : tie.Need-plain-write-requires-2
-plain-write-requires-2 c κs = search needs
+plain-core-requires-2 : tie.Need-plain-core-requires-2
+plain-core-requires-2 c κs = search needs
 
 enum-told-3 : tie.Need-enum-told-3
 enum-told-3 c = search needs
 
-plain-write-requires-3 : tie.Need-plain-write-requires-3
-plain-write-requires-3 c κs = search needs
+plain-core-requires-3 : tie.Need-plain-core-requires-3
+plain-core-requires-3 c κs = search needs
 
 enum-told-4 : tie.Need-enum-told-4
 enum-told-4 c = search needs
 
-plain-write-requires-4 : tie.Need-plain-write-requires-4
-plain-write-requires-4 c κs = search needs
+plain-core-requires-4 : tie.Need-plain-core-requires-4
+plain-core-requires-4 c κs = search needs
 
 enum-told-5 : tie.Need-enum-told-5
 enum-told-5 c = search needs
 
-plain-write-requires-5 : tie.Need-plain-write-requires-5
-plain-write-requires-5 c κs = search needs
+plain-core-requires-5 : tie.Need-plain-core-requires-5
+plain-core-requires-5 c κs = search needs
 
 enum-told-6 : tie.Need-enum-told-6
 enum-told-6 c = search needs
 
-plain-write-requires-6 : tie.Need-plain-write-requires-6
-plain-write-requires-6 c κs = search needs
+plain-core-requires-6 : tie.Need-plain-core-requires-6
+plain-core-requires-6 c κs = search needs
 
 enum-told-7 : tie.Need-enum-told-7
 enum-told-7 c = search needs
@@ -58,32 +58,32 @@ write-control-requires c κs = search needs
 enum-told-9 : tie.Need-enum-told-9
 enum-told-9 c = search needs
 
-plain-write-requires-7 : tie.Need-plain-write-requires-7
-plain-write-requires-7 c κs = search needs
+plain-core-requires-7 : tie.Need-plain-core-requires-7
+plain-core-requires-7 c κs = search needs
 
 returns-2 : tie.Need-returns-2
 unfolding registerWritten
-returns-2 c = simp (c .before .enum-told .given .1, c .plain-write .ensures)
+returns-2 c = simp (c .before .enum-told .given .1, c .plain-core .ensures)
 
 returns-3 : tie.Need-returns-3
 unfolding registerWritten
-returns-3 c = simp (c .before .enum-told2 .given .1, c .plain-write2 .ensures)
+returns-3 c = simp (c .before .enum-told2 .given .1, c .plain-core2 .ensures)
 
 returns-4 : tie.Need-returns-4
 unfolding registerWritten
-returns-4 c = simp (c .before .enum-told3 .given .1, c .plain-write3 .ensures)
+returns-4 c = simp (c .before .enum-told3 .given .1, c .plain-core3 .ensures)
 
 returns-5 : tie.Need-returns-5
 unfolding registerWritten
-returns-5 c = simp (c .before .enum-told4 .given .1, c .plain-write4 .ensures)
+returns-5 c = simp (c .before .enum-told4 .given .1, c .plain-core4 .ensures)
 
 returns-6 : tie.Need-returns-6
 unfolding registerWritten
-returns-6 c = simp (c .before .enum-told5 .given .1, c .plain-write5 .ensures)
+returns-6 c = simp (c .before .enum-told5 .given .1, c .plain-core5 .ensures)
 
 returns-7 : tie.Need-returns-7
 unfolding registerWritten
-returns-7 c = simp (c .before .enum-told6 .given .1, c .plain-write6 .ensures)
+returns-7 c = simp (c .before .enum-told6 .given .1, c .plain-core6 .ensures)
 
 same-length : tie.Need-same-length
 same-length c = search needs
@@ -101,31 +101,31 @@ returns-9 c = simp (c .before .enum-told8 .given .1, c .write-control .ensures)
 
 returns-10 : tie.Need-returns-10
 unfolding registerWritten
-returns-10 c = simp (c .before .enum-told9 .given .1, c .plain-write7 .ensures)
+returns-10 c = simp (c .before .enum-told9 .given .1, c .plain-core7 .ensures)
 
 pub write-register-spec : {M : Type 1} → statement M
 write-register-spec =
     tie.close
     (tie.spec
     enum-told
-    plain-write-requires
+    plain-core-requires
     enum-told-2
-    plain-write-requires-2
+    plain-core-requires-2
     enum-told-3
-    plain-write-requires-3
+    plain-core-requires-3
     enum-told-4
-    plain-write-requires-4
+    plain-core-requires-4
     enum-told-5
-    plain-write-requires-5
+    plain-core-requires-5
     enum-told-6
-    plain-write-requires-6
+    plain-core-requires-6
     enum-told-7
     returns
     command-given-requires
     enum-told-8
     write-control-requires
     enum-told-9
-    plain-write-requires-7
+    plain-core-requires-7
     returns-2
     returns-3
     returns-4

@@ -16,8 +16,8 @@ returns c = simp (c .before .before .if1 .taken, c .accepted .ensures, c .before
 enum-told : tie.Need-enum-told
 enum-told c = search needs
 
-absent-requires : tie.Need-absent-requires
-absent-requires c κs = search needs
+absent-value-requires : tie.Need-absent-value-requires
+absent-value-requires c κs = search needs
 
 accepted-requires-2 : tie.Need-accepted-requires-2
 accepted-requires-2 c κs = search needs
@@ -31,15 +31,15 @@ taken-read-requires c κs = search needs
 enum-told-2 : tie.Need-enum-told-2
 enum-told-2 c = search needs
 
-absent-requires-2 : tie.Need-absent-requires-2
-absent-requires-2 c κs = search needs
+absent-value-requires-2 : tie.Need-absent-value-requires-2
+absent-value-requires-2 c κs = search needs
 
 accepted-requires-3 : tie.Need-accepted-requires-3
 accepted-requires-3 c κs = search needs
 
 returns-2 : tie.Need-returns-2
 unfolding dataRead
-returns-2 c = simp (c .before .before .before .before .if1 .left, c .before .before .enum-told .given .1, c .accepted2 .ensures, c .before .absent .ensures)
+returns-2 c = simp (c .before .before .before .before .if1 .left, c .before .before .enum-told .given .1, c .accepted2 .ensures, c .before .absent-value .ensures)
 
 returns-3 : tie.Need-returns-3
 unfolding dataRead
@@ -47,7 +47,7 @@ returns-3 c = simp (c .before .before .before .before .before .if1 .left, c .bef
 
 returns-4 : tie.Need-returns-4
 unfolding dataRead
-returns-4 c = simp (c .before .before .before .before .if1 .left, c .before .before .enum-told2 .given .1, c .accepted3 .ensures, c .before .absent2 .ensures)
+returns-4 c = simp (c .before .before .before .before .if1 .left, c .before .before .enum-told2 .given .1, c .accepted3 .ensures, c .before .absent-value2 .ensures)
 
 pub read-data-spec : {M : Type 1} → statement M
 read-data-spec =
@@ -57,12 +57,12 @@ read-data-spec =
     accepted-requires
     returns
     enum-told
-    absent-requires
+    absent-value-requires
     accepted-requires-2
     enum-known-phase
     taken-read-requires
     enum-told-2
-    absent-requires-2
+    absent-value-requires-2
     accepted-requires-3
     returns-2
     returns-3

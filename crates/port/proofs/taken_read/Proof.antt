@@ -1,6 +1,6 @@
 use Rattle.port.specs.Halves.{partValue}
 use Rattle.port.specs.Data.{accepted}
-use Rattle.registers.specs.State.{Machine}
+use Rattle.registers.specs.Machine.{Machine}
 use mathlib.Core.Path.{sym, ap, _∙_}
 use borrow.Author.Needs.{needs}
 use Rattle.port.proofs.taken_read.Statement.{statement}
@@ -36,7 +36,7 @@ returns-2 c =
     let e = sym (c .before .before .before .before .before .before .before .before .take-of .ensures) ∙ c .before .before .before .before .before .before .part .given .1 in
     let a = c .before .before .before .before .before .before .before .before .before .before .before .args in
     simp (e, c .accepted .ensures, c .before .before .before .part-value .ensures)
-    (ap (λ (m : Machine). accepted (partValue (c .before .before .before .before .before .before .part .given .0 .0) (a .t .words) (a .buffer .now)) m) (c .before .part-read .ensures))
+    (ap (λ (m : Machine). accepted (partValue (c .before .before .before .before .before .before .part .given .0 .0) (a .transfer .words) (a .buffer .now)) m) (c .before .part-read .ensures))
 
 pub taken-read-spec : {M : Type 1} → statement M
 taken-read-spec =

@@ -1,5 +1,5 @@
 use Rattle.port.specs.Data.{accepted}
-use Rattle.registers.specs.State.{Machine}
+use Rattle.registers.specs.Machine.{Machine}
 use mathlib.Core.Path.{sym, ap, _∙_}
 use borrow.Author.Needs.{needs}
 use Rattle.port.proofs.taken_written.Statement.{statement}
@@ -17,8 +17,8 @@ refused-requires c κs = search needs
 enum-known-part : tie.Need-enum-known-part
 enum-known-part c = search needs
 
-write-part-requires : tie.Need-write-part-requires
-write-part-requires c κs = search needs
+put-part-requires : tie.Need-put-part-requires
+put-part-requires c κs = search needs
 
 part-written-requires : tie.Need-part-written-requires
 part-written-requires c κs = search needs
@@ -39,8 +39,8 @@ same-length-2 c = search needs
 returns-2 : tie.Need-returns-2
 returns-2 c =
     let e = sym (c .before .before .before .before .before .before .before .before .before .before .before .before .before .before .take-of .ensures) ∙ c .before .before .before .before .before .before .before .before .before .before .before .before .part .given .1 in
-    let w = simp (c .before .before .before .before .before .before .before .before .before .write-part .ensures) at (c .before .before .before .before .before .part-written .ensures) in
-    simp (e, c .accepted .ensures, c .before .before .before .before .before .before .before .before .before .write-part .ensures)
+    let w = simp (c .before .before .before .before .before .before .before .before .before .put-part .ensures) at (c .before .before .before .before .before .part-written .ensures) in
+    simp (e, c .accepted .ensures, c .before .before .before .before .before .before .before .before .before .put-part .ensures)
     (ap (λ (m : Machine). accepted 0 m) w)
 
 pub taken-written-spec : {M : Type 1} → statement M
@@ -51,7 +51,7 @@ taken-written-spec =
     enum-told
     refused-requires
     enum-known-part
-    write-part-requires
+    put-part-requires
     part-written-requires
     accepted-requires
     returns

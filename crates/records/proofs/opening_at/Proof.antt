@@ -1,4 +1,4 @@
-use Rattle.ground.proofs.Picks.{no, yes}
+use Rattle.ground.proofs.Picks.{un-not}
 use borrow.Author.Tests.{eq-eqb, ne-eqb}
 use Rattle.records.specs.Record.{openingAt}
 use borrow.Author.Needs.{needs}
@@ -7,11 +7,11 @@ use Rattle.records.proofs.opening_at.Tie as tie
 
 returns : tie.Need-returns
 unfolding openingAt
-returns c = simp (no (c .before .before .args .first) (c .if1 .taken))
+returns c = simp (un-not (c .before .before .args .first) _ (c .if1 .taken))
 
 returns-2 : tie.Need-returns-2
 unfolding openingAt
-returns-2 c = simp (yes (c .before .before .before .args .first) (c .before .if1 .left), ne-eqb _ _ (c .if2 .taken))
+returns-2 c = simp (un-not (c .before .before .before .args .first) _ (c .before .if1 .left), ne-eqb _ _ (c .if2 .taken))
 
 add-word-at : tie.Need-add-word-at
 add-word-at c = search needs
@@ -39,7 +39,7 @@ word-at-requires-4 c κs = search needs
 
 returns-3 : tie.Need-returns-3
 unfolding openingAt
-returns-3 c = simp (yes (c .before .before .before .before .before .before .before .args .first) (c .before .before .before .before .before .if1 .left), eq-eqb _ _ (c .before .before .before .before .if2 .left), c .word-at4 .ensures, c .before .word-at3 .ensures, c .before .before .word-at2 .ensures, c .before .before .before .word-at .ensures)
+returns-3 c = simp (un-not (c .before .before .before .before .before .before .before .args .first) _ (c .before .before .before .before .before .if1 .left), eq-eqb _ _ (c .before .before .before .before .if2 .left), c .word-at4 .ensures, c .before .word-at3 .ensures, c .before .before .word-at2 .ensures, c .before .before .before .word-at .ensures)
 
 pub opening-at-spec : {M : Type 1} → statement M
 opening-at-spec =

@@ -1,11 +1,17 @@
-use Rattle.ground.proofs.Tests.{tests}
+use mathlib.Core.Path.{ap}
+use Prim.Native.Nat.{ℕ}
+use lib.Dec.{leb}
 use Rattle.registers.specs.WellMade.{indexFits}
+use borrow.Author.Needs.{needs}
 use Rattle.registers.proofs.index_fits.Statement.{statement}
 use Rattle.registers.proofs.index_fits.Tie as tie
 
+index-in-requires : tie.Need-index-in-requires
+index-in-requires c κs = search needs
+
 returns : tie.Need-returns
 unfolding indexFits
-returns c = search tests
+returns c = ap (λ (i : ℕ). leb i 3) (c .index-in .ensures)
 
 pub index-fits-spec : {M : Type 1} → statement M
-index-fits-spec = tie.close (tie.spec returns)
+index-fits-spec = tie.close (tie.spec index-in-requires returns)

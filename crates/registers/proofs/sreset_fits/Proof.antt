@@ -1,26 +1,29 @@
-use borrow.Author.Tests.{le-leb, lt-leb}
 use Rattle.registers.specs.WellMade.{sresetFits}
 use borrow.Author.Needs.{needs}
 use Rattle.registers.proofs.sreset_fits.Statement.{statement}
 use Rattle.registers.proofs.sreset_fits.Tie as tie
 
+-- src/lib.rt
 enum-told : tie.Need-enum-told
 enum-told c = search needs
 
+-- src/lib.rt
 enum-told-2 : tie.Need-enum-told-2
 enum-told-2 c = search needs
 
+-- src/lib.rt
+sreset-in-requires : tie.Need-sreset-in-requires
+sreset-in-requires c κs = search needs
+
+-- src/lib.rt
 returns : tie.Need-returns
 unfolding sresetFits
-returns c = simp (c .before .enum-told2 .given .1, le-leb _ _ (c .if1 .taken))
+returns c = simp (c .enum-told .given .1)
 
+-- src/lib.rt
 returns-2 : tie.Need-returns-2
 unfolding sresetFits
-returns-2 c = simp (c .enum-told .given .1)
-
-returns-3 : tie.Need-returns-3
-unfolding sresetFits
-returns-3 c = simp (c .before .enum-told2 .given .1, lt-leb _ _ (c .if1 .left))
+returns-2 c = simp (c .before .enum-told2 .given .1, c .sreset-in .ensures)
 
 pub sreset-fits-spec : {M : Type 1} → statement M
-sreset-fits-spec = tie.close (tie.spec enum-told enum-told-2 returns returns-2 returns-3)
+sreset-fits-spec = tie.close (tie.spec enum-told enum-told-2 sreset-in-requires returns returns-2)

@@ -13,8 +13,8 @@ Inv-loop part₀ bytes i₀ part i = (i ≤ 512) × (length part ≡ 512) × (ta
 abbrev μ-loop : tie.MeasureT-loop
 μ-loop part₀ bytes i₀ part i = 512 - i
 
-told-requires : tie.Need-told-requires Inv-loop μ-loop
-told-requires c κs = search needs
+length-known-requires : tie.Need-length-known-requires Inv-loop μ-loop
+length-known-requires c κs = search needs
 
 loop-holds : tie.Need-loop-holds Inv-loop μ-loop
 loop-holds c = search needs
@@ -51,7 +51,7 @@ fill-spec =
     (tie.spec
     Inv-loop
     μ-loop
-    told-requires
+    length-known-requires
     loop-holds
     element-copy-out-part
     slice-write-part

@@ -10,13 +10,13 @@ use Rattle.sectors.proofs.get_sector.Statement.{statement}
 use Rattle.sectors.proofs.get_sector.Tie as tie
 
 abbrev Inv-loop : tie.InvT-loop
-Inv-loop buffer₀ store i a k₀ buffer k = (k ≤ 512) × (length buffer ≡ 512) × (take k buffer ≡ take k (drop a store))
+Inv-loop store i buffer₀ a k₀ buffer k = (k ≤ 512) × (length buffer ≡ 512) × (take k buffer ≡ take k (drop a store))
 
 abbrev μ-loop : tie.MeasureT-loop
-μ-loop buffer₀ store i a k₀ buffer k = 512 - k
+μ-loop store i buffer₀ a k₀ buffer k = 512 - k
 
-told-requires : tie.Need-told-requires Inv-loop μ-loop
-told-requires c κs = search needs
+length-known-requires : tie.Need-length-known-requires Inv-loop μ-loop
+length-known-requires c κs = search needs
 
 mul-a : tie.Need-mul-a Inv-loop μ-loop
 mul-a c = search needs
@@ -59,7 +59,7 @@ get-sector-spec =
     (tie.spec
     Inv-loop
     μ-loop
-    told-requires
+    length-known-requires
     mul-a
     loop-holds
     add-buffer

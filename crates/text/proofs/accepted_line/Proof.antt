@@ -5,8 +5,8 @@ use borrow.Author.Needs.{needs}
 use Rattle.text.proofs.accepted_line.Statement.{statement}
 use Rattle.text.proofs.accepted_line.Tie as tie
 
-four-text-requires : tie.Need-four-text-requires
-four-text-requires c κs = search needs
+short-numeral-requires : tie.Need-short-numeral-requires
+short-numeral-requires c κs = search needs
 
 letter-requires : tie.Need-letter-requires
 letter-requires c κs = search needs
@@ -29,8 +29,8 @@ same-length c = search needs
 returns : tie.Need-returns
 unfolding furtherDigits lastDigits
 returns c =
-    let p = wrote-then (c .before .before .before .before .before .before .before .before .before .before .before .before .before .before .before .before .before .before .before .before .before .before .four-text .ensures .0) (wrote-then (c .before .before .before .before .before .before .before .before .before .before .before .before .before .before .before .before .before .before .letter .ensures) (wrote-then (c .before .before .before .before .before .before .before .before .before .before .before .before .before .before .byte .ensures) (wrote-then (c .before .before .before .before .before .before .before .before .before .before .byte2 .ensures) (wrote-then (c .before .before .before .before .before .before .hex-four .ensures) (c .before .before .byte3 .ensures))))) in
-    let a = c .before .before .before .before .before .before .before .before .before .before .before .before .before .before .before .before .before .before .before .before .before .before .four-text .ensures .1 in
+    let p = wrote-then (c .before .before .before .before .before .before .before .before .before .before .before .before .before .before .before .before .before .before .before .before .before .before .short-numeral .ensures .0) (wrote-then (c .before .before .before .before .before .before .before .before .before .before .before .before .before .before .before .before .before .before .letter .ensures) (wrote-then (c .before .before .before .before .before .before .before .before .before .before .before .before .before .before .byte .ensures) (wrote-then (c .before .before .before .before .before .before .before .before .before .before .byte2 .ensures) (wrote-then (c .before .before .before .before .before .before .hex-four .ensures) (c .before .before .byte3 .ensures))))) in
+    let a = c .before .before .before .before .before .before .before .before .before .before .before .before .before .before .before .before .before .before .before .before .before .before .short-numeral .ensures .1 in
     let b = c .before .before .before .before .before .before .before .before .before .before .before .before .before .before .before .before .before .before .letter .ensures .place in
     let d = c .before .before .before .before .before .before .before .before .before .before .before .before .before .before .byte .ensures .place in
     let e = c .before .before .before .before .before .before .before .before .before .before .byte2 .ensures .place in
@@ -42,7 +42,7 @@ pub accepted-line-spec : {M : Type 1} → statement M
 accepted-line-spec =
     tie.close
     (tie.spec
-    four-text-requires
+    short-numeral-requires
     letter-requires
     byte-requires
     byte-requires-2

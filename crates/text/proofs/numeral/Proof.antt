@@ -5,8 +5,8 @@ use borrow.Author.Needs.{needs}
 use Rattle.text.proofs.numeral.Statement.{statement}
 use Rattle.text.proofs.numeral.Tie as tie
 
-four-text-requires : tie.Need-four-text-requires
-four-text-requires c κs = search needs
+short-numeral-requires : tie.Need-short-numeral-requires
+short-numeral-requires c κs = search needs
 
 same-length : tie.Need-same-length
 same-length c = search needs
@@ -14,7 +14,7 @@ same-length c = search needs
 returns : tie.Need-returns
 unfolding numeral
 returns c =
-    let w = c .before .before .four-text .ensures in
+    let w = c .before .before .short-numeral .ensures in
     (simp (lt-ltb _ _ (c .before .before .before .before .if1 .taken)) (w .0), omega (arith, w .1))
 
 decimal-requires : tie.Need-decimal-requires
@@ -32,4 +32,4 @@ returns-2 c =
 pub numeral-spec : {M : Type 1} → statement M
 numeral-spec =
     tie.close
-    (tie.spec four-text-requires same-length returns decimal-requires same-length-2 returns-2)
+    (tie.spec short-numeral-requires same-length returns decimal-requires same-length-2 returns-2)

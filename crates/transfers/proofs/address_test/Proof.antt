@@ -4,11 +4,8 @@ use borrow.Author.Needs.{needs}
 use Rattle.transfers.proofs.address_test.Statement.{statement}
 use Rattle.transfers.proofs.address_test.Tie as tie
 
-total-requires : tie.Need-total-requires
-total-requires c κs = search needs
-
-locate-requires : tie.Need-locate-requires
-locate-requires c κs = search needs
+located-requires : tie.Need-located-requires
+located-requires c κs = search needs
 
 enum-known-spot : tie.Need-enum-known-spot
 enum-known-spot c = search needs
@@ -24,26 +21,25 @@ enum-told-3 c = search needs
 
 returns : tie.Need-returns
 unfolding addressTest
-returns c = let e = simp (c .before .before .before .before .total .ensures) at (sym (c .before .before .before .locate .ensures) ∙ c .before .spot .given .1) in simp e
+returns c = simp (sym (c .before .before .before .located .ensures) ∙ c .before .spot .given .1)
 
 returns-2 : tie.Need-returns-2
 unfolding addressTest
-returns-2 c = let e = simp (c .before .before .before .total .ensures) at (sym (c .before .before .locate .ensures) ∙ c .enum-told .given .1) in simp e
+returns-2 c = simp (sym (c .before .before .located .ensures) ∙ c .enum-told .given .1)
 
 returns-3 : tie.Need-returns-3
 unfolding addressTest
-returns-3 c = let e = simp (c .before .before .before .total .ensures) at (sym (c .before .before .locate .ensures) ∙ c .enum-told2 .given .1) in simp e
+returns-3 c = simp (sym (c .before .before .located .ensures) ∙ c .enum-told2 .given .1)
 
 returns-4 : tie.Need-returns-4
 unfolding addressTest
-returns-4 c = let e = simp (c .before .before .before .total .ensures) at (sym (c .before .before .locate .ensures) ∙ c .enum-told3 .given .1) in simp e
+returns-4 c = simp (sym (c .before .before .located .ensures) ∙ c .enum-told3 .given .1)
 
 pub address-test-spec : {M : Type 1} → statement M
 address-test-spec =
     tie.close
     (tie.spec
-    total-requires
-    locate-requires
+    located-requires
     enum-known-spot
     enum-told
     enum-told-2

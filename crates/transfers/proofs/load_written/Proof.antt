@@ -12,8 +12,8 @@ ended-requires c κs = search needs
 enum-known-load : tie.Need-enum-known-load
 enum-known-load c = search needs
 
-store-tested-requires : tie.Need-store-tested-requires
-store-tested-requires c κs = search needs
+sector-stored-requires : tie.Need-sector-stored-requires
+sector-stored-requires c κs = search needs
 
 enum-told-2 : tie.Need-enum-told-2
 enum-told-2 c = search needs
@@ -40,7 +40,7 @@ same-length-2 : tie.Need-same-length-2
 same-length-2 c = search needs
 
 returns-2 : tie.Need-returns-2
-returns-2 c = simp (c .before .before .before .before .before .before .before .before .before .before .before .before .load .given .1, sym (c .before .before .before .before .before .before .before .before .store-tested .ensures), c .before .before .enum-told2 .given .1, c .next-asked .ensures, c .before .less-one .ensures)
+returns-2 c = simp (c .before .before .before .before .before .before .before .before .before .before .before .before .load .given .1, sym (c .before .before .before .before .before .before .before .before .sector-stored .ensures), c .before .before .enum-told2 .given .1, c .next-asked .ensures, c .before .less-one .ensures)
 
 same-length-3 : tie.Need-same-length-3
 same-length-3 c = search needs
@@ -49,7 +49,7 @@ same-length-4 : tie.Need-same-length-4
 same-length-4 c = search needs
 
 returns-3 : tie.Need-returns-3
-returns-3 c = simp (c .before .before .before .before .before .before .before .before .before .before .before .before .load .given .1, sym (c .before .before .before .before .before .before .before .before .store-tested .ensures), c .before .before .end .given .1, c .ended2 .ensures)
+returns-3 c = simp (c .before .before .before .before .before .before .before .before .before .before .before .before .load .given .1, sym (c .before .before .before .before .before .before .before .before .sector-stored .ensures), c .before .before .end .given .1, c .ended2 .ensures)
 
 pub load-written-spec : {M : Type 1} → statement M
 load-written-spec =
@@ -58,7 +58,7 @@ load-written-spec =
     enum-told
     ended-requires
     enum-known-load
-    store-tested-requires
+    sector-stored-requires
     enum-told-2
     less-one-requires
     next-asked-requires

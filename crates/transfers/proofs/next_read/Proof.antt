@@ -4,23 +4,23 @@ use borrow.Author.Needs.{needs}
 use Rattle.transfers.proofs.next_read.Statement.{statement}
 use Rattle.transfers.proofs.next_read.Tie as tie
 
-passed-requires : tie.Need-passed-requires
-passed-requires c κs = search needs
+sector-done-requires : tie.Need-sector-done-requires
+sector-done-requires c κs = search needs
 
 ended-requires : tie.Need-ended-requires
 ended-requires c κs = search needs
 
 returns : tie.Need-returns
 unfolding nextRead
-returns c = simp (eq-eqb _ _ (c .before .if1 .taken), c .ended .ensures, c .before .before .passed .ensures)
+returns c = simp (eq-eqb _ _ (c .before .if1 .taken), c .ended .ensures, c .before .before .sector-done .ensures)
 
 read-sector-requires : tie.Need-read-sector-requires
 read-sector-requires c κs = search needs
 
 returns-2 : tie.Need-returns-2
 unfolding nextRead
-returns-2 c = simp (ne-eqb _ _ (c .before .before .if1 .left)) (simp (c .before .before .before .passed .ensures) at (c .read-sector .ensures))
+returns-2 c = simp (ne-eqb _ _ (c .before .before .if1 .left)) (simp (c .before .before .before .sector-done .ensures) at (c .read-sector .ensures))
 
 pub next-read-spec : {M : Type 1} → statement M
 next-read-spec =
-    tie.close (tie.spec passed-requires ended-requires returns read-sector-requires returns-2)
+    tie.close (tie.spec sector-done-requires ended-requires returns read-sector-requires returns-2)

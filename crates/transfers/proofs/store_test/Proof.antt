@@ -10,8 +10,8 @@ address-test-requires c κs = search needs
 enum-known-spot : tie.Need-enum-known-spot
 enum-known-spot c = search needs
 
-mark-at-requires : tie.Need-mark-at-requires
-mark-at-requires c κs = search needs
+byte-or-zero-requires : tie.Need-byte-or-zero-requires
+byte-or-zero-requires c κs = search needs
 
 writable-requires : tie.Need-writable-requires
 writable-requires c κs = search needs
@@ -20,7 +20,7 @@ returns : tie.Need-returns
 unfolding storeTest
 returns c =
     let e = sym (c .before .before .before .before .before .before .address-test .ensures) ∙ c .before .before .before .before .spot .given .1 in
-    let w = simp (c .before .before .mark-at .ensures) at (sym (c .before .writable .ensures) ∙ c .if1 .taken) in
+    let w = simp (c .before .before .byte-or-zero .ensures) at (sym (c .before .writable .ensures) ∙ c .if1 .taken) in
     simp (e, w)
 
 enum-known-end : tie.Need-enum-known-end
@@ -30,7 +30,7 @@ returns-2 : tie.Need-returns-2
 unfolding storeTest
 returns-2 c =
     let e = sym (c .before .before .before .before .before .before .address-test .ensures) ∙ c .before .before .before .before .spot .given .1 in
-    let w = simp (c .before .before .mark-at .ensures) at (sym (c .before .writable .ensures) ∙ c .if1 .left) in
+    let w = simp (c .before .before .byte-or-zero .ensures) at (sym (c .before .writable .ensures) ∙ c .if1 .left) in
     simp (e, w)
 
 returns-3 : tie.Need-returns-3
@@ -43,7 +43,7 @@ store-test-spec =
     (tie.spec
     address-test-requires
     enum-known-spot
-    mark-at-requires
+    byte-or-zero-requires
     writable-requires
     returns
     enum-known-end

@@ -11,8 +11,8 @@ wide-requires c κs = search needs
 array-write-r : tie.Need-array-write-r
 array-write-r c = search needs
 
-one-requires : tie.Need-one-requires
-one-requires c κs = search needs
+one-of-requires : tie.Need-one-of-requires
+one-of-requires c κs = search needs
 
 array-write-r-2 : tie.Need-array-write-r-2
 array-write-r-2 c = search needs
@@ -33,7 +33,7 @@ with-option-requires : tie.Need-with-option-requires
 with-option-requires c κs = search needs
 
 returns : tie.Need-returns
-returns c = simp (c .with-option .ensures, c .before .with-registers .ensures, c .before .before .one .ensures .0, c .before .before .before .wide .ensures .0, c .before .before .before .before .with-made .ensures)
+returns c = simp (c .with-option .ensures, c .before .with-registers .ensures, c .before .before .one-of .ensures .0, c .before .before .before .wide .ensures .0, c .before .before .before .before .with-made .ensures)
 
 pub state-row-spec : {M : Type 1} → statement M
 state-row-spec =
@@ -42,7 +42,7 @@ state-row-spec =
     with-made-requires
     wide-requires
     array-write-r
-    one-requires
+    one-of-requires
     array-write-r-2
     array-write-r-3
     array-write-r-4

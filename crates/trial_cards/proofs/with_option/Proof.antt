@@ -2,11 +2,11 @@ use borrow.Author.Needs.{needs}
 use Rattle.trial_cards.proofs.with_option.Statement.{statement}
 use Rattle.trial_cards.proofs.with_option.Tie as tie
 
-one-requires : tie.Need-one-requires
-one-requires c κs = search needs
+one-of-requires : tie.Need-one-of-requires
+one-of-requires c κs = search needs
 
-one-requires-2 : tie.Need-one-requires-2
-one-requires-2 c κs = search needs
+one-of-requires-2 : tie.Need-one-of-requires-2
+one-of-requires-2 c κs = search needs
 
 array-write-r : tie.Need-array-write-r
 array-write-r c = search needs
@@ -42,14 +42,14 @@ array-write-r-6 : tie.Need-array-write-r-6
 array-write-r-6 c = search needs
 
 returns : tie.Need-returns
-returns c = simp (c .one2 .ensures .0, c .before .one .ensures .0)
+returns c = simp (c .one-of2 .ensures .0, c .before .one-of .ensures .0)
 
 pub with-option-spec : {M : Type 1} → statement M
 with-option-spec =
     tie.close
     (tie.spec
-    one-requires
-    one-requires-2
+    one-of-requires
+    one-of-requires-2
     array-write-r
     mul-r
     mul-r-2

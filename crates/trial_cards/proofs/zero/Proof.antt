@@ -1,14 +1,15 @@
-use Rattle.trial_cards.specs.Cards.{zeroCard}
+use Rattle.registers.specs.PowerOn.{zeros}
+use Rattle.trial_cards.specs.Cards.{cardFromRow}
 use borrow.Author.Needs.{needs}
 use Rattle.trial_cards.proofs.zero.Statement.{statement}
 use Rattle.trial_cards.proofs.zero.Tie as tie
 
-card-of-requires : tie.Need-card-of-requires
-card-of-requires c κs = search needs
+card-from-row-requires : tie.Need-card-from-row-requires
+card-from-row-requires c κs = search needs
 
 returns : tie.Need-returns
-unfolding zeroCard
-returns c = c .card-of .ensures
+unfolding cardFromRow zeros
+returns c = c .card-from-row .ensures
 
 pub zero-spec : {M : Type 1} → statement M
-zero-spec = tie.close (tie.spec card-of-requires returns)
+zero-spec = tie.close (tie.spec card-from-row-requires returns)

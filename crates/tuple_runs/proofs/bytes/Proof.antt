@@ -25,20 +25,20 @@ slice-aggregate-text-2 c = search needs
 text-requires-2 : tie.Need-text-requires-2 Inv-loop μ-loop
 text-requires-2 c κs = search needs
 
-shared-slice-read-wide : tie.Need-shared-slice-read-wide Inv-loop μ-loop
-shared-slice-read-wide c = search needs
+shared-slice-read-as-u64 : tie.Need-shared-slice-read-as-u64 Inv-loop μ-loop
+shared-slice-read-as-u64 c = search needs
 
-wide-requires : tie.Need-wide-requires Inv-loop μ-loop
-wide-requires c κs = search needs
+as-u64-requires : tie.Need-as-u64-requires Inv-loop μ-loop
+as-u64-requires c κs = search needs
 
 print-hex-requires : tie.Need-print-hex-requires Inv-loop μ-loop
 print-hex-requires c κs = search needs
 
-shared-slice-read-wide-2 : tie.Need-shared-slice-read-wide-2 Inv-loop μ-loop
-shared-slice-read-wide-2 c = search needs
+shared-slice-read-as-u64-2 : tie.Need-shared-slice-read-as-u64-2 Inv-loop μ-loop
+shared-slice-read-as-u64-2 c = search needs
 
-wide-requires-2 : tie.Need-wide-requires-2 Inv-loop μ-loop
-wide-requires-2 c κs = search needs
+as-u64-requires-2 : tie.Need-as-u64-requires-2 Inv-loop μ-loop
+as-u64-requires-2 c κs = search needs
 
 wrapping-add-u64-requires : tie.Need-wrapping-add-u64-requires Inv-loop μ-loop
 wrapping-add-u64-requires c κs = search needs
@@ -75,11 +75,11 @@ bytes-spec =
     loop-holds
     slice-aggregate-text-2
     text-requires-2
-    shared-slice-read-wide
-    wide-requires
+    shared-slice-read-as-u64
+    as-u64-requires
     print-hex-requires
-    shared-slice-read-wide-2
-    wide-requires-2
+    shared-slice-read-as-u64-2
+    as-u64-requires-2
     wrapping-add-u64-requires
     add-i
     loop-less

@@ -1,4 +1,5 @@
-use Rattle.tuples.proofs.Goods.{is-good, un-not}
+use Rattle.ground.proofs.Picks.{un-not}
+use Rattle.tuples.proofs.Goods.{is-good}
 use Rattle.tuples.specs.Page.{addedTo, page}
 use borrow.Author.Tests.{le-leb, lt-leb}
 use native.Mathlib.Omega.{arith}

@@ -1,6 +1,6 @@
 use Prim.Native.Nat.{_-_}
 use Rattle.tuples.proofs.Chains.{after, chain-step, past}
-use Rattle.tuples.specs.Chain.{Chain, chainAt, nextAt, firstOf, found}
+use Rattle.tuples.specs.Chain.{Chain, chainAt, nextAt, firstFound, found}
 use lib.ListN.{length}
 use borrow.Author.Needs.{needs}
 use mathlib.Core.Path.{_≡_, refl, sym, _∙_, ap}
@@ -31,7 +31,7 @@ returns c =
     let a = c .before .before .before .before .before .before .before .before .args in
     let l = c .before .before .before .before .before .before .loop in
     let p = sym (c .before .before .before .before .step-at .ensures) ∙ c .before .before .entry .given .1 in
-    ap (found _) (c .end .ensures) ∙ ap (λ (k : Chain). firstOf (k .entries) (a .from)) (sym (chain-step (a .buffer .now) (l .at) ∙ ap (after (a .buffer .now) (l .at)) p) ∙ l .inv)
+    ap (found _) (c .end .ensures) ∙ ap (λ (k : Chain). firstFound (k .entries) (a .from)) (sym (chain-step (a .buffer .now) (l .at) ∙ ap (after (a .buffer .now) (l .at)) p) ∙ l .inv)
 
 enum-told : tie.Need-enum-told Inv-loop μ-loop
 enum-told c = search needs
@@ -61,7 +61,7 @@ returns-2 c =
     let a = c .before .before .before .before .before .before .before .args in
     let l = c .before .before .before .before .before .loop in
     let p = sym (c .before .before .before .step-at .ensures) ∙ c .before .enum-told2 .given .1 in
-    c .nothing .ensures ∙ ap (λ (k : Chain). firstOf (k .entries) (a .from)) (sym (chain-step (a .buffer .now) (l .at) ∙ ap (after (a .buffer .now) (l .at)) p) ∙ l .inv)
+    c .nothing .ensures ∙ ap (λ (k : Chain). firstFound (k .entries) (a .from)) (sym (chain-step (a .buffer .now) (l .at) ∙ ap (after (a .buffer .now) (l .at)) p) ∙ l .inv)
 
 enum-told-3 : tie.Need-enum-told-3 Inv-loop μ-loop
 enum-told-3 c = search needs
@@ -75,7 +75,7 @@ returns-3 c =
     let a = c .before .before .before .before .before .before .before .args in
     let l = c .before .before .before .before .before .loop in
     let p = sym (c .before .before .before .step-at .ensures) ∙ c .before .enum-told3 .given .1 in
-    c .nothing2 .ensures ∙ ap (λ (k : Chain). firstOf (k .entries) (a .from)) (sym (chain-step (a .buffer .now) (l .at) ∙ ap (after (a .buffer .now) (l .at)) p) ∙ l .inv)
+    c .nothing2 .ensures ∙ ap (λ (k : Chain). firstFound (k .entries) (a .from)) (sym (chain-step (a .buffer .now) (l .at) ∙ ap (after (a .buffer .now) (l .at)) p) ∙ l .inv)
 
 nothing-requires-3 : tie.Need-nothing-requires-3 Inv-loop μ-loop
 nothing-requires-3 c κs = search needs
@@ -85,7 +85,7 @@ unfolding nextAt
 returns-4 c =
     let a = c .before .before .before .before .args in
     let l = c .before .before .loop in
-    c .nothing3 .ensures ∙ ap (λ (k : Chain). firstOf (k .entries) (a .from)) (sym (past (a .buffer .now) (l .at) (c .before .loop-test .left)) ∙ l .inv)
+    c .nothing3 .ensures ∙ ap (λ (k : Chain). firstFound (k .entries) (a .from)) (sym (past (a .buffer .now) (l .at) (c .before .loop-test .left)) ∙ l .inv)
 
 pub next-tuple-spec : {M : Type 1} → statement M
 next-tuple-spec =

@@ -55,12 +55,12 @@ use denote.Triple.Spec.{Meets, tripleOf}
 use denote.Triple.Table.{entered, cited}
 use denote.Triple.Walked.{says, Stays, gave-slice, stay-none-slice, walkOf, Walks, ends-at, walked, goes-gave-slice, goes-none-slice, walk-meets}
 use denote.Exit.{yes}
-use Rattle.answers.specs.Answers.{outcomeValue}
+use Rattle.answers.specs.Answers.{outcomeValue, refused}
 use Rattle.answers.specs.declared.Outcome.{Outcome}
 use Rattle.answers.proofs.Outcome as O
 use Rattle.answers.proofs.Outcome.Laws as O′
 use Rattle.tuples.specs.Chain.{noEntry as none}
-use Rattle.tuples.specs.Read.{readOutcome, Reads, refused}
+use Rattle.tuples.specs.Read.{readOutcome, Reads}
 use Rattle.tuples.specs.Write.{Writes, WritesBack}
 use Rattle.tuples.specs.declared.Entry.{Entry}
 use Rattle.tuples.proofs.Bounds.{bounds}

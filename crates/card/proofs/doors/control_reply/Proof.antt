@@ -1,40 +1,54 @@
-use Rattle.card.specs.Doors.{controlAnswered}
-use Rattle.ground.proofs.Picks.{no, yes}
-use borrow.Author.Tests.{le-leb, lt-leb}
 use mathlib.Core.Path.{sym, _∙_}
+use Rattle.ground.proofs.Picks.{un-not}
+use Rattle.card.specs.Doors.{controlAnswered}
 use borrow.Author.Needs.{needs}
 use Rattle.card.proofs.doors.control_reply.Statement.{statement}
 use Rattle.card.proofs.doors.control_reply.Tie as tie
 
+-- src/doors.rt
 well-made-requires : tie.Need-well-made-requires
 well-made-requires c κs = search needs
 
+-- src/doors.rt
 refuse-requires : tie.Need-refuse-requires
 refuse-requires c κs = search needs
 
+-- src/doors.rt
 returns : tie.Need-returns
 unfolding controlAnswered
-returns c =
-    let w = sym (c .before .before .well-made .ensures) ∙ no _ (c .before .if1 .taken) in simp (w, c .refuse .ensures)
+returns c = let w = sym (c .before .before .well-made .ensures) ∙ un-not _ _ (c .before .if1 .taken) in simp (w, c .refuse .ensures)
 
+-- src/doors.rt
+sreset-in-requires : tie.Need-sreset-in-requires
+sreset-in-requires c κs = search needs
+
+-- src/doors.rt
 refuse-requires-2 : tie.Need-refuse-requires-2
 refuse-requires-2 c κs = search needs
 
+-- src/doors.rt
 returns-2 : tie.Need-returns-2
 unfolding controlAnswered
 returns-2 c =
-    let w = sym (c .before .before .before .before .well-made .ensures) ∙ yes _ (c .before .before .before .if1 .left) in simp (w, le-leb _ _ (c .before .if2 .taken), c .refuse2 .ensures)
+    let w = sym (c .before .before .before .before .well-made .ensures) ∙ un-not _ _ (c .before .before .before .if1 .left) in
+    let v = sym (c .before .before .sreset-in .ensures) ∙ c .before .if2 .taken in
+    simp (w, v, c .refuse2 .ensures)
 
+-- src/doors.rt
 write-control-requires : tie.Need-write-control-requires
 write-control-requires c κs = search needs
 
+-- src/doors.rt
 accept-requires : tie.Need-accept-requires
 accept-requires c κs = search needs
 
+-- src/doors.rt
 returns-3 : tie.Need-returns-3
 unfolding controlAnswered
 returns-3 c =
-    let w = sym (c .before .before .before .before .before .well-made .ensures) ∙ yes _ (c .before .before .before .before .if1 .left) in simp (w, lt-leb _ _ (c .before .before .if2 .left), c .accept .ensures, c .before .write-control .ensures)
+    let w = sym (c .before .before .before .before .before .well-made .ensures) ∙ un-not _ _ (c .before .before .before .before .if1 .left) in
+    let v = sym (c .before .before .before .sreset-in .ensures) ∙ c .before .before .if2 .left in
+    simp (w, v, c .accept .ensures, c .before .write-control .ensures)
 
 pub control-reply-spec : {M : Type 1} → statement M
 control-reply-spec =
@@ -43,6 +57,7 @@ control-reply-spec =
     well-made-requires
     refuse-requires
     returns
+    sreset-in-requires
     refuse-requires-2
     returns-2
     write-control-requires

@@ -1,6 +1,6 @@
 use mathlib.Core.Path.{sym, _∙_}
 use borrow.Author.Tests.{eq-eqb, ne-eqb, le-leb, lt-leb}
-use Rattle.ground.proofs.Picks.{no, yes}
+use Rattle.ground.proofs.Picks.{un-not}
 use Rattle.card.specs.Opening.{opened}
 use borrow.Author.Needs.{needs}
 use Rattle.card.proofs.opening.open_reply.Statement.{statement}
@@ -15,7 +15,7 @@ open-refused-requires c κs = search needs
 returns : tie.Need-returns
 unfolding opened
 returns c =
-    let w = sym (c .before .before .fits2 .ensures) ∙ no _ (c .before .if1 .taken) in
+    let w = sym (c .before .before .fits2 .ensures) ∙ un-not _ _ (c .before .if1 .taken) in
     simp (w, c .open-refused .ensures)
 
 open-refused-requires-2 : tie.Need-open-refused-requires-2
@@ -24,7 +24,7 @@ open-refused-requires-2 c κs = search needs
 returns-2 : tie.Need-returns-2
 unfolding opened
 returns-2 c =
-    let w = sym (c .before .before .before .fits2 .ensures) ∙ yes _ (c .before .before .if1 .left) in
+    let w = sym (c .before .before .before .fits2 .ensures) ∙ un-not _ _ (c .before .before .if1 .left) in
     simp (w, lt-leb _ _ (c .before .if2 .taken), c .open-refused2 .ensures)
 
 total-requires : tie.Need-total-requires
@@ -42,7 +42,7 @@ open-refused-requires-3 c κs = search needs
 returns-3 : tie.Need-returns-3
 unfolding opened
 returns-3 c =
-    let w = sym (c .before .before .before .before .before .fits2 .ensures) ∙ yes _ (c .before .before .before .before .if1 .left) in
+    let w = sym (c .before .before .before .before .before .fits2 .ensures) ∙ un-not _ _ (c .before .before .before .before .if1 .left) in
     let n = simp (c .before .before .total .ensures) at (c .before .if3 .taken) in
     simp (w, le-leb _ _ (c .before .before .before .if2 .left), ne-eqb _ _ n, c .open-refused3 .ensures)
 
@@ -52,7 +52,7 @@ open-refused-requires-4 c κs = search needs
 returns-4 : tie.Need-returns-4
 unfolding opened
 returns-4 c =
-    let w = sym (c .before .before .before .before .before .before .fits2 .ensures) ∙ yes _ (c .before .before .before .before .before .if1 .left) in
+    let w = sym (c .before .before .before .before .before .before .fits2 .ensures) ∙ un-not _ _ (c .before .before .before .before .before .if1 .left) in
     let s = simp (c .before .before .before .total .ensures) at (c .before .before .if3 .left) in
     let n = simp (c .before .before .before .total .ensures) at (c .before .if4 .taken) in
     simp (w, le-leb _ _ (c .before .before .before .before .if2 .left), eq-eqb _ _ s, ne-eqb _ _ n, c .open-refused4 .ensures)
@@ -63,7 +63,7 @@ open-refused-requires-5 c κs = search needs
 returns-5 : tie.Need-returns-5
 unfolding opened
 returns-5 c =
-    let w = sym (c .before .before .before .before .before .before .before .fits2 .ensures) ∙ yes _ (c .before .before .before .before .before .before .if1 .left) in
+    let w = sym (c .before .before .before .before .before .before .before .fits2 .ensures) ∙ un-not _ _ (c .before .before .before .before .before .before .if1 .left) in
     let s = simp (c .before .before .before .before .total .ensures) at (c .before .before .before .if3 .left) in
     let n = simp (c .before .before .before .before .total .ensures) at (c .before .before .if4 .left) in
     simp (w, le-leb _ _ (c .before .before .before .before .before .if2 .left), eq-eqb _ _ s, eq-eqb _ _ n, ne-eqb _ _ (c .before .if5 .taken), c .open-refused5 .ensures)
@@ -77,10 +77,10 @@ open-refused-requires-6 c κs = search needs
 returns-6 : tie.Need-returns-6
 unfolding opened
 returns-6 c =
-    let w = sym (c .before .before .before .before .before .before .before .before .before .fits2 .ensures) ∙ yes _ (c .before .before .before .before .before .before .before .before .if1 .left) in
+    let w = sym (c .before .before .before .before .before .before .before .before .before .fits2 .ensures) ∙ un-not _ _ (c .before .before .before .before .before .before .before .before .if1 .left) in
     let s = simp (c .before .before .before .before .before .before .total .ensures) at (c .before .before .before .before .before .if3 .left) in
     let n = simp (c .before .before .before .before .before .before .total .ensures) at (c .before .before .before .before .if4 .left) in
-    let m = sym (c .before .before .marks-fit .ensures) ∙ no _ (c .before .if6 .taken) in
+    let m = sym (c .before .before .marks-fit .ensures) ∙ un-not _ _ (c .before .if6 .taken) in
     simp (w, le-leb _ _ (c .before .before .before .before .before .before .before .if2 .left), eq-eqb _ _ s, eq-eqb _ _ n, eq-eqb _ _ (c .before .before .before .if5 .left), m, c .open-refused6 .ensures)
 
 mode-of-requires : tie.Need-mode-of-requires
@@ -92,10 +92,10 @@ powered-requires c κs = search needs
 returns-7 : tie.Need-returns-7
 unfolding opened
 returns-7 c =
-    let w = sym (c .before .before .before .before .before .before .before .before .before .before .fits2 .ensures) ∙ yes _ (c .before .before .before .before .before .before .before .before .before .if1 .left) in
+    let w = sym (c .before .before .before .before .before .before .before .before .before .before .fits2 .ensures) ∙ un-not _ _ (c .before .before .before .before .before .before .before .before .before .if1 .left) in
     let s = simp (c .before .before .before .before .before .before .before .total .ensures) at (c .before .before .before .before .before .before .if3 .left) in
     let n = simp (c .before .before .before .before .before .before .before .total .ensures) at (c .before .before .before .before .before .if4 .left) in
-    let m = sym (c .before .before .before .marks-fit .ensures) ∙ yes _ (c .before .before .if6 .left) in
+    let m = sym (c .before .before .before .marks-fit .ensures) ∙ un-not _ _ (c .before .before .if6 .left) in
     simp (w, le-leb _ _ (c .before .before .before .before .before .before .before .before .if2 .left), eq-eqb _ _ s, eq-eqb _ _ n, eq-eqb _ _ (c .before .before .before .before .if5 .left), m, c .powered .ensures, c .before .mode-of .ensures)
 
 pub open-reply-spec : {M : Type 1} → statement M

@@ -1,7 +1,7 @@
 use borrow.Author.Needs.{needs}
 use mathlib.Core.Path.{_≡_, sym, _∙_}
 use lib.ListN.{length}
-use Rattle.commands.specs.Runs.{blank, eraseFrom}
+use Rattle.commands.specs.Runs.{allFF, eraseFrom}
 use Rattle.commands.proofs.Loops.{erase-end, erase-fails, erase-step}
 use Rattle.commands.proofs.runs.erase.Statement.{statement}
 use Rattle.commands.proofs.runs.erase.Tie as tie
@@ -15,8 +15,8 @@ abbrev μ-loop : tie.MeasureT-loop
 loop-holds : tie.Need-loop-holds Inv-loop μ-loop
 loop-holds c = search needs
 
-store-tested-requires : tie.Need-store-tested-requires Inv-loop μ-loop
-store-tested-requires c κs = search needs
+sector-stored-requires : tie.Need-sector-stored-requires Inv-loop μ-loop
+sector-stored-requires c κs = search needs
 
 enum-told : tie.Need-enum-told Inv-loop μ-loop
 enum-told c = search needs
@@ -24,22 +24,22 @@ enum-told c = search needs
 sub-n : tie.Need-sub-n Inv-loop μ-loop
 sub-n c = search needs
 
-passed-requires : tie.Need-passed-requires Inv-loop μ-loop
-passed-requires c κs = search needs
+sector-done-requires : tie.Need-sector-done-requires Inv-loop μ-loop
+sector-done-requires c κs = search needs
 
 loop-less : tie.Need-loop-less Inv-loop μ-loop
 loop-less c = search needs
 
 loop-again : tie.Need-loop-again Inv-loop μ-loop
-unfolding blank
+unfolding allFF
 loop-again c =
-    let t = c .before .before .before .before .before .before .before .store-tested in
+    let t = c .before .before .before .before .before .before .before .sector-stored in
     let l = c .before .before .before .before .before .before .before .before .before .before .before .before .loop in
     let k = t .kept .1 .1 in
     let e = simp (c .before .enum-told .given .1) at (t .ensures) in (
       k .0 ∙ l .inv .0,
       k .1 .0 ∙ l .inv .1,
-      rw (c .passed .ensures) (sym (erase-step _ _ _ _ _ _ _ (c .before .before .before .before .before .before .before .before .before .before .before .loop-test .taken) e) ∙ l .inv .2),
+      rw (c .sector-done .ensures) (sym (erase-step _ _ _ _ _ _ _ (c .before .before .before .before .before .before .before .before .before .before .before .loop-test .taken) e) ∙ l .inv .2),
     )
 
 enum-known-end : tie.Need-enum-known-end Inv-loop μ-loop
@@ -55,9 +55,9 @@ same-length-2 : tie.Need-same-length-2 Inv-loop μ-loop
 same-length-2 c = search needs
 
 returns : tie.Need-returns Inv-loop μ-loop
-unfolding blank
+unfolding allFF
 returns c =
-    let e = simp (c .before .before .end .given .1) at (c .before .before .before .before .before .before .before .before .store-tested .ensures) in
+    let e = simp (c .before .before .end .given .1) at (c .before .before .before .before .before .before .before .before .sector-stored .ensures) in
     simp (c .ended .ensures) (sym (erase-fails _ _ _ _ _ _ _ (c .before .before .before .before .before .before .before .before .before .before .before .before .loop-test .taken) e) ∙ c .before .before .before .before .before .before .before .before .before .before .before .before .before .loop .inv .2)
 
 ended-requires-2 : tie.Need-ended-requires-2 Inv-loop μ-loop
@@ -81,10 +81,10 @@ erase-spec =
     Inv-loop
     μ-loop
     loop-holds
-    store-tested-requires
+    sector-stored-requires
     enum-told
     sub-n
-    passed-requires
+    sector-done-requires
     loop-less
     loop-again
     enum-known-end

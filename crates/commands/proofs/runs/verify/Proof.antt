@@ -23,8 +23,8 @@ enum-told c = search needs
 sub-n : tie.Need-sub-n Inv-loop μ-loop
 sub-n c = search needs
 
-passed-requires : tie.Need-passed-requires Inv-loop μ-loop
-passed-requires c κs = search needs
+sector-done-requires : tie.Need-sector-done-requires Inv-loop μ-loop
+sector-done-requires c κs = search needs
 
 loop-less : tie.Need-loop-less Inv-loop μ-loop
 loop-less c = search needs
@@ -32,7 +32,7 @@ loop-less c = search needs
 loop-again : tie.Need-loop-again Inv-loop μ-loop
 loop-again c =
     let e = sym (c .before .before .before .read-test .ensures) ∙ c .before .enum-told .given .1 in
-    rw (c .passed .ensures) (sym (verify-step _ _ _ _ (c .before .before .before .before .loop-test .taken) e) ∙ c .before .before .before .before .before .loop .inv)
+    rw (c .sector-done .ensures) (sym (verify-step _ _ _ _ (c .before .before .before .before .loop-test .taken) e) ∙ c .before .before .before .before .before .loop .inv)
 
 enum-known-end : tie.Need-enum-known-end Inv-loop μ-loop
 enum-known-end c = search needs
@@ -63,7 +63,7 @@ verify-spec =
     read-test-requires
     enum-told
     sub-n
-    passed-requires
+    sector-done-requires
     loop-less
     loop-again
     enum-known-end

@@ -1,5 +1,6 @@
 use Rattle.ground.proofs.Tests.{tests}
 use Rattle.commands.specs.Table.{commandOf}
+use borrow.Author.Needs.{needs}
 use Rattle.commands.proofs.table.command_of.Statement.{statement}
 use Rattle.commands.proofs.table.command_of.Tie as tie
 
@@ -31,41 +32,12 @@ returns-7 : tie.Need-returns-7
 unfolding commandOf
 returns-7 c = search tests
 
+sectorless-command-requires : tie.Need-sectorless-command-requires
+sectorless-command-requires c κs = search needs
+
 returns-8 : tie.Need-returns-8
 unfolding commandOf
-returns-8 c = search tests
-
-returns-9 : tie.Need-returns-9
-unfolding commandOf
-returns-9 c = search tests
-
-returns-10 : tie.Need-returns-10
-unfolding commandOf
-returns-10 c = search tests
-
-returns-11 : tie.Need-returns-11
-unfolding commandOf
-returns-11 c = search tests
-
-returns-12 : tie.Need-returns-12
-unfolding commandOf
-returns-12 c = search tests
-
-returns-13 : tie.Need-returns-13
-unfolding commandOf
-returns-13 c = search tests
-
-returns-14 : tie.Need-returns-14
-unfolding commandOf
-returns-14 c = search tests
-
-returns-15 : tie.Need-returns-15
-unfolding commandOf
-returns-15 c = search tests
-
-returns-16 : tie.Need-returns-16
-unfolding commandOf
-returns-16 c = search tests
+returns-8 c = search (tests, c .sectorless-command .ensures)
 
 pub command-of-spec : {M : Type 1} → statement M
 command-of-spec =
@@ -78,12 +50,5 @@ command-of-spec =
     returns-5
     returns-6
     returns-7
-    returns-8
-    returns-9
-    returns-10
-    returns-11
-    returns-12
-    returns-13
-    returns-14
-    returns-15
-    returns-16)
+    sectorless-command-requires
+    returns-8)

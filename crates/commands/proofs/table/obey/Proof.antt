@@ -45,8 +45,8 @@ erase-requires c κs = search needs
 enum-told-5 : tie.Need-enum-told-5
 enum-told-5 c = search needs
 
-tell-identity-requires : tie.Need-tell-identity-requires
-tell-identity-requires c κs = search needs
+identify-requires : tie.Need-identify-requires
+identify-requires c κs = search needs
 
 begun-requires : tie.Need-begun-requires
 begun-requires c κs = search needs
@@ -132,7 +132,7 @@ returns-4 c =
     simp (c .before .before .before .before .before .before .before .before .enum-told4 .given .1, w)
 
 returns-5 : tie.Need-returns-5
-returns-5 c = simp (c .before .before .before .enum-told5 .given .1, c .begun .ensures, c .before .tell-identity .ensures, c .before .before .before .before .before .started .ensures)
+returns-5 c = simp (c .before .before .before .enum-told5 .given .1, c .begun .ensures, c .before .identify .ensures, c .before .before .before .before .before .started .ensures)
 
 returns-6 : tie.Need-returns-6
 returns-6 c = simp (c .before .enum-told6 .given .1, c .begun2 .ensures, c .before .before .before .started .ensures)
@@ -176,7 +176,7 @@ obey-spec =
     count-of-requires-4
     erase-requires
     enum-told-5
-    tell-identity-requires
+    identify-requires
     begun-requires
     enum-told-6
     begun-requires-2

@@ -42,17 +42,17 @@ returns-6 : tie.Need-returns-6
 unfolding firstWord
 returns-6 c = search (tests, c .low-half .ensures, c .before .total2 .ensures)
 
-blank-requires : tie.Need-blank-requires
-blank-requires c κs = search needs
+blank-word-requires : tie.Need-blank-word-requires
+blank-word-requires c κs = search needs
 
 returns-7 : tie.Need-returns-7
 unfolding firstWord
-returns-7 c = let w = sym (c .before .blank .ensures) ∙ c .if7 .taken in search (tests, w)
+returns-7 c = let w = sym (c .before .blank-word .ensures) ∙ c .if7 .taken in search (tests, w)
 
 returns-8 : tie.Need-returns-8
 unfolding firstWord
 returns-8 c =
-    let w = sym (c .before .blank .ensures) ∙ c .if7 .left in
+    let w = sym (c .before .blank-word .ensures) ∙ c .if7 .left in
     simp (ne-eqb _ _ (c .before .before .before .before .before .before .before .if1 .left), ne-eqb _ _ (c .before .before .before .before .before .before .if2 .left), ne-eqb _ _ (c .before .before .before .before .before .if3 .left), ne-eqb _ _ (c .before .before .before .before .if4 .left), ne-eqb _ _ (c .before .before .before .if5 .left), ne-eqb _ _ (c .before .before .if6 .left), w)
 
 pub first-word-spec : {M : Type 1} → statement M
@@ -69,6 +69,6 @@ first-word-spec =
     total-requires-2
     low-half-requires
     returns-6
-    blank-requires
+    blank-word-requires
     returns-7
     returns-8)

@@ -15,8 +15,8 @@ Inv-loop self buffer₀ i₀ buffer i = (i ≤ 512) × (length buffer ≡ 512) �
 abbrev μ-loop : tie.MeasureT-loop
 μ-loop self buffer₀ i₀ buffer i = 512 - i
 
-told-requires : tie.Need-told-requires Inv-loop μ-loop
-told-requires c κs = search needs
+length-known-requires : tie.Need-length-known-requires Inv-loop μ-loop
+length-known-requires c κs = search needs
 
 loop-holds : tie.Need-loop-holds Inv-loop μ-loop
 loop-holds c = search needs
@@ -55,7 +55,7 @@ identify-spec =
     (tie.spec
     Inv-loop
     μ-loop
-    told-requires
+    length-known-requires
     loop-holds
     byte-requires
     element-write-buffer

@@ -1,4 +1,4 @@
-use Rattle.ground.proofs.Picks.{no, yes}
+use Rattle.ground.proofs.Picks.{un-not}
 use mathlib.Core.Path.{sym, _∙_}
 use Rattle.ground.specs.Choice.{every}
 use Rattle.registers.specs.WellMade.{wellMade}
@@ -12,7 +12,7 @@ fits-requires c κs = search needs
 returns : tie.Need-returns
 unfolding wellMade every
 returns c =
-    let w1 = sym (c .before .fits2 .ensures) ∙ no _ (c .if1 .taken) in
+    let w1 = sym (c .before .fits2 .ensures) ∙ un-not _ _ (c .if1 .taken) in
     simp (w1)
 
 total-requires : tie.Need-total-requires
@@ -24,8 +24,8 @@ current-for-requires c κs = search needs
 returns-2 : tie.Need-returns-2
 unfolding wellMade every
 returns-2 c =
-    let w1 = sym (c .before .before .before .before .fits2 .ensures) ∙ yes _ (c .before .before .before .if1 .left) in
-    let w2 = sym (simp (c .before .before .total .ensures) at (c .before .current-for .ensures)) ∙ no _ (c .if2 .taken) in
+    let w1 = sym (c .before .before .before .before .fits2 .ensures) ∙ un-not _ _ (c .before .before .before .if1 .left) in
+    let w2 = sym (simp (c .before .before .total .ensures) at (c .before .current-for .ensures)) ∙ un-not _ _ (c .if2 .taken) in
     simp (w1, w2)
 
 index-fits-requires : tie.Need-index-fits-requires
@@ -34,9 +34,9 @@ index-fits-requires c κs = search needs
 returns-3 : tie.Need-returns-3
 unfolding wellMade every
 returns-3 c =
-    let w1 = sym (c .before .before .before .before .before .before .fits2 .ensures) ∙ yes _ (c .before .before .before .before .before .if1 .left) in
-    let w2 = sym (simp (c .before .before .before .before .total .ensures) at (c .before .before .before .current-for .ensures)) ∙ yes _ (c .before .before .if2 .left) in
-    let w3 = sym (c .before .index-fits .ensures) ∙ no _ (c .if3 .taken) in
+    let w1 = sym (c .before .before .before .before .before .before .fits2 .ensures) ∙ un-not _ _ (c .before .before .before .before .before .if1 .left) in
+    let w2 = sym (simp (c .before .before .before .before .total .ensures) at (c .before .before .before .current-for .ensures)) ∙ un-not _ _ (c .before .before .if2 .left) in
+    let w3 = sym (c .before .index-fits .ensures) ∙ un-not _ _ (c .if3 .taken) in
     simp (w1, w2, w3)
 
 sreset-fits-requires : tie.Need-sreset-fits-requires
@@ -45,10 +45,10 @@ sreset-fits-requires c κs = search needs
 returns-4 : tie.Need-returns-4
 unfolding wellMade every
 returns-4 c =
-    let w1 = sym (c .before .before .before .before .before .before .before .before .fits2 .ensures) ∙ yes _ (c .before .before .before .before .before .before .before .if1 .left) in
-    let w2 = sym (simp (c .before .before .before .before .before .before .total .ensures) at (c .before .before .before .before .before .current-for .ensures)) ∙ yes _ (c .before .before .before .before .if2 .left) in
-    let w3 = sym (c .before .before .before .index-fits .ensures) ∙ yes _ (c .before .before .if3 .left) in
-    let w4 = sym (c .before .sreset-fits .ensures) ∙ no _ (c .if4 .taken) in
+    let w1 = sym (c .before .before .before .before .before .before .before .before .fits2 .ensures) ∙ un-not _ _ (c .before .before .before .before .before .before .before .if1 .left) in
+    let w2 = sym (simp (c .before .before .before .before .before .before .total .ensures) at (c .before .before .before .before .before .current-for .ensures)) ∙ un-not _ _ (c .before .before .before .before .if2 .left) in
+    let w3 = sym (c .before .before .before .index-fits .ensures) ∙ un-not _ _ (c .before .before .if3 .left) in
+    let w4 = sym (c .before .sreset-fits .ensures) ∙ un-not _ _ (c .if4 .taken) in
     simp (w1, w2, w3, w4)
 
 status-fits-requires : tie.Need-status-fits-requires
@@ -57,11 +57,11 @@ status-fits-requires c κs = search needs
 returns-5 : tie.Need-returns-5
 unfolding wellMade every
 returns-5 c =
-    let w1 = sym (c .before .before .before .before .before .before .before .before .before .before .fits2 .ensures) ∙ yes _ (c .before .before .before .before .before .before .before .before .before .if1 .left) in
-    let w2 = sym (simp (c .before .before .before .before .before .before .before .before .total .ensures) at (c .before .before .before .before .before .before .before .current-for .ensures)) ∙ yes _ (c .before .before .before .before .before .before .if2 .left) in
-    let w3 = sym (c .before .before .before .before .before .index-fits .ensures) ∙ yes _ (c .before .before .before .before .if3 .left) in
-    let w4 = sym (c .before .before .before .sreset-fits .ensures) ∙ yes _ (c .before .before .if4 .left) in
-    let w5 = sym (c .before .status-fits .ensures) ∙ no _ (c .if5 .taken) in
+    let w1 = sym (c .before .before .before .before .before .before .before .before .before .before .fits2 .ensures) ∙ un-not _ _ (c .before .before .before .before .before .before .before .before .before .if1 .left) in
+    let w2 = sym (simp (c .before .before .before .before .before .before .before .before .total .ensures) at (c .before .before .before .before .before .before .before .current-for .ensures)) ∙ un-not _ _ (c .before .before .before .before .before .before .if2 .left) in
+    let w3 = sym (c .before .before .before .before .before .index-fits .ensures) ∙ un-not _ _ (c .before .before .before .before .if3 .left) in
+    let w4 = sym (c .before .before .before .sreset-fits .ensures) ∙ un-not _ _ (c .before .before .if4 .left) in
+    let w5 = sym (c .before .status-fits .ensures) ∙ un-not _ _ (c .if5 .taken) in
     simp (w1, w2, w3, w4, w5)
 
 held-in-requires : tie.Need-held-in-requires
@@ -73,12 +73,12 @@ hold-fits-requires c κs = search needs
 returns-6 : tie.Need-returns-6
 unfolding wellMade every
 returns-6 c =
-    let w1 = sym (c .before .before .before .before .before .before .before .before .before .before .before .before .before .fits2 .ensures) ∙ yes _ (c .before .before .before .before .before .before .before .before .before .before .before .before .if1 .left) in
-    let w2 = sym (simp (c .before .before .before .before .before .before .before .before .before .before .before .total .ensures) at (c .before .before .before .before .before .before .before .before .before .before .current-for .ensures)) ∙ yes _ (c .before .before .before .before .before .before .before .before .before .if2 .left) in
-    let w3 = sym (c .before .before .before .before .before .before .before .before .index-fits .ensures) ∙ yes _ (c .before .before .before .before .before .before .before .if3 .left) in
-    let w4 = sym (c .before .before .before .before .before .before .sreset-fits .ensures) ∙ yes _ (c .before .before .before .before .before .if4 .left) in
-    let w5 = sym (c .before .before .before .before .status-fits .ensures) ∙ yes _ (c .before .before .before .if5 .left) in
-    let w6 = sym (simp (c .before .before .held-in .ensures) at (c .before .hold-fits .ensures)) ∙ no _ (c .if6 .taken) in
+    let w1 = sym (c .before .before .before .before .before .before .before .before .before .before .before .before .before .fits2 .ensures) ∙ un-not _ _ (c .before .before .before .before .before .before .before .before .before .before .before .before .if1 .left) in
+    let w2 = sym (simp (c .before .before .before .before .before .before .before .before .before .before .before .total .ensures) at (c .before .before .before .before .before .before .before .before .before .before .current-for .ensures)) ∙ un-not _ _ (c .before .before .before .before .before .before .before .before .before .if2 .left) in
+    let w3 = sym (c .before .before .before .before .before .before .before .before .index-fits .ensures) ∙ un-not _ _ (c .before .before .before .before .before .before .before .if3 .left) in
+    let w4 = sym (c .before .before .before .before .before .before .sreset-fits .ensures) ∙ un-not _ _ (c .before .before .before .before .before .if4 .left) in
+    let w5 = sym (c .before .before .before .before .status-fits .ensures) ∙ un-not _ _ (c .before .before .before .if5 .left) in
+    let w6 = sym (simp (c .before .before .held-in .ensures) at (c .before .hold-fits .ensures)) ∙ un-not _ _ (c .if6 .taken) in
     simp (w1, w2, w3, w4, w5, w6)
 
 words-fit-requires : tie.Need-words-fit-requires
@@ -87,13 +87,13 @@ words-fit-requires c κs = search needs
 returns-7 : tie.Need-returns-7
 unfolding wellMade every
 returns-7 c =
-    let w1 = sym (c .before .before .before .before .before .before .before .before .before .before .before .before .before .before .before .fits2 .ensures) ∙ yes _ (c .before .before .before .before .before .before .before .before .before .before .before .before .before .before .if1 .left) in
-    let w2 = sym (simp (c .before .before .before .before .before .before .before .before .before .before .before .before .before .total .ensures) at (c .before .before .before .before .before .before .before .before .before .before .before .before .current-for .ensures)) ∙ yes _ (c .before .before .before .before .before .before .before .before .before .before .before .if2 .left) in
-    let w3 = sym (c .before .before .before .before .before .before .before .before .before .before .index-fits .ensures) ∙ yes _ (c .before .before .before .before .before .before .before .before .before .if3 .left) in
-    let w4 = sym (c .before .before .before .before .before .before .before .before .sreset-fits .ensures) ∙ yes _ (c .before .before .before .before .before .before .before .if4 .left) in
-    let w5 = sym (c .before .before .before .before .before .before .status-fits .ensures) ∙ yes _ (c .before .before .before .before .before .if5 .left) in
-    let w6 = sym (simp (c .before .before .before .before .held-in .ensures) at (c .before .before .before .hold-fits .ensures)) ∙ yes _ (c .before .before .if6 .left) in
-    let w7 = sym (c .before .words-fit .ensures) ∙ no _ (c .if7 .taken) in
+    let w1 = sym (c .before .before .before .before .before .before .before .before .before .before .before .before .before .before .before .fits2 .ensures) ∙ un-not _ _ (c .before .before .before .before .before .before .before .before .before .before .before .before .before .before .if1 .left) in
+    let w2 = sym (simp (c .before .before .before .before .before .before .before .before .before .before .before .before .before .total .ensures) at (c .before .before .before .before .before .before .before .before .before .before .before .before .current-for .ensures)) ∙ un-not _ _ (c .before .before .before .before .before .before .before .before .before .before .before .if2 .left) in
+    let w3 = sym (c .before .before .before .before .before .before .before .before .before .before .index-fits .ensures) ∙ un-not _ _ (c .before .before .before .before .before .before .before .before .before .if3 .left) in
+    let w4 = sym (c .before .before .before .before .before .before .before .before .sreset-fits .ensures) ∙ un-not _ _ (c .before .before .before .before .before .before .before .if4 .left) in
+    let w5 = sym (c .before .before .before .before .before .before .status-fits .ensures) ∙ un-not _ _ (c .before .before .before .before .before .if5 .left) in
+    let w6 = sym (simp (c .before .before .before .before .held-in .ensures) at (c .before .before .before .hold-fits .ensures)) ∙ un-not _ _ (c .before .before .if6 .left) in
+    let w7 = sym (c .before .words-fit .ensures) ∙ un-not _ _ (c .if7 .taken) in
     simp (w1, w2, w3, w4, w5, w6, w7)
 
 run-fits-requires : tie.Need-run-fits-requires
@@ -102,27 +102,27 @@ run-fits-requires c κs = search needs
 returns-8 : tie.Need-returns-8
 unfolding wellMade every
 returns-8 c =
-    let w1 = sym (c .before .before .before .before .before .before .before .before .before .before .before .before .before .before .before .before .before .fits2 .ensures) ∙ yes _ (c .before .before .before .before .before .before .before .before .before .before .before .before .before .before .before .before .if1 .left) in
-    let w2 = sym (simp (c .before .before .before .before .before .before .before .before .before .before .before .before .before .before .before .total .ensures) at (c .before .before .before .before .before .before .before .before .before .before .before .before .before .before .current-for .ensures)) ∙ yes _ (c .before .before .before .before .before .before .before .before .before .before .before .before .before .if2 .left) in
-    let w3 = sym (c .before .before .before .before .before .before .before .before .before .before .before .before .index-fits .ensures) ∙ yes _ (c .before .before .before .before .before .before .before .before .before .before .before .if3 .left) in
-    let w4 = sym (c .before .before .before .before .before .before .before .before .before .before .sreset-fits .ensures) ∙ yes _ (c .before .before .before .before .before .before .before .before .before .if4 .left) in
-    let w5 = sym (c .before .before .before .before .before .before .before .before .status-fits .ensures) ∙ yes _ (c .before .before .before .before .before .before .before .if5 .left) in
-    let w6 = sym (simp (c .before .before .before .before .before .before .held-in .ensures) at (c .before .before .before .before .before .hold-fits .ensures)) ∙ yes _ (c .before .before .before .before .if6 .left) in
-    let w7 = sym (c .before .before .before .words-fit .ensures) ∙ yes _ (c .before .before .if7 .left) in
-    let w8 = sym (c .before .run-fits .ensures) ∙ no _ (c .if8 .taken) in
+    let w1 = sym (c .before .before .before .before .before .before .before .before .before .before .before .before .before .before .before .before .before .fits2 .ensures) ∙ un-not _ _ (c .before .before .before .before .before .before .before .before .before .before .before .before .before .before .before .before .if1 .left) in
+    let w2 = sym (simp (c .before .before .before .before .before .before .before .before .before .before .before .before .before .before .before .total .ensures) at (c .before .before .before .before .before .before .before .before .before .before .before .before .before .before .current-for .ensures)) ∙ un-not _ _ (c .before .before .before .before .before .before .before .before .before .before .before .before .before .if2 .left) in
+    let w3 = sym (c .before .before .before .before .before .before .before .before .before .before .before .before .index-fits .ensures) ∙ un-not _ _ (c .before .before .before .before .before .before .before .before .before .before .before .if3 .left) in
+    let w4 = sym (c .before .before .before .before .before .before .before .before .before .before .sreset-fits .ensures) ∙ un-not _ _ (c .before .before .before .before .before .before .before .before .before .if4 .left) in
+    let w5 = sym (c .before .before .before .before .before .before .before .before .status-fits .ensures) ∙ un-not _ _ (c .before .before .before .before .before .before .before .if5 .left) in
+    let w6 = sym (simp (c .before .before .before .before .before .before .held-in .ensures) at (c .before .before .before .before .before .hold-fits .ensures)) ∙ un-not _ _ (c .before .before .before .before .if6 .left) in
+    let w7 = sym (c .before .before .before .words-fit .ensures) ∙ un-not _ _ (c .before .before .if7 .left) in
+    let w8 = sym (c .before .run-fits .ensures) ∙ un-not _ _ (c .if8 .taken) in
     simp (w1, w2, w3, w4, w5, w6, w7, w8)
 
 returns-9 : tie.Need-returns-9
 unfolding wellMade every
 returns-9 c =
-    let w1 = sym (c .before .before .before .before .before .before .before .before .before .before .before .before .before .before .before .before .before .fits2 .ensures) ∙ yes _ (c .before .before .before .before .before .before .before .before .before .before .before .before .before .before .before .before .if1 .left) in
-    let w2 = sym (simp (c .before .before .before .before .before .before .before .before .before .before .before .before .before .before .before .total .ensures) at (c .before .before .before .before .before .before .before .before .before .before .before .before .before .before .current-for .ensures)) ∙ yes _ (c .before .before .before .before .before .before .before .before .before .before .before .before .before .if2 .left) in
-    let w3 = sym (c .before .before .before .before .before .before .before .before .before .before .before .before .index-fits .ensures) ∙ yes _ (c .before .before .before .before .before .before .before .before .before .before .before .if3 .left) in
-    let w4 = sym (c .before .before .before .before .before .before .before .before .before .before .sreset-fits .ensures) ∙ yes _ (c .before .before .before .before .before .before .before .before .before .if4 .left) in
-    let w5 = sym (c .before .before .before .before .before .before .before .before .status-fits .ensures) ∙ yes _ (c .before .before .before .before .before .before .before .if5 .left) in
-    let w6 = sym (simp (c .before .before .before .before .before .before .held-in .ensures) at (c .before .before .before .before .before .hold-fits .ensures)) ∙ yes _ (c .before .before .before .before .if6 .left) in
-    let w7 = sym (c .before .before .before .words-fit .ensures) ∙ yes _ (c .before .before .if7 .left) in
-    let w8 = sym (c .before .run-fits .ensures) ∙ yes _ (c .if8 .left) in
+    let w1 = sym (c .before .before .before .before .before .before .before .before .before .before .before .before .before .before .before .before .before .fits2 .ensures) ∙ un-not _ _ (c .before .before .before .before .before .before .before .before .before .before .before .before .before .before .before .before .if1 .left) in
+    let w2 = sym (simp (c .before .before .before .before .before .before .before .before .before .before .before .before .before .before .before .total .ensures) at (c .before .before .before .before .before .before .before .before .before .before .before .before .before .before .current-for .ensures)) ∙ un-not _ _ (c .before .before .before .before .before .before .before .before .before .before .before .before .before .if2 .left) in
+    let w3 = sym (c .before .before .before .before .before .before .before .before .before .before .before .before .index-fits .ensures) ∙ un-not _ _ (c .before .before .before .before .before .before .before .before .before .before .before .if3 .left) in
+    let w4 = sym (c .before .before .before .before .before .before .before .before .before .before .sreset-fits .ensures) ∙ un-not _ _ (c .before .before .before .before .before .before .before .before .before .if4 .left) in
+    let w5 = sym (c .before .before .before .before .before .before .before .before .status-fits .ensures) ∙ un-not _ _ (c .before .before .before .before .before .before .before .if5 .left) in
+    let w6 = sym (simp (c .before .before .before .before .before .before .held-in .ensures) at (c .before .before .before .before .before .hold-fits .ensures)) ∙ un-not _ _ (c .before .before .before .before .if6 .left) in
+    let w7 = sym (c .before .before .before .words-fit .ensures) ∙ un-not _ _ (c .before .before .if7 .left) in
+    let w8 = sym (c .before .run-fits .ensures) ∙ un-not _ _ (c .if8 .left) in
     simp (w1, w2, w3, w4, w5, w6, w7, w8)
 
 pub well-made-spec : {M : Type 1} → statement M

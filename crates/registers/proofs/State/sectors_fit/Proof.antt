@@ -1,4 +1,4 @@
-use Rattle.ground.proofs.Picks.{no, yes}
+use Rattle.ground.proofs.Picks.{un-not}
 use mathlib.Core.Path.{sym, _∙_}
 use borrow.Author.Tests.{eq-eqb, ne-eqb, le-leb, lt-leb}
 use Rattle.ground.specs.Choice.{every}
@@ -12,26 +12,26 @@ found-requires c κs = search needs
 
 returns : tie.Need-returns
 unfolding sectorsFit every
-returns c = let w = sym (c .before .found .ensures) ∙ no _ (c .if1 .taken) in simp w
+returns c = let w = sym (c .before .found .ensures) ∙ un-not _ _ (c .if1 .taken) in simp w
 
 returns-2 : tie.Need-returns-2
 unfolding sectorsFit every
-returns-2 c = let w = sym (c .before .before .found .ensures) ∙ yes _ (c .before .if1 .left) in simp (w, lt-leb _ _ (c .if2 .taken))
+returns-2 c = let w = sym (c .before .before .found .ensures) ∙ un-not _ _ (c .before .if1 .left) in simp (w, lt-leb _ _ (c .if2 .taken))
 
 returns-3 : tie.Need-returns-3
 unfolding sectorsFit every
-returns-3 c = let w = sym (c .before .before .before .found .ensures) ∙ yes _ (c .before .before .if1 .left) in simp (w, le-leb _ _ (c .before .if2 .left), lt-leb _ _ (c .if3 .taken))
+returns-3 c = let w = sym (c .before .before .before .found .ensures) ∙ un-not _ _ (c .before .before .if1 .left) in simp (w, le-leb _ _ (c .before .if2 .left), lt-leb _ _ (c .if3 .taken))
 
 cast-count : tie.Need-cast-count
 cast-count c = search needs
 
 returns-4 : tie.Need-returns-4
 unfolding sectorsFit every
-returns-4 c = let w = sym (c .before .before .before .before .before .before .found .ensures) ∙ yes _ (c .before .before .before .before .before .if1 .left) in simp (w, le-leb _ _ (c .before .before .before .before .if2 .left), le-leb _ _ (c .before .before .before .if3 .left), ne-eqb _ _ (c .if4 .taken))
+returns-4 c = let w = sym (c .before .before .before .before .before .before .found .ensures) ∙ un-not _ _ (c .before .before .before .before .before .if1 .left) in simp (w, le-leb _ _ (c .before .before .before .before .if2 .left), le-leb _ _ (c .before .before .before .if3 .left), ne-eqb _ _ (c .if4 .taken))
 
 returns-5 : tie.Need-returns-5
 unfolding sectorsFit every
-returns-5 c = let w = sym (c .before .before .before .before .before .before .found .ensures) ∙ yes _ (c .before .before .before .before .before .if1 .left) in simp (w, le-leb _ _ (c .before .before .before .before .if2 .left), le-leb _ _ (c .before .before .before .if3 .left), eq-eqb _ _ (c .if4 .left))
+returns-5 c = let w = sym (c .before .before .before .before .before .before .found .ensures) ∙ un-not _ _ (c .before .before .before .before .before .if1 .left) in simp (w, le-leb _ _ (c .before .before .before .before .if2 .left), le-leb _ _ (c .before .before .before .if3 .left), eq-eqb _ _ (c .if4 .left))
 
 pub sectors-fit-spec : {M : Type 1} → statement M
 sectors-fit-spec =

@@ -1,4 +1,4 @@
-use Rattle.session.proofs.Plays.{after-header, text-counts}
+use Rattle.session.proofs.Plays.{after-header, text-lies}
 use mathlib.Core.Path.{ap, _∙_}
 use Rattle.text.specs.Output.{Output}
 use Rattle.session.specs.Play.{sessionOf, printedAt}
@@ -19,7 +19,7 @@ returns : tie.Need-returns
 returns c =
     let a = c .before .before .before .before .before .before .before .before .before .before .args in
     let e = c .before .before .session .ensures ∙ ap (λ (o : Output). printedAt o (sessionOf (a .file .now))) (c .before .before .before .before .before .before .put-header .ensures) ∙ after-header (a .out .now) (a .file .now) in
-    (e, text-counts (a .out .now) (a .file .now) _ _ e)
+    (e, text-lies (a .out .now) (a .file .now) _ _ e)
 
 pub play-spec : {M : Type 1} → statement M
 play-spec = tie.close (tie.spec put-header-requires session-requires same-length returns)

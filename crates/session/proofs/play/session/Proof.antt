@@ -35,8 +35,8 @@ first-requires c κs = search needs
 enum-known-sizes : tie.Need-enum-known-sizes
 enum-known-sizes c = search needs
 
-begun-requires : tie.Need-begun-requires
-begun-requires c κs = search needs
+opening-requires : tie.Need-opening-requires
+opening-requires c κs = search needs
 
 enum-known-why : tie.Need-enum-known-why
 enum-known-why c = search needs
@@ -49,7 +49,7 @@ same-length-3 c = search needs
 
 returns-3 : tie.Need-returns-3
 unfolding sessionOf
-returns-3 c = let e = sym (ap firstOf (c .before .before .before .before .before .before .before .before .first-record .ensures)) ∙ sym (c .before .before .before .before .before .before .before .first .ensures) ∙ c .before .before .before .before .before .sizes .given .1 in simp (le-ltb _ _ (c .before .before .before .before .before .before .before .before .before .before .if1 .left), ne-eqb _ _ (c .before .before .before .before .before .before .before .before .before .if2 .left), e) (c .before .before .begun .ensures)
+returns-3 c = let e = sym (ap firstOf (c .before .before .before .before .before .before .before .before .first-record .ensures)) ∙ sym (c .before .before .before .before .before .before .before .first .ensures) ∙ c .before .before .before .before .before .sizes .given .1 in simp (le-ltb _ _ (c .before .before .before .before .before .before .before .before .before .before .if1 .left), ne-eqb _ _ (c .before .before .before .before .before .before .before .before .before .if2 .left), e) (c .before .before .opening .ensures)
 
 same-length-4 : tie.Need-same-length-4
 same-length-4 c = search needs
@@ -71,7 +71,7 @@ session-spec =
     first-record-requires
     first-requires
     enum-known-sizes
-    begun-requires
+    opening-requires
     enum-known-why
     bad-requires-3
     same-length-3

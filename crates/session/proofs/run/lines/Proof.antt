@@ -3,16 +3,16 @@ use borrow.Author.Needs.{needs}
 use native.Mathlib.Omega.{arith}
 use Prim.Native.Nat.{ℕ, _+_, _-_, _^_, _<_, _≤_}
 use lib.ListN.{length}
-use Rattle.registers.specs.State.{machine}
+use Rattle.registers.specs.Machine.{machine}
 use Rattle.session.specs.declared.Ending.the-variants.{Broken}
-use Rattle.records.specs.Record.{turnOf}
-use Rattle.text.specs.declared.Four.{Four}
+use Rattle.records.specs.Record.{afterOf}
+use Rattle.text.specs.declared.LineNumber.{LineNumber}
 use Rattle.text.specs.Text.{bad}
-use Rattle.text.specs.Digits.{fourOf, fourAfter}
+use Rattle.text.specs.Digits.{lineNumber, nextNumber}
 use Rattle.text.specs.Output.{Output, output, put}
-use Rattle.session.specs.Verdict.{verdictOf}
+use Rattle.card.specs.Verdict.{verdictOf}
 use Rattle.session.specs.Run.{accessOf, wrapped, scriptFrom, resultOf, shown}
-use Rattle.text.proofs.Digits.{counts-round}
+use Rattle.text.proofs.Digits.{next-number}
 use Rattle.records.proofs.Fits.{access-fits}
 use Rattle.session.proofs.Verdicts.{steady}
 use Rattle.session.proofs.Runs.{lines-end, lines-none, lines-stop, lines-turn}
@@ -20,19 +20,19 @@ use Rattle.session.proofs.run.lines.Statement.{statement}
 use Rattle.session.proofs.run.lines.Tie as tie
 
 abbrev Inv-loop : tie.InvT-loop
-Inv-loop verdict part from first number tuples store₀ marks₀ out₀ start buffer₀ core₀ at₀ four₀ done₀ text₀ left₀ store marks out buffer core at four done text left =
+Inv-loop verdict part from first number tuples store₀ marks₀ out₀ start buffer₀ core₀ at₀ counter₀ done₀ text₀ left₀ store marks out buffer core at counter done text left =
     (done + left ≤ length part)
     × (length part < 2 ^ 64)
     × (length store ≡ length store₀)
     × (length marks ≡ length marks₀)
     × (length out ≡ length out₀)
     × (verdict ≡ verdictOf (core .phase) (core .state) store marks tuples)
-    × (four .number < 2 ^ 64)
-    × (four ≡ fourOf (four .number))
-    × (shown (output out text) (resultOf first (four .number) done (machine core buffer store marks) (scriptFrom left part tuples at)) ≡ shown (output out₀ text₀) (resultOf first number done₀ (machine core₀ buffer₀ store₀ marks₀) (scriptFrom left₀ part tuples at₀)))
+    × (counter .value < 2 ^ 64)
+    × (counter ≡ lineNumber (counter .value))
+    × (shown (output out text) (resultOf first (counter .value) done (machine core buffer store marks) (scriptFrom left part tuples at)) ≡ shown (output out₀ text₀) (resultOf first number done₀ (machine core₀ buffer₀ store₀ marks₀) (scriptFrom left₀ part tuples at₀)))
 
 abbrev μ-loop : tie.MeasureT-loop
-μ-loop verdict part from first number tuples store₀ marks₀ out₀ start buffer₀ core₀ at₀ four₀ done₀ text₀ left₀ store marks out buffer core at four done text left = left
+μ-loop verdict part from first number tuples store₀ marks₀ out₀ start buffer₀ core₀ at₀ counter₀ done₀ text₀ left₀ store marks out buffer core at counter done text left = left
 
 of-requires : tie.Need-of-requires Inv-loop μ-loop
 of-requires c κs = search needs
@@ -40,7 +40,7 @@ of-requires c κs = search needs
 loop-holds : tie.Need-loop-holds Inv-loop μ-loop
 loop-holds c =
     let e = c .of .ensures in
-    (search needs, search needs, refl, refl, refl, c .before .before .before .before .before .before .before .before .pre, rw e (search needs), e ∙ ap (λ (f : Four). fourOf (f .number)) (sym e), rw e refl)
+    (search needs, search needs, refl, refl, refl, c .before .before .before .before .before .before .before .before .pre, rw e (search needs), e ∙ ap (λ (f : LineNumber). lineNumber (f .value)) (sym e), rw e refl)
 
 ran-requires : tie.Need-ran-requires Inv-loop μ-loop
 ran-requires c κs = search needs
@@ -58,13 +58,13 @@ returns : tie.Need-returns Inv-loop μ-loop
 returns c =
     let l = c .before .before .before .loop in
     let a = c .before .before .before .before .before .before .before .before .before .before .before .before .args in
-    rw (c .ran .ensures) (sym (lines-end (output (l .out) (l .text)) (a .first) (l .four .number) (l .done) (l .left) (l .at) (a .part .now) (a .tuples .now) (machine (l .core) (l .buffer) (l .store) (l .marks)) (c .before .if1 .taken)) ∙ l .inv .8)
+    rw (c .ran .ensures) (sym (lines-end (output (l .out) (l .text)) (a .first) (l .counter .value) (l .done) (l .left) (l .at) (a .part .now) (a .tuples .now) (machine (l .core) (l .buffer) (l .store) (l .marks)) (c .before .if1 .taken)) ∙ l .inv .8)
 
 record-at-requires : tie.Need-record-at-requires Inv-loop μ-loop
 record-at-requires c κs = search needs
 
-turn-requires : tie.Need-turn-requires Inv-loop μ-loop
-turn-requires c κs = search needs
+after-requires : tie.Need-after-requires Inv-loop μ-loop
+after-requires c κs = search needs
 
 enum-known-why : tie.Need-enum-known-why Inv-loop μ-loop
 enum-known-why c = search needs
@@ -94,23 +94,23 @@ returns-2 c =
     let o = output (l .out) (l .text) in
     let m = machine (l .core) (l .buffer) (l .store) (l .marks) in
     let p = c .before .before .before .put-bad .ensures ∙ ap (λ (n : ℕ). put o (bad n)) (c .before .before .before .before .before .wrapping-add-u64 .ensures) in
-    let e = sym (ap turnOf (c .before .before .before .before .before .before .before .before .before .before .record-at .ensures)) ∙ sym (c .before .before .before .before .before .before .before .before .before .turn .ensures) ∙ c .before .before .before .before .before .before .before .why .given .1 in
+    let e = sym (ap afterOf (c .before .before .before .before .before .before .before .before .before .before .record-at .ensures)) ∙ sym (c .before .before .before .before .before .before .before .before .before .after .ensures) ∙ c .before .before .before .before .before .before .before .why .given .1 in
     rw (c .ran2 .ensures)
     (ap (λ (x : Output). record { machine = m; place = wrapped (a .first + l .at); done = l .done; end = Broken (c .before .before .before .before .before .before .before .why .given .0 .0); out = x }) p
-    ∙ sym (lines-stop o (a .first) (l .four .number) (l .done) (l .left) (l .at) (a .part .now) (a .tuples .now) m (c .before .before .before .before .before .before .before .why .given .0 .0) (c .before .before .before .before .before .before .before .before .before .before .before .before .loop-test .taken) (c .before .before .before .before .before .before .before .before .before .before .before .if1 .left) e)
+    ∙ sym (lines-stop o (a .first) (l .counter .value) (l .done) (l .left) (l .at) (a .part .now) (a .tuples .now) m (c .before .before .before .before .before .before .before .why .given .0 .0) (c .before .before .before .before .before .before .before .before .before .before .before .before .loop-test .taken) (c .before .before .before .before .before .before .before .before .before .before .before .if1 .left) e)
     ∙ l .inv .8)
 
 enum-known-write : tie.Need-enum-known-write Inv-loop μ-loop
 enum-known-write c = search needs
 
-told-requires : tie.Need-told-requires Inv-loop μ-loop
-told-requires c κs = search needs
+length-known-requires : tie.Need-length-known-requires Inv-loop μ-loop
+length-known-requires c κs = search needs
 
 count-known-requires : tie.Need-count-known-requires Inv-loop μ-loop
 count-known-requires c κs = search needs
 
-answer-requires : tie.Need-answer-requires Inv-loop μ-loop
-answer-requires c κs = search needs
+by-verdict-requires : tie.Need-by-verdict-requires Inv-loop μ-loop
+by-verdict-requires c κs = search needs
 
 put-answer-requires : tie.Need-put-answer-requires Inv-loop μ-loop
 put-answer-requires c κs = c .before .before .before .before .before .before .before .before .before .before .before .before .before .before .before .before .before .before .before .before .loop .inv .7
@@ -127,7 +127,7 @@ cast-at c = search needs
 add-at : tie.Need-add-at Inv-loop μ-loop
 add-at c =
     let l = c .before .before .before .before .before .before .before .before .before .before .before .before .before .before .before .before .before .before .before .before .before .before .before .before .before .loop in
-    let f = access-fits _ _ (c .before .before .before .before .before .before .before .before .before .before .before .before .before .before .before .before .before .before .before .before .before .before .before .before .before .before .before .before .before .before .before .before .before .before .args .part .now) (l .at) (c .before .before .before .before .before .before .before .before .before .before .before .before .before .before .before .before .before .before .before .before .before .before .before .if1 .left) (sym (ap turnOf (c .before .before .before .before .before .before .before .before .before .before .before .before .before .before .before .before .before .before .before .before .before .before .record-at .ensures)) ∙ sym (c .before .before .before .before .before .before .before .before .before .before .before .before .before .before .before .before .before .before .before .before .before .turn .ensures) ∙ c .before .before .before .before .before .before .before .before .before .before .before .before .before .before .before .before .before .before .before .write .given .1) in
+    let f = access-fits _ _ (c .before .before .before .before .before .before .before .before .before .before .before .before .before .before .before .before .before .before .before .before .before .before .before .before .before .before .before .before .before .before .before .before .before .before .args .part .now) (l .at) (c .before .before .before .before .before .before .before .before .before .before .before .before .before .before .before .before .before .before .before .before .before .before .before .if1 .left) (sym (ap afterOf (c .before .before .before .before .before .before .before .before .before .before .before .before .before .before .before .before .before .before .before .before .before .before .record-at .ensures)) ∙ sym (c .before .before .before .before .before .before .before .before .before .before .before .before .before .before .before .before .before .before .before .before .before .after .ensures) ∙ c .before .before .before .before .before .before .before .before .before .before .before .before .before .before .before .before .before .before .before .write .given .1) in
     omega (arith, f, c .size-of .ensures .0, l .inv .1)
 
 add-done : tie.Need-add-done Inv-loop μ-loop
@@ -143,13 +143,13 @@ loop-again : tie.Need-loop-again Inv-loop μ-loop
 loop-again c =
     let l = c .before .before .before .before .before .before .before .before .before .before .before .before .before .before .before .before .before .before .before .before .before .before .before .before .before .loop in
     let a = c .before .before .before .before .before .before .before .before .before .before .before .before .before .before .before .before .before .before .before .before .before .before .before .before .before .before .before .before .before .before .before .before .before .before .args in
-    let r = c .before .before .before .before .before .before .before .before .before .before .before .answer in
-    let k = r .kept .1 .1 .1 .1 .1 .1 in
+    let r = c .before .before .before .before .before .before .before .before .before .before .before .by-verdict in
+    let k = r .kept .1 .1 .1 .1 .1 .1 .1 .1 .1 in
     let o = output (l .out) (l .text) in
-    let e = sym (ap turnOf (c .before .before .before .before .before .before .before .before .before .before .before .before .before .before .before .before .before .before .before .before .before .before .record-at .ensures)) ∙ sym (c .before .before .before .before .before .before .before .before .before .before .before .before .before .before .before .before .before .before .before .before .before .turn .ensures) ∙ c .before .before .before .before .before .before .before .before .before .before .before .before .before .before .before .before .before .before .before .write .given .1 in
-    let t = steady (a .verdict) (machine (l .core) (l .buffer) (l .store) (l .marks)) (accessOf _ _ (a .tuples .now)) _ (l .inv .5) (c .before .before .before .before .before .before .before .before .before .before .before .before .before .before .before .count-known .ensures) (c .before .before .before .before .before .before .before .before .before .before .before .before .before .before .before .before .told .ensures) (r .ensures) in
-    let g = c .before .next .ensures ∙ ap fourAfter (l .inv .7) ∙ sym (counts-round (l .four .number) (l .inv .6)) in
-    let f = lines-turn o _ (a .first) (l .four .number) (l .done) (l .left) (l .at) (a .part .now) (a .tuples .now) (machine (l .core) (l .buffer) (l .store) (l .marks)) _ _ _ (c .before .before .before .before .before .before .before .before .before .before .before .before .before .before .before .before .before .before .before .before .before .before .before .before .loop-test .taken) (c .before .before .before .before .before .before .before .before .before .before .before .before .before .before .before .before .before .before .before .before .before .before .before .if1 .left) e (t .0) (c .before .before .before .before .put-answer .ensures) in (
+    let e = sym (ap afterOf (c .before .before .before .before .before .before .before .before .before .before .before .before .before .before .before .before .before .before .before .before .before .before .record-at .ensures)) ∙ sym (c .before .before .before .before .before .before .before .before .before .before .before .before .before .before .before .before .before .before .before .before .before .after .ensures) ∙ c .before .before .before .before .before .before .before .before .before .before .before .before .before .before .before .before .before .before .before .write .given .1 in
+    let t = steady (a .verdict) (machine (l .core) (l .buffer) (l .store) (l .marks)) (accessOf _ _ (a .tuples .now)) _ (l .inv .5) (c .before .before .before .before .before .before .before .before .before .before .before .before .before .before .before .count-known .ensures) (c .before .before .before .before .before .before .before .before .before .before .before .before .before .before .before .before .length-known .ensures) (r .ensures) in
+    let g = c .before .next .ensures ∙ ap nextNumber (l .inv .7) ∙ sym (next-number (l .counter .value) (l .inv .6)) in
+    let f = lines-turn o _ (a .first) (l .counter .value) (l .done) (l .left) (l .at) (a .part .now) (a .tuples .now) (machine (l .core) (l .buffer) (l .store) (l .marks)) _ _ _ (c .before .before .before .before .before .before .before .before .before .before .before .before .before .before .before .before .before .before .before .before .before .before .before .before .loop-test .taken) (c .before .before .before .before .before .before .before .before .before .before .before .before .before .before .before .before .before .before .before .before .before .before .before .if1 .left) e (t .0) (c .before .before .before .before .put-answer .ensures) in (
       omega (arith, l .inv .0, c .before .before .before .before .before .before .before .before .before .before .before .before .before .before .before .before .before .before .before .before .before .before .before .before .loop-test .taken),
       l .inv .1,
       k .0 ∙ l .inv .2,
@@ -157,7 +157,7 @@ loop-again c =
       c .before .before .before .before .put-answer .kept .0 ∙ l .inv .4,
       t .1,
       rw g (omega arith),
-      g ∙ ap (λ (f : Four). fourOf (f .number)) (sym g),
+      g ∙ ap (λ (f : LineNumber). lineNumber (f .value)) (sym g),
       rw (g, c .size-of .ensures .0) (f ∙ l .inv .8),
     )
 
@@ -177,7 +177,7 @@ returns-3 : tie.Need-returns-3 Inv-loop μ-loop
 returns-3 c =
     let l = c .before .before .loop in
     let a = c .before .before .before .before .before .before .before .before .before .before .before .args in
-    rw (c .ran3 .ensures) (sym (lines-none (output (l .out) (l .text)) (a .first) (l .four .number) (l .done) (l .left) (l .at) (a .part .now) (a .tuples .now) (machine (l .core) (l .buffer) (l .store) (l .marks)) (c .before .loop-test .left)) ∙ l .inv .8)
+    rw (c .ran3 .ensures) (sym (lines-none (output (l .out) (l .text)) (a .first) (l .counter .value) (l .done) (l .left) (l .at) (a .part .now) (a .tuples .now) (machine (l .core) (l .buffer) (l .store) (l .marks)) (c .before .loop-test .left)) ∙ l .inv .8)
 
 pub lines-spec : {M : Type 1} → statement M
 lines-spec =
@@ -193,7 +193,7 @@ lines-spec =
     same-length-3
     returns
     record-at-requires
-    turn-requires
+    after-requires
     enum-known-why
     wrapping-add-u64-requires
     put-bad-requires
@@ -203,9 +203,9 @@ lines-spec =
     same-length-6
     returns-2
     enum-known-write
-    told-requires
+    length-known-requires
     count-known-requires
-    answer-requires
+    by-verdict-requires
     put-answer-requires
     next-requires
     size-of-requires

@@ -1,20 +1,20 @@
 use mathlib.Core.Path.{_≡_, ap, _∙_}
-use Rattle.text.specs.declared.Four.{Four}
+use Rattle.text.specs.declared.LineNumber.{LineNumber}
 use Rattle.text.specs.Text.{decimal}
-use Rattle.text.specs.Digits.{fourOf, numeral}
+use Rattle.text.specs.Digits.{lineNumber, numeral}
 use Rattle.text.proofs.Digits.{numeral-of}
 use borrow.Author.Needs.{needs}
 use Rattle.session.proofs.run.put_answer.Statement.{statement}
 use Rattle.session.proofs.run.put_answer.Tie as tie
 
-digits-print : (f : Four) → f ≡ fourOf (f .number) → numeral f ≡ decimal (f .number)
-digits-print f e = ap numeral e ∙ numeral-of (f .number)
+digits-print : (f : LineNumber) → f ≡ lineNumber (f .value) → numeral f ≡ decimal (f .value)
+digits-print f e = ap numeral e ∙ numeral-of (f .value)
 
 enum-known-outcome : tie.Need-enum-known-outcome
 enum-known-outcome c = search needs
 
-shown-value-requires : tie.Need-shown-value-requires
-shown-value-requires c κs = search needs
+written-or-read-requires : tie.Need-written-or-read-requires
+written-or-read-requires c κs = search needs
 
 put-accepted-requires : tie.Need-put-accepted-requires
 put-accepted-requires c κs = search needs
@@ -34,8 +34,8 @@ same-length c = search needs
 returns : tie.Need-returns
 returns c =
     let b = c .before .before .before .before .before .before .before .before .before in
-    let e = digits-print (b .args .four) (b .pre) in
-    simp (c .before .before .before .before .before .before .outcome .given .1) (rw (c .before .before .before .before .shown-value .ensures, e) at (c .before .before .put-accepted .ensures))
+    let e = digits-print (b .args .number) (b .pre) in
+    simp (c .before .before .before .before .before .before .outcome .given .1) (rw (c .before .before .before .before .written-or-read .ensures, e) at (c .before .before .put-accepted .ensures))
 
 same-length-2 : tie.Need-same-length-2
 same-length-2 c = search needs
@@ -43,7 +43,7 @@ same-length-2 c = search needs
 returns-2 : tie.Need-returns-2
 returns-2 c =
     let b = c .before .before .before .before .before .before .before .before .before in
-    let e = digits-print (b .args .four) (b .pre) in
+    let e = digits-print (b .args .number) (b .pre) in
     simp (c .before .before .before .before .before .before .outcome2 .given .1) (rw (c .before .before .before .before .number .ensures, e) at (c .before .before .put-line .ensures))
 
 pub put-answer-spec : {M : Type 1} → statement M
@@ -51,7 +51,7 @@ put-answer-spec =
     tie.close
     (tie.spec
     enum-known-outcome
-    shown-value-requires
+    written-or-read-requires
     put-accepted-requires
     enum-known-outcome-2
     number-requires

@@ -4,10 +4,10 @@ use Rattle.trial.proofs.lists.read.Statement.{statement}
 use Rattle.trial.proofs.lists.read.Tie as tie
 
 abbrev Inv-loop : tie.InvT-loop
-Inv-loop chain places held n i₀ i = i ≤ n
+Inv-loop buffer places held n i₀ i = i ≤ n
 
 abbrev μ-loop : tie.MeasureT-loop
-μ-loop chain places held n i₀ i = n - i
+μ-loop buffer places held n i₀ i = n - i
 
 cast-places : tie.Need-cast-places Inv-loop μ-loop
 cast-places c = search needs
@@ -27,8 +27,8 @@ outcome-line-requires c κs = search needs
 value-requires : tie.Need-value-requires Inv-loop μ-loop
 value-requires c κs = search needs
 
-shown-requires : tie.Need-shown-requires Inv-loop μ-loop
-shown-requires c κs = search needs
+places-shown-requires : tie.Need-places-shown-requires Inv-loop μ-loop
+places-shown-requires c κs = search needs
 
 loop-holds : tie.Need-loop-holds Inv-loop μ-loop
 loop-holds c = search needs
@@ -63,7 +63,7 @@ read-spec =
     slice-aggregate-outcome-line
     outcome-line-requires
     value-requires
-    shown-requires
+    places-shown-requires
     loop-holds
     read-held-requires-2
     entry-line-requires

@@ -1,0 +1,71 @@
+-- How a sample is written: the accesses of a host, each with its answer's number and its value.
+use Prim.Native.Nat.{ℕ, zero, suc, _+_, _*_, _/_, _%_}
+use mathlib.Core.Bool.{Bool, true, false, _&&_}
+use mathlib.Core.List.{List, [], _∷_}
+use lib.ListN.{replicate}
+use lib.Dec.{eqb}
+use Rattle.answers.specs.Answers.{outcomeNumber, outcomeValue}
+use Rattle.geometry.specs.declared.Geometry.{Geometry}
+use Rattle.registers.specs.Machine.{Machine}
+use Rattle.card.specs.Access.{Access}
+use Rattle.card.specs.Step.{Stepped}
+use Rattle.card.specs.Opening.{opened}
+use Rattle.card.specs.Doors.{machineOf}
+
+-- an access, and what it must answer
+pub record Line : Type 0 where
+  pub access : Access
+  pub number : ℕ
+  pub value : ℕ
+
+-- "C 4, H 2, S 4, N 32"
+abbrev pub geometry : Geometry
+geometry = record { cylinders = 4; heads = 2; sectors = 4 }
+
+-- f i, f (i + 1), …, n of them
+unfoldable pub listed {ℓ} : {A : Type ℓ} → (ℕ → A) → ℕ → ℕ → List A
+listed f i zero = []
+listed f i (suc n) = f i ∷ listed f (i + 1) n
+
+-- a store whose sectors differ: byte j of sector i is i + j, in eight bits
+abbrev pub byteIn : ℕ → ℕ → ℕ
+byteIn i j = (i + j) % 256
+
+unfoldable pub store : List ℕ
+store = listed (λ n. byteIn (n / 512) (n % 512)) 0 16384
+
+-- the words of sector i, low byte first
+abbrev pub wordIn : ℕ → ℕ → ℕ
+wordIn i k = byteIn i (2 * k) + 256 * byteIn i (2 * k + 1)
+
+unfoldable pub marks : List ℕ
+marks = replicate 32 0
+
+unfoldable pub tuples : List ℕ
+tuples = replicate 256 0xFF
+
+-- "Mode: 0 PC Card, 1 True IDE."
+unfoldable pub opening : ℕ → Machine
+opening mode = machineOf (opened geometry mode store marks tuples .card) store marks
+
+abbrev pub reads : ℕ → ℕ → ℕ → ℕ → Line
+reads space width address value = record {
+  access = record { space = space; width = width; write = false; address = address; value = 0; tuples = tuples };
+  number = 0;
+  value = value;
+}
+
+abbrev pub writes : ℕ → ℕ → ℕ → ℕ → Line
+writes space width address value = record {
+  access = record { space = space; width = width; write = true; address = address; value = value; tuples = tuples };
+  number = 0;
+  value = 0;
+}
+
+-- do the answers of a machine agree with the lines?
+unfoldable pub agrees : (Machine → Access → Stepped) → Machine → List Line → Bool
+agrees turn m [] = true
+agrees turn m (l ∷ more) =
+    let s = turn m (l .access) in
+    let rest = agrees turn (s .next) more in
+    eqb (outcomeNumber (s .outcome)) (l .number) && (eqb (outcomeValue (s .outcome)) (l .value) && rest)

@@ -1,0 +1,86 @@
+use Prim.Native.Nat.{_*_}
+use Rattle.geometry.specs.Limits.{capacityOf}
+use Rattle.session.specs.Play.{geometryOf, opening}
+use mathlib.Core.Path.{sym}
+use borrow.Author.Tests.{lt-ltb, le-ltb}
+use native.Mathlib.Omega.{arith}
+use lib.Seq.{length-take-le}
+use Rattle.session.proofs.Plays.{zero-part, zero-length}
+use borrow.Author.Needs.{needs}
+use Rattle.session.proofs.play.opening.Statement.{statement}
+use Rattle.session.proofs.play.opening.Tie as tie
+
+capacity-requires : tie.Need-capacity-requires
+capacity-requires c κs = search needs
+
+unopened-requires : tie.Need-unopened-requires
+unopened-requires c κs = search needs
+
+same-length : tie.Need-same-length
+same-length c = search needs
+
+returns : tie.Need-returns
+unfolding opening
+returns c = simp (lt-ltb _ _ (rw (c .before .before .before .before .before .capacity .ensures) at (c .before .before .before .before .if1 .taken))) (c .before .before .unopened .ensures)
+
+mul-size : tie.Need-mul-size
+mul-size c = search needs
+
+zero-store-requires : tie.Need-zero-store-requires
+zero-store-requires c κs = search needs
+
+zero-marks-requires : tie.Need-zero-marks-requires
+zero-marks-requires c κs = search needs
+
+no-tuples-requires : tie.Need-no-tuples-requires
+no-tuples-requires c κs = search needs
+
+slice-aggregate-opened-on : tie.Need-slice-aggregate-opened-on
+slice-aggregate-opened-on c = search needs
+
+array-borrow-prefix-store : tie.Need-array-borrow-prefix-store
+array-borrow-prefix-store c = search needs
+
+slice-aggregate-opened-on-2 : tie.Need-slice-aggregate-opened-on-2
+slice-aggregate-opened-on-2 c = sym (length-take-le _ _ (rw (c .before .before .before .before .zero-store .ensures, zero-length) (omega arith)))
+
+array-borrow-prefix-marks : tie.Need-array-borrow-prefix-marks
+array-borrow-prefix-marks c = search needs
+
+slice-aggregate-opened-on-3 : tie.Need-slice-aggregate-opened-on-3
+slice-aggregate-opened-on-3 c = sym (length-take-le _ _ (rw (c .before .before .before .before .zero-marks .ensures, zero-length) (omega arith)))
+
+opened-on-requires : tie.Need-opened-on-requires
+opened-on-requires c κs = search needs
+
+same-length-2 : tie.Need-same-length-2
+same-length-2 c = search needs
+
+returns-2 : tie.Need-returns-2
+unfolding opening
+returns-2 c =
+    let h = rw (c .before .before .before .before .before .before .before .before .before .before .before .before .before .capacity .ensures) at (c .before .before .before .before .before .before .before .before .before .before .before .before .if1 .left) in
+    let e = simp (c .before .before .before .before .before .before .before .before .before .before .before .zero-store .ensures, c .before .before .before .before .before .before .before .before .before .before .zero-marks .ensures, c .before .before .before .before .before .before .before .before .before .no-tuples .ensures, c .before .before .before .before .before .before .before .before .before .before .before .before .before .capacity .ensures) at (c .before .before .before .before .opened-on .ensures) in
+    let n = capacityOf (geometryOf (c .before .before .before .before .before .before .before .before .before .before .before .before .before .before .before .before .args .sizes)) in
+    simp (le-ltb _ _ h) (simp (zero-part (512 * n) 16384 (omega arith), zero-part n 32 h) at e)
+
+pub opening-spec : {M : Type 1} → statement M
+opening-spec =
+    tie.close
+    (tie.spec
+    capacity-requires
+    unopened-requires
+    same-length
+    returns
+    mul-size
+    zero-store-requires
+    zero-marks-requires
+    no-tuples-requires
+    slice-aggregate-opened-on
+    array-borrow-prefix-store
+    slice-aggregate-opened-on-2
+    array-borrow-prefix-marks
+    slice-aggregate-opened-on-3
+    opened-on-requires
+    same-length-2
+    returns-2)

@@ -1,0 +1,100 @@
+use native.Mathlib.Omega.{arith}
+use borrow.Author.Tests.{eq-eqb, ne-eqb}
+use Rattle.text.specs.Digits.{shortNumeral}
+use Rattle.text.proofs.Outputs.{wrote-then}
+use borrow.Author.Needs.{needs}
+use Rattle.text.proofs.short_numeral.Statement.{statement}
+use Rattle.text.proofs.short_numeral.Tie as tie
+
+byte-requires : tie.Need-byte-requires
+byte-requires c κs = search needs
+
+byte-requires-2 : tie.Need-byte-requires-2
+byte-requires-2 c κs = search needs
+
+byte-requires-3 : tie.Need-byte-requires-3
+byte-requires-3 c κs = search needs
+
+byte-requires-4 : tie.Need-byte-requires-4
+byte-requires-4 c κs = search needs
+
+same-length : tie.Need-same-length
+same-length c = search needs
+
+returns : tie.Need-returns
+unfolding shortNumeral
+returns c =
+    let p = wrote-then (c .before .before .before .before .before .before .before .before .before .before .before .before .before .before .byte .ensures) (wrote-then (c .before .before .before .before .before .before .before .before .before .before .byte2 .ensures) (wrote-then (c .before .before .before .before .before .before .byte3 .ensures) (c .before .before .byte4 .ensures))) in
+    let e = p .place in
+    (simp (ne-eqb _ _ (c .before .before .before .before .before .before .before .before .before .before .before .before .before .before .before .before .if1 .taken)) p, omega arith)
+
+byte-requires-5 : tie.Need-byte-requires-5
+byte-requires-5 c κs = search needs
+
+byte-requires-6 : tie.Need-byte-requires-6
+byte-requires-6 c κs = search needs
+
+byte-requires-7 : tie.Need-byte-requires-7
+byte-requires-7 c κs = search needs
+
+same-length-2 : tie.Need-same-length-2
+same-length-2 c = search needs
+
+returns-2 : tie.Need-returns-2
+unfolding shortNumeral
+returns-2 c =
+    let p = wrote-then (c .before .before .before .before .before .before .before .before .before .before .byte5 .ensures) (wrote-then (c .before .before .before .before .before .before .byte6 .ensures) (c .before .before .byte7 .ensures)) in
+    let e = p .place in
+    (simp (eq-eqb _ _ (c .before .before .before .before .before .before .before .before .before .before .before .before .before .before .if1 .left), ne-eqb _ _ (c .before .before .before .before .before .before .before .before .before .before .before .before .if2 .taken)) p, omega arith)
+
+byte-requires-8 : tie.Need-byte-requires-8
+byte-requires-8 c κs = search needs
+
+byte-requires-9 : tie.Need-byte-requires-9
+byte-requires-9 c κs = search needs
+
+same-length-3 : tie.Need-same-length-3
+same-length-3 c = search needs
+
+returns-3 : tie.Need-returns-3
+unfolding shortNumeral
+returns-3 c =
+    let p = wrote-then (c .before .before .before .before .before .before .byte8 .ensures) (c .before .before .byte9 .ensures) in
+    let e = p .place in
+    (simp (eq-eqb _ _ (c .before .before .before .before .before .before .before .before .before .before .before .before .if1 .left), eq-eqb _ _ (c .before .before .before .before .before .before .before .before .before .before .if2 .left), ne-eqb _ _ (c .before .before .before .before .before .before .before .before .if3 .taken)) p, omega arith)
+
+byte-requires-10 : tie.Need-byte-requires-10
+byte-requires-10 c κs = search needs
+
+same-length-4 : tie.Need-same-length-4
+same-length-4 c = search needs
+
+returns-4 : tie.Need-returns-4
+unfolding shortNumeral
+returns-4 c =
+    let p = c .before .before .byte10 .ensures in
+    let e = p .place in
+    (simp (eq-eqb _ _ (c .before .before .before .before .before .before .before .before .if1 .left), eq-eqb _ _ (c .before .before .before .before .before .before .if2 .left), eq-eqb _ _ (c .before .before .before .before .if3 .left)) p, omega arith)
+
+pub short-numeral-spec : {M : Type 1} → statement M
+short-numeral-spec =
+    tie.close
+    (tie.spec
+    byte-requires
+    byte-requires-2
+    byte-requires-3
+    byte-requires-4
+    same-length
+    returns
+    byte-requires-5
+    byte-requires-6
+    byte-requires-7
+    same-length-2
+    returns-2
+    byte-requires-8
+    byte-requires-9
+    same-length-3
+    returns-3
+    byte-requires-10
+    same-length-4
+    returns-4)

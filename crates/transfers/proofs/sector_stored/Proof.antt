@@ -1,0 +1,51 @@
+use mathlib.Core.Path.{sym, _∙_}
+use Rattle.transfers.specs.Before.{sectorStored}
+use borrow.Author.Needs.{needs}
+use Rattle.transfers.proofs.sector_stored.Statement.{statement}
+use Rattle.transfers.proofs.sector_stored.Tie as tie
+
+store-test-requires : tie.Need-store-test-requires
+store-test-requires c κs = search needs
+
+enum-known-spot : tie.Need-enum-known-spot
+enum-known-spot c = search needs
+
+store-sector-requires : tie.Need-store-sector-requires
+store-sector-requires c κs = search needs
+
+enum-known-end : tie.Need-enum-known-end
+enum-known-end c = search needs
+
+same-length : tie.Need-same-length
+same-length c = search needs
+
+same-length-2 : tie.Need-same-length-2
+same-length-2 c = search needs
+
+returns : tie.Need-returns
+unfolding sectorStored
+returns c =
+    let e = sym (c .before .before .before .before .before .before .before .before .before .before .store-test .ensures) ∙ c .before .before .before .before .before .before .before .before .spot .given .1 in
+    let w = sym (c .before .before .before .before .store-sector .ensures) in
+    simp (e, w)
+
+same-length-3 : tie.Need-same-length-3
+same-length-3 c = search needs
+
+returns-2 : tie.Need-returns-2
+unfolding sectorStored
+returns-2 c = let e = sym (c .before .before .before .store-test .ensures) ∙ c .before .end .given .1 in simp e
+
+pub sector-stored-spec : {M : Type 1} → statement M
+sector-stored-spec =
+    tie.close
+    (tie.spec
+    store-test-requires
+    enum-known-spot
+    store-sector-requires
+    enum-known-end
+    same-length
+    same-length-2
+    returns
+    same-length-3
+    returns-2)
