@@ -247,7 +247,7 @@ def access_pairs(records, broken, printed):
         n, letter, answer, value = parted(line, count + 1)
         if (n, letter) != (count, "W" if access.write else "R"):
             raise Mismatch(f"printed line {count + 1}: it is '{line}', and the session has {count} {'W' if access.write else 'R'} there")
-        plain = answer == 0 and access.space != 0 and follower.offset(access) in card.DATA
+        plain = answer == 0 and not follower.held and access.space != 0 and follower.offset(access) in card.DATA
         yield line, explained(access, answer, value, follower), (access._replace(value=0), value) if plain else None
         if answer == 0:
             follower.follow(access)
@@ -261,6 +261,8 @@ def pairs_of(records, broken, printed):
     done = 1
     if records and len(printed) > 1 and printed[1].startswith("open "):
         row = int(printed[1][5:]) if printed[1][5:].isdigit() else 0
+        if row != 1 or not opening_fault(records[0]):
+            raise Mismatch(f"printed line 2: it is '{printed[1]}', and this opening is {'refused by row 1' if opening_fault(records[0]) else 'taken'}")
         yield printed[1], f"the opening is refused, row {row}: {card.ROWS.get(row, 'no row')} ({opening_fault(records[0])})", None
         done = 2
     else:

@@ -26,13 +26,17 @@ class Bad(Exception):
 
 # ---- from text
 
+def shortened(word):
+    return word if len(word) <= 20 else word[:20] + ".."
+
+
 def decimal(word, what):
     if not re.fullmatch(r"[0-9]+", word):
         raise Fault(f"{what} is a decimal number, not '{word}'")
-    number = int(word)
-    if number > 65535:
-        raise Fault(f"{what} is {word}, and 65535 is the most")
-    return number
+    digits = word.lstrip("0") or "0"
+    if len(digits) > 5 or int(digits) > 65535:
+        raise Fault(f"{what} is {shortened(word)}, and 65535 is the most")
+    return int(digits)
 
 
 def hexadecimal(word, what, most):
@@ -50,9 +54,9 @@ def take_repeat(words):
     if not words or not re.fullmatch(r"[xX].*", words[-1]):
         return words, 1
     digits = words[-1][1:]
-    if not re.fullmatch(r"[0-9]+", digits) or not 1 <= int(digits) <= LONGEST:
-        raise Fault(f"a repeat is x1 to x{LONGEST}, not '{words[-1]}'")
-    return words[:-1], int(digits)
+    if not re.fullmatch(r"0*[0-9]{1,5}", digits) or not 1 <= int(digits.lstrip("0") or "0") <= LONGEST:
+        raise Fault(f"a repeat is x1 to x{LONGEST}, not '{shortened(words[-1])}'")
+    return words[:-1], int(digits.lstrip("0"))
 
 
 def opening_of(words):
@@ -141,7 +145,7 @@ class Maker:
 def decoded(raw):
     """The text of a file; Bad where it is not UTF-8."""
     try:
-        return raw.decode("utf-8")
+        return raw.decode("utf-8-sig")
     except UnicodeDecodeError as fault:
         line = raw.count(b"\n", 0, fault.start) + 1
         raise Bad([(line, f"the byte {raw[fault.start]:02X}H is no text (UTF-8); is this a session file already?")]) from None
@@ -223,7 +227,7 @@ def text_of(file, notes=True):
     if records:
         lines.append((opening_line(records[0]), opening_words(records[0])))
         lines += access_lines(records[1:], Follower(records[0].mode))
-    text = [f"{line:<32}# {note}" if notes and note else line for line, note in lines]
+    text = [f"{line:<31} # {note}" if notes and note else line for line, note in lines]
     if broken:
         text += [f"# broken at {broken.place}: {broken.why}"] * notes + byte_lines(file[size_of(records):])
     return "\n".join(text) + "\n"

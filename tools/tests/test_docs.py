@@ -109,3 +109,11 @@ def test_files_that_the_docs_name_are_there():
         with open(page, encoding="utf-8") as file:
             for path in re.findall(r"\b((?:crates|tools|oracle|bench)/[\w./-]+\.(?:antt|rt|edit|rs|py))\b", file.read()):
                 assert os.path.exists(path), f"{page}: {path}"
+
+
+def test_must_fail_edits_that_the_docs_name_are_there():
+    for page in pages():
+        with open(page, encoding="utf-8") as file:
+            for names in re.findall(r"must-fail ((?:[a-z_]+/\w+(?:, )?)+)", file.read()):
+                for crate, edit in re.findall(r"([a-z_]+)/(\w+)", names):
+                    assert os.path.exists(f"crates/{crate}/must-fail/{edit}.edit"), f"{page}: must-fail {crate}/{edit}"

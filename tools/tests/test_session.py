@@ -74,6 +74,8 @@ FAULTS = (
     ("open 4 2 4 1 5\n", 1, "open takes C, H, S and the mode"),
     ("open 4 2 4 ide\n", 1, "the mode is pc-card, true-ide"),
     ("open 4 2 4 65536\n", 1, "the mode is 65536"),
+    ("open " + 5000 * "9" + " 2 4 1\n", 1, "65535 is the most"),
+    ("open 4 2 4 1\nread ide 07 x" + 5000 * "9" + "\n", 2, "a repeat is x1 to x"),
     ("open 4 two 4 1\n", 1, "H is a decimal number"),
     ("open 65536 2 4 1\n", 1, "C is 65536"),
     ("open -4 2 4 1\n", 1, "C is a decimal number"),
@@ -114,6 +116,7 @@ def test_every_fault_of_a_text_is_told():
 
 def test_a_file_that_is_no_text_is_told_with_its_line():
     assert fault_of(Bad, decoded, b"open 4 2 4 1\n\xff\n").faults[0][0] == 2
+    assert decoded(b"\xef\xbb\xbfopen 4 2 4 1\n") == "open 4 2 4 1\n"
 
 
 def test_the_longest_file_is_taken():
@@ -165,9 +168,16 @@ def test_fold_joins_data_only():
     assert len(lines) == 4 and lines[1].startswith("1..6 R 0") and "6 times" in lines[1], lines
 
 
+def test_fold_joins_nothing_in_a_reset():
+    printed = "n op answer value\n1 W 0 0004\n" + "".join(f"{n} W 0 1234\n" for n in range(2, 7))
+    lines = lines_of("open 4 2 4 1\nwrite ide 16 04\nwrite word ide 0 1234 x5\n", printed, fold=True)
+    assert len(lines) == 7 and all("no effect" in line for line in lines[2:]), lines
+
+
 def test_output_of_another_session_is_told_with_its_line():
     for printed, part in (("", "line 1"), ("n op\n", "line 1"), (SAMPLE_PRINTED[:40], "line 4"), (SAMPLE_PRINTED + "6 R 0 0000\n", "line 7"),
-                          (SAMPLE_PRINTED.replace("3 R", "3 W"), "line 4"), (SAMPLE_PRINTED.replace("2 R 0 0051", "oops"), "line 3")):
+                          (SAMPLE_PRINTED.replace("3 R", "3 W"), "line 4"), (SAMPLE_PRINTED.replace("2 R 0 0051", "oops"), "line 3"),
+                          ("n op answer value\nopen 1\n", "line 2")):
         fault = fault_of(Mismatch, lines_of, SAMPLE, printed)
         assert part in str(fault), fault
 
