@@ -8,9 +8,9 @@ use lib.ListN.{set, replicate}
 use Rattle.geometry.specs.Limits.{totalOf}
 use Rattle.registers.specs.declared.State.{State}
 use Rattle.transfers.specs.declared.Tested.{Tested}
-use Rattle.transfers.specs.Before.{storedBy, sectorStored}
+use Rattle.transfers.specs.Before.{sectorStored}
 use Rattle.transfers.specs.Steps.{sectorDone}
-use Rattle.commands.specs.Runs.{goesOn, eraseFrom, Erased, erased, allFF}
+use Rattle.commands.specs.Runs.{eraseFrom, Erased, allFF}
 use Rattle.account.specs.Plain.{Plain, Ending, Well, WriteFault}
 use Rattle.account.specs.Course.{Course}
 use Rattle.account.specs.Runs.{tried, stopped, runFrom, tests, unwritable, putSector, blanked, cleared, eraseSectors, eraseDone}
@@ -19,14 +19,10 @@ use Rattle.account.proofs.Seats.{Shaped, Seated, Where, onward, passed-
 use Rattle.account.proofs.Tried.{stops-run, stops-ends, store-tested}
 use Rattle.account.proofs.Stored.{LentFor, stored-is, stored-lent, run-later}
 use Rattle.account.proofs.Verifying.{where-good, seated-last}
+use Rattle.kept.proofs.Runs.{erasesOn}
 
 abbrev pub erasedPlain : Erased → List ℕ → Plain
 erasedPlain e b = plainIn (e .core .state) b (e .store) (e .marks)
-
--- a sector of Erase by its tests, with n to come
-abbrev erasesOn : Tested → ℕ → State → List ℕ → List ℕ → Erased
-erasesOn x n s t k =
-    goesOn (storedBy x allFF t k .tested) (λ c. erased c (storedBy x allFF t k .store) (storedBy x allFF t k .marks)) s (eraseFrom n (sectorDone n s) (storedBy x allFF t k .store) (storedBy x allFF t k .marks))
 
 pub erase-is : (n : ℕ) (c : Course) (i : ℕ) (s : State) (b t k : List ℕ) → Shaped (s .made) (s .current) → LentFor (totalOf (s .made .default)) t k → Seated c i (suc n) s → Where c i s →
     erasedPlain (eraseFrom (suc n) s t k) b ≡ eraseSectors c i (suc n) (plainIn s b t k)

@@ -13,9 +13,10 @@ use Rattle.account.specs.Plain.{Plain, sectorsOf}
 use Rattle.account.specs.Words.{bytesOf, identifyWords, identifyData}
 use Rattle.account.specs.Host.{plainIn}
 use Rattle.account.specs.Claim.{AllBytes}
+use Rattle.ground.specs.Lists.{listed}
 
 pub identify-is : (s : State) (b t k : List ℕ) → totalOf (s .made .default) ≡ sectorsOf (s .made .default) → identifyBytes (factsOf s) ≡ identifyData (plainIn s b t k)
-unfolding firstWord laterWord identifyWord identifyByte identifyBytes Rattle.identify.specs.Words.blankWord bytesOf identifyWords
+unfolding listed firstWord laterWord identifyWord identifyByte identifyBytes Rattle.identify.specs.Words.blankWord bytesOf identifyWords
 identify-is s b t k e = rw e
 
 -- words of 16 bits give bytes
@@ -33,8 +34,16 @@ more : (w : ℕ) (l : List ℕ) → w < 65536 → Narrow l → Narrow (w ∷ l)
 more w l h k zero = h
 more w l h k (suc i) = k i
 
+abbrev Each : List ℕ → Type 0
+Each [] = Unit {0}
+Each (w ∷ l) = (w < 65536) × Each l
+
 none : Narrow []
 none i = omega arith
+
+each-narrow : (l : List ℕ) → Each l → Narrow l
+each-narrow [] h = none
+each-narrow (w ∷ l) h = more w l (h .0) (each-narrow l (h .1))
 
 joined : (a b : List ℕ) → Narrow a → Narrow b → Narrow (a ++ b)
 joined [] b h k = k
@@ -49,16 +58,24 @@ pub identify-bytes : (p : Plain) → p .made .default .cylinders ≤ 65535 → p
     p .current .cylinders ≤ 65535 → p .current .heads ≤ 65535 → p .current .sectors ≤ 65535 → AllBytes (identifyData p)
 unfolding identifyWords
 identify-bytes p a b c d e f =
+    let n = sectorsOf (p .made .default) in
+    let k = sectorsOf (p .current) in
+    let w0 : List ℕ = 0x848A ∷ p .made .default .cylinders ∷ 0 ∷ p .made .default .heads ∷ 0 ∷ 0 ∷ p .made .default .sectors ∷ n / 65536 % 65536 ∷ n % 65536 ∷ 0 ∷ [] in
+    let w47 : List ℕ = 0 ∷ 0 ∷ 0x0200 ∷ 0 ∷ 0 ∷ 0 ∷ 1 ∷ [] in
+    let w54 : List ℕ = p .current .cylinders ∷ p .current .heads ∷ p .current .sectors ∷ k % 65536 ∷ k / 65536 % 65536 ∷ 0 ∷ n % 65536 ∷ n / 65536 % 65536 ∷ [] in
     let t6 : List ℕ = replicate 194 0 in
-    let t5 : List ℕ = (p .current .cylinders ∷ p .current .heads ∷ p .current .sectors ∷ sectorsOf (p .current) % 65536 ∷ sectorsOf (p .current) / 65536 % 65536 ∷ 0 ∷ sectorsOf (p .made .default) % 65536 ∷ sectorsOf (p .made .default) / 65536 % 65536 ∷ []) ++ t6 in
-    let t4 : List ℕ = (0 ∷ 0 ∷ 0x0200 ∷ 0 ∷ 0 ∷ 0 ∷ 1 ∷ []) ++ t5 in
+    let t5 : List ℕ = w54 ++ t6 in
+    let t4 : List ℕ = w47 ++ t5 in
     let t3 : List ℕ = replicate 24 0x2020 ++ t4 in
     let t2 : List ℕ = replicate 3 0 ++ t3 in
     let t1 : List ℕ = replicate 10 0x2020 ++ t2 in
+    let narrow0 = each-narrow w0 (omega arith, (omega arith, (omega arith, (omega arith, (omega arith, (omega arith, (omega arith, (omega arith, (omega arith, (omega arith, tt)))))))))) in
+    let narrow47 = each-narrow w47 (omega arith, (omega arith, (omega arith, (omega arith, (omega arith, (omega arith, (omega arith, tt))))))) in
+    let narrow54 = each-narrow w54 (omega arith, (omega arith, (omega arith, (omega arith, (omega arith, (omega arith, (omega arith, (omega arith, tt)))))))) in
     bytes-of (identifyWords p)
-    (joined (0x848A ∷ p .made .default .cylinders ∷ 0 ∷ p .made .default .heads ∷ 0 ∷ 0 ∷ p .made .default .sectors ∷ sectorsOf (p .made .default) / 65536 % 65536 ∷ sectorsOf (p .made .default) % 65536 ∷ 0 ∷ []) t1 (more 0x848A (p .made .default .cylinders ∷ 0 ∷ p .made .default .heads ∷ 0 ∷ 0 ∷ p .made .default .sectors ∷ sectorsOf (p .made .default) / 65536 % 65536 ∷ sectorsOf (p .made .default) % 65536 ∷ 0 ∷ []) (omega arith) (more (p .made .default .cylinders) (0 ∷ p .made .default .heads ∷ 0 ∷ 0 ∷ p .made .default .sectors ∷ sectorsOf (p .made .default) / 65536 % 65536 ∷ sectorsOf (p .made .default) % 65536 ∷ 0 ∷ []) (omega arith) (more 0 (p .made .default .heads ∷ 0 ∷ 0 ∷ p .made .default .sectors ∷ sectorsOf (p .made .default) / 65536 % 65536 ∷ sectorsOf (p .made .default) % 65536 ∷ 0 ∷ []) (omega arith) (more (p .made .default .heads) (0 ∷ 0 ∷ p .made .default .sectors ∷ sectorsOf (p .made .default) / 65536 % 65536 ∷ sectorsOf (p .made .default) % 65536 ∷ 0 ∷ []) (omega arith) (more 0 (0 ∷ p .made .default .sectors ∷ sectorsOf (p .made .default) / 65536 % 65536 ∷ sectorsOf (p .made .default) % 65536 ∷ 0 ∷ []) (omega arith) (more 0 (p .made .default .sectors ∷ sectorsOf (p .made .default) / 65536 % 65536 ∷ sectorsOf (p .made .default) % 65536 ∷ 0 ∷ []) (omega arith) (more (p .made .default .sectors) (sectorsOf (p .made .default) / 65536 % 65536 ∷ sectorsOf (p .made .default) % 65536 ∷ 0 ∷ []) (omega arith) (more (sectorsOf (p .made .default) / 65536 % 65536) (sectorsOf (p .made .default) % 65536 ∷ 0 ∷ []) (omega arith) (more (sectorsOf (p .made .default) % 65536) (0 ∷ []) (omega arith) (more 0 [] (omega arith) none))))))))))
+    (joined w0 t1 narrow0
     (joined (replicate 10 0x2020) t2 (same 10 0x2020 (omega arith))
     (joined (replicate 3 0) t3 (same 3 0 (omega arith))
     (joined (replicate 24 0x2020) t4 (same 24 0x2020 (omega arith))
-    (joined (0 ∷ 0 ∷ 0x0200 ∷ 0 ∷ 0 ∷ 0 ∷ 1 ∷ []) t5 (more 0 (0 ∷ 0x0200 ∷ 0 ∷ 0 ∷ 0 ∷ 1 ∷ []) (omega arith) (more 0 (0x0200 ∷ 0 ∷ 0 ∷ 0 ∷ 1 ∷ []) (omega arith) (more 0x0200 (0 ∷ 0 ∷ 0 ∷ 1 ∷ []) (omega arith) (more 0 (0 ∷ 0 ∷ 1 ∷ []) (omega arith) (more 0 (0 ∷ 1 ∷ []) (omega arith) (more 0 (1 ∷ []) (omega arith) (more 1 [] (omega arith) none)))))))
-    (joined (p .current .cylinders ∷ p .current .heads ∷ p .current .sectors ∷ sectorsOf (p .current) % 65536 ∷ sectorsOf (p .current) / 65536 % 65536 ∷ 0 ∷ sectorsOf (p .made .default) % 65536 ∷ sectorsOf (p .made .default) / 65536 % 65536 ∷ []) t6 (more (p .current .cylinders) (p .current .heads ∷ p .current .sectors ∷ sectorsOf (p .current) % 65536 ∷ sectorsOf (p .current) / 65536 % 65536 ∷ 0 ∷ sectorsOf (p .made .default) % 65536 ∷ sectorsOf (p .made .default) / 65536 % 65536 ∷ []) (omega arith) (more (p .current .heads) (p .current .sectors ∷ sectorsOf (p .current) % 65536 ∷ sectorsOf (p .current) / 65536 % 65536 ∷ 0 ∷ sectorsOf (p .made .default) % 65536 ∷ sectorsOf (p .made .default) / 65536 % 65536 ∷ []) (omega arith) (more (p .current .sectors) (sectorsOf (p .current) % 65536 ∷ sectorsOf (p .current) / 65536 % 65536 ∷ 0 ∷ sectorsOf (p .made .default) % 65536 ∷ sectorsOf (p .made .default) / 65536 % 65536 ∷ []) (omega arith) (more (sectorsOf (p .current) % 65536) (sectorsOf (p .current) / 65536 % 65536 ∷ 0 ∷ sectorsOf (p .made .default) % 65536 ∷ sectorsOf (p .made .default) / 65536 % 65536 ∷ []) (omega arith) (more (sectorsOf (p .current) / 65536 % 65536) (0 ∷ sectorsOf (p .made .default) % 65536 ∷ sectorsOf (p .made .default) / 65536 % 65536 ∷ []) (omega arith) (more 0 (sectorsOf (p .made .default) % 65536 ∷ sectorsOf (p .made .default) / 65536 % 65536 ∷ []) (omega arith) (more (sectorsOf (p .made .default) % 65536) (sectorsOf (p .made .default) / 65536 % 65536 ∷ []) (omega arith) (more (sectorsOf (p .made .default) / 65536 % 65536) [] (omega arith) none)))))))) (same 194 0 (omega arith))))))))
+    (joined w47 t5 narrow47
+    (joined w54 t6 narrow54 (same 194 0 (omega arith))))))))

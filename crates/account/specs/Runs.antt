@@ -1,4 +1,4 @@
--- The sector commands: "read sectors", "write", "as read, no data", "as write, storing FFH, no data", in whole sectors from a first index.
+-- The sector commands: "read sectors", "write", "as read, no data", "as write, storing FFH (H), no data", in whole sectors from a first index.
 use Prim.Native.Nat.{ℕ, zero, suc, _+_, _-_, _*_, _%_}
 use mathlib.Core.Bool.{Bool, not, _||_}
 use mathlib.Core.List.{List, [], _++_}

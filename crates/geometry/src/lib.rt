@@ -1,4 +1,4 @@
-// The card's geometry: its limits, a sector's address and the one after it, and the geometryBy that 91H asks for (document 01, "What is lent" and "Commands").
+// The card's geometry: its limits, a sector's address and the one after it, and the geometry that 91H asks for (document 01, "What is lent" and "Commands").
 ghost use mathlib.Core.Path.{_≡_};
 ghost use Prim.Native.Nat.{_<_};
 ghost use Rattle.geometry.specs.Limits.{capacityOf, fits, totalOf, currentFor};
@@ -252,7 +252,7 @@ fn locate_chs(cylinder: usize, head: usize, sector: usize, current: Geometry) ->
     Located::Good(Spot { index: index })
 }
 
-// 91H: the new geometryBy from Sector Count and Drive/Head, for a card of `total` sectors.
+// 91H: the new geometry from Sector Count and Drive/Head, for a card of `total` sectors.
 pub fn reshape(count: u8, head: u8, total: u16) -> Reshaped
     ensures { λ r. ⌜ r ≡ reshaped count head total ⌝ }
 {

@@ -5,13 +5,16 @@ use native.Mathlib.Omega.{arith}
 use mathlib.Core.Path.{_≡_, refl, sym, ap, _∙_}
 use lib.ListN.{length, getD}
 use Rattle.identify.specs.declared.Facts.{Facts}
-use Rattle.identify.specs.Words.{listFrom, identifyByte, identifyBytes}
+use Rattle.identify.specs.Words.{identifyByte, identifyBytes}
+use Rattle.ground.specs.Lists.{listed}
 
-list-length : (f : ℕ → ℕ) (i n : ℕ) → length (listFrom f i n) ≡ n
+list-length : (f : ℕ → ℕ) (i n : ℕ) → length (listed f i n) ≡ n
+unfolding listed
 list-length f i zero = refl
 list-length f i (suc n) = ap suc (list-length f (i + 1) n)
 
-list-at : (f : ℕ → ℕ) (i n k : ℕ) → k < n → getD (listFrom f i n) k 0 ≡ f (i + k)
+list-at : (f : ℕ → ℕ) (i n k : ℕ) → k < n → getD (listed f i n) k 0 ≡ f (i + k)
+unfolding listed
 list-at f i zero k h = absurd (not-suc-le-zero h)
 list-at f i (suc n) zero h = ap f (sym (add-zero i))
 list-at f i (suc n) (suc k) h =

@@ -1,11 +1,12 @@
 -- 01, "Commands", the last paragraph: Identify's 256 words, low byte first.
-use Prim.Native.Nat.{ℕ, zero, suc, _+_, _/_, _%_}
+use Prim.Native.Nat.{ℕ, _/_, _%_}
 use mathlib.Core.Bool.{Bool, true, false}
-use mathlib.Core.List.{List, [], _∷_}
+use mathlib.Core.List.{List}
 use lib.Dec.{eqb, leb, ltb}
 use Rattle.ground.specs.Choice.{pick}
 use Rattle.geometry.specs.Limits.{totalOf, capacityOf}
 use Rattle.identify.specs.declared.Facts.{Facts}
+use Rattle.ground.specs.Lists.{listed}
 
 abbrev pub lowHalf : ℕ → ℕ
 lowHalf n = n % 65536
@@ -50,10 +51,5 @@ identifyWord f n = pick (ltb n 49) (firstWord f n) (laterWord f n)
 unfoldable pub identifyByte : Facts → ℕ → ℕ
 identifyByte f i = pick (eqb (i % 2) 0) (identifyWord f (i / 2) % 256) (identifyWord f (i / 2) / 256)
 
--- f i, f (i + 1), …, n of them
-abbrev pub listFrom : (ℕ → ℕ) → ℕ → ℕ → List ℕ
-listFrom f i zero = []
-listFrom f i (suc n) = f i ∷ listFrom f (i + 1) n
-
 unfoldable pub identifyBytes : Facts → List ℕ
-identifyBytes f = listFrom (identifyByte f) 0 512
+identifyBytes f = listed (identifyByte f) 0 512

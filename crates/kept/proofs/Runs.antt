@@ -11,12 +11,17 @@ use Rattle.transfers.specs.declared.End.{End}
 use Rattle.transfers.specs.declared.Tested.{Tested}
 use Rattle.transfers.specs.declared.Tested.the-variants.{Passes, Fails}
 use Rattle.transfers.specs.Ends.{ended}
-use Rattle.transfers.specs.Before.{readTest, sectorStored}
+use Rattle.transfers.specs.Before.{readTest, sectorStored, storedBy}
 use Rattle.transfers.specs.Steps.{sectorDone}
 use Rattle.commands.specs.Runs.{goesOn, verifyFrom, Erased, erased, allFF, eraseFrom}
 use Rattle.kept.proofs.Registers.{CoreFits}
 use Rattle.kept.proofs.Ends.{Fine, ended-left, passed-fine}
 use Rattle.kept.proofs.Steps.{sector-stored}
+
+-- a sector of Erase by its tests, with n to come
+abbrev pub erasesOn : Tested → ℕ → State → List ℕ → List ℕ → Erased
+erasesOn x n s t k =
+    goesOn (storedBy x allFF t k .tested) (λ c. erased c (storedBy x allFF t k .store) (storedBy x allFF t k .marks)) s (eraseFrom n (sectorDone n s) (storedBy x allFF t k .store) (storedBy x allFF t k .marks))
 
 goes-elim : {A : Type 0} (P : A → Type 0) (t : Tested) (end : Core → A) (s : State) (rest : A) → ((e : End) → P (end (ended e true s))) → P rest → P (goesOn t end s rest)
 goes-elim P (Passes spot) end s rest f g = g

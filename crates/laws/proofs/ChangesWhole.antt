@@ -1,12 +1,10 @@
--- Each sector that an access changes is one of the card's, and whole; so storing it sets its 512 bytes and its mark.
-use Prim.Native.Nat.{ℕ, zero, suc, _*_, _/_, _<_}
+-- Each sector that an access changes is one of the card's, and whole.
+use Prim.Native.Nat.{ℕ, zero, suc, _<_}
 use mathlib.Core.Path.{_≡_, refl, _∙_}
 use mathlib.Core.Bool.{true, false}
 use mathlib.Core.List.{List, []}
-use native.Mathlib.Omega.{arith}
 use lib.Dec.{ltb}
-use lib.ListN.{length, getD, set, replicate, length-replicate}
-use borrow.Author.Tests.{lt-ltb}
+use lib.ListN.{length, getD, replicate, length-replicate}
 use Rattle.ground.proofs.Picks.{pick-elim}
 use Rattle.geometry.specs.declared.Address.{Address}
 use Rattle.geometry.specs.declared.Geometry.{Geometry}
@@ -17,7 +15,6 @@ use Rattle.geometry.specs.Address.{locate}
 use Rattle.geometry.specs.Next.{nextOf}
 use Rattle.geometry.proofs.Inside.{inside}
 use Rattle.sectors.specs.Marks.{writable}
-use Rattle.sectors.specs.Sectors.{storeMarks, withSector, stored}
 use Rattle.maps.specs.declared.Port.{Port}
 use Rattle.maps.specs.declared.Register.{Register}
 use Rattle.maps.specs.declared.Register.the-variants.{ErrorFeature, SectorCount, SectorNumber, CylinderLow, CylinderHigh, DriveHead, StatusCommand, AlternateControl, DriveAddress}
@@ -41,11 +38,6 @@ use Rattle.kept.proofs.Registers.{apart}
 use Rattle.kept.proofs.Decided.{meaning-elim}
 use Rattle.kept.proofs.Lent.{part-length}
 use Rattle.laws.specs.Changes.{Change, Whole, writes, erasures, commandChanges, registerChanges, loadChanges, takenChanges, phaseChanges, changes}
-
--- a sector that is there is stored
-stored-there : (store marks bytes : List ℕ) (i total : ℕ) → length store ≡ 512 * total → length marks ≡ total → i < total → stored store marks i bytes ≡ storeMarks (withSector store i bytes) (set marks i 0)
-unfolding stored
-stored-there store marks bytes i total p q l = rw (lt-ltb i (length store / 512) (omega arith), lt-ltb i (length marks) (omega arith))
 
 writes-whole : (l : Located) (total : ℕ) (marks bytes : List ℕ) (rest : List Change) → ((p : Spot) → l ≡ Located.Good p → p .index < total) → length bytes ≡ 512 → Whole total rest → Whole total (writes l marks bytes rest)
 writes-whole (Located.Good spot) total marks bytes rest i b r = pick-elim (Whole total) (writable (getD marks (spot .index) 0)) _ _ (λ e. (i spot refl, b, r)) (λ e. tt)

@@ -18,12 +18,12 @@ use Rattle.sectors.specs.Sectors.{StoreMarks, storeMarks, stored}
 use Rattle.registers.specs.declared.State.{State}
 use Rattle.registers.specs.State.{totalIn, locatedIn}
 use Rattle.transfers.specs.declared.End.the-variants.{WriteFault}
-use Rattle.transfers.specs.declared.Tested.{Tested}
 use Rattle.transfers.specs.declared.Tested.the-variants.{Passes, Fails}
-use Rattle.transfers.specs.Before.{testedOf, addressTest, markTested, storeTest, storedBy, sectorStored}
+use Rattle.transfers.specs.Before.{testedOf, addressTest, markTested, storeTest, sectorStored}
 use Rattle.transfers.specs.Steps.{sectorDone}
-use Rattle.commands.specs.Runs.{goesOn, allFF, Erased, erased, eraseFrom}
+use Rattle.commands.specs.Runs.{allFF, Erased, eraseFrom}
 use Rattle.laws.specs.Changes.{Change, changed, writes, erasures}
+use Rattle.kept.proofs.Runs.{erasesOn}
 
 -- ---- a stored sector's mark is 0, and so it can be written as before
 
@@ -54,21 +54,16 @@ storeMarksOf e = storeMarks (e .store) (e .marks)
 abbrev Rest : ℕ → State → List Change → List ℕ → List ℕ → Type 0
 Rest n s rest store marks = storeMarksOf (eraseFrom n s store marks) ≡ changed rest (storeMarks store marks)
 
-abbrev onward : Tested → ℕ → State → List ℕ → List ℕ → Erased
-onward t n s store marks =
-    goesOn (storedBy t allFF store marks .tested) (λ c. erased c (storedBy t allFF store marks .store) (storedBy t allFF store marks .marks)) s
-    (eraseFrom n (sectorDone n s) (storedBy t allFF store marks .store) (storedBy t allFF store marks .marks))
-
 by-mark : (b : Bool) (spot : Spot) (n : ℕ) (s : State) (store marks marks0 : List ℕ) (rest : List Change) →
     Same marks marks0 → writable (getD marks (spot .index) 0) ≡ b → ((st mk : List ℕ) → Same mk marks0 → Rest n (sectorDone n s) rest st mk) →
-    storeMarksOf (onward (pick b (Passes spot) (Fails WriteFault)) n s store marks) ≡ changed (pick b (record { index = spot .index; bytes = replicate 512 0xFF } ∷ rest) []) (storeMarks store marks)
+    storeMarksOf (erasesOn (pick b (Passes spot) (Fails WriteFault)) n s store marks) ≡ changed (pick b (record { index = spot .index; bytes = replicate 512 0xFF } ∷ rest) []) (storeMarks store marks)
 unfolding changed allFF
 by-mark true spot n s store marks marks0 rest h w f = f _ _ (same-stored store marks marks0 (replicate 512 0xFF) (spot .index) h w)
 by-mark false spot n s store marks marks0 rest h w f = refl
 
 by-address : (l : Located) (n : ℕ) (s : State) (store marks marks0 : List ℕ) (rest : List Change) →
     Same marks marks0 → ((st mk : List ℕ) → Same mk marks0 → Rest n (sectorDone n s) rest st mk) →
-    storeMarksOf (onward (markTested writable WriteFault (testedOf l) marks) n s store marks) ≡ changed (writes l marks0 (replicate 512 0xFF) rest) (storeMarks store marks)
+    storeMarksOf (erasesOn (markTested writable WriteFault (testedOf l) marks) n s store marks) ≡ changed (writes l marks0 (replicate 512 0xFF) rest) (storeMarks store marks)
 unfolding changed
 by-address (Located.Good spot) n s store marks marks0 rest h f =
     by-mark (writable (getD marks (spot .index) 0)) spot n s store marks marks0 rest h refl f ∙

@@ -30,7 +30,8 @@ use Rattle.transfers.specs.Steps.{phaseOf, idleWith, sectorDone, readTested, re
 use Rattle.port.specs.Data.{Effect, dataRead, dataWritten}
 use Rattle.kept.proofs.Ends.{bad, mark-elim, passed-count}
 use Rattle.kept.proofs.DataElim.{partCome, data-read-elim, data-written-elim}
-use Rattle.laws.specs.Mark.{DataRead, DataWrite, asks, another, MarkRule}
+use Rattle.laws.specs.Mark.{asks, another, MarkRule}
+use Rattle.laws.specs.Acts.{DataRead, DataWrite}
 use Rattle.laws.proofs.MarkLaws.{still, turned, written-end, read-failed, read-well}
 use Rattle.laws.proofs.MarkEnds.{end-asks}
 

@@ -23,7 +23,8 @@ use Rattle.transfers.specs.Steps.{readTested, readSector, askTested, askSector}
 use Rattle.commands.specs.Runs.{verifyFrom, Erased, eraseFrom}
 use Rattle.commands.specs.Table.{countOf, soughtEnd, geometrySet, started, quiet, commandOf, obeyed, commandGiven}
 use Rattle.kept.proofs.Runs.{verify-elim, erase-elim}
-use Rattle.laws.specs.Mark.{CommandWrite, asks, MarkRule}
+use Rattle.laws.specs.Mark.{asks, MarkRule}
+use Rattle.laws.specs.Acts.{CommandWrite}
 use Rattle.laws.proofs.MarkLaws.{over, ready, asked}
 
 -- no end is 58H

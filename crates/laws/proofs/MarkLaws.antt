@@ -8,7 +8,8 @@ use Rattle.registers.specs.declared.State.{State}
 use Rattle.commands.specs.declared.Command.{Command}
 use Rattle.transfers.specs.declared.Way.{Way}
 use Rattle.transfers.specs.declared.Way.the-variants.{In, Out}
-use Rattle.laws.specs.Mark.{Act, CommandWrite, DataRead, DataWrite, NoMatter, asks, another, readsRow, sets, clears, MarkRule}
+use Rattle.laws.specs.Mark.{asks, another, readsRow, sets, clears, MarkRule}
+use Rattle.laws.specs.Acts.{Act, CommandWrite, DataRead, DataWrite, NoMatter}
 
 left : (a b s c : Bool) → s ≡ false → c ≡ false → a ≡ b → a ≡ (s || (b && not c))
 left a b s c p q r = rw (p, q, and-true b) r

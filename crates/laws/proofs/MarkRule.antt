@@ -22,7 +22,8 @@ use Rattle.card.specs.Step.{step}
 use Rattle.kept.proofs.Registers.{apart}
 use Rattle.kept.proofs.Decided.{meaning-elim}
 use Rattle.kept.proofs.RegisterElim.{set-elim, plain-elim}
-use Rattle.laws.specs.Mark.{StatusRead, NoMatter, readAct, writeAct, actOf, differ, sets, clears, MarkRule}
+use Rattle.laws.specs.Mark.{differ, sets, clears, MarkRule}
+use Rattle.laws.specs.Acts.{StatusRead, NoMatter, readAct, writeAct, actOf}
 use Rattle.laws.proofs.MarkLaws.{mark-gone, no-matter}
 use Rattle.laws.proofs.MarkEnds.{commanded}
 use Rattle.laws.proofs.MarkData.{Runs, data-read, data-written}

@@ -1,6 +1,7 @@
 pub mod Unchanged
 pub mod Rows
 pub mod Coded
+pub mod Acts
 pub mod Mark
 pub mod Line
 pub mod Changes

@@ -1,63 +1,13 @@
 -- 01, "Interrupt mark". What sets and what clears it is read off the access, the command table's row, the two resets' bits, and Status and Sector Count before
 -- and after.
-use Prim.Native.Nat.{ℕ, _/_, _%_}
+use Prim.Native.Nat.{_/_, _%_}
 use mathlib.Core.Path.{_≡_}
 use mathlib.Core.Bool.{Bool, true, false, not, _&&_, _||_}
 use lib.Dec.{eqb, leb}
-use Rattle.ground.specs.Choice.{pick}
-use Rattle.maps.specs.declared.Register.{Register}
-use Rattle.maps.specs.declared.Register.the-variants.{ErrorFeature, SectorCount, SectorNumber, CylinderLow, CylinderHigh, DriveHead, StatusCommand, AlternateControl, DriveAddress}
 use Rattle.registers.specs.declared.State.{State}
 use Rattle.commands.specs.declared.Command.{Command}
 use Rattle.commands.specs.declared.Command.the-variants.{Read, Write, Verify, Erase, Identify, ReadBuffer, WriteBuffer, SetGeometry, Diagnose, Recalibrate, Seek, Sense, Other}
-use Rattle.commands.specs.Table.{commandOf}
-use Rattle.card.specs.declared.Meaning.{Meaning}
-use Rattle.card.specs.declared.Meaning.the-variants.{TupleByte, ReadOption, WriteOption, ReadRegister, WriteRegister, ReadData, WriteData}
-
--- ---- the accesses that the paragraph speaks of
-
-pub data Act : Type 0 where
-  StatusRead : Act
-  CommandWrite : Command → Act
-  ControlWrite : ℕ → Act
-  OptionWrite : ℕ → Act
-  DataRead : Act
-  DataWrite : Act
-  NoMatter : Act
-
--- Alternate Status is another register than Status
-abbrev pub readAct : Register → Act
-readAct ErrorFeature = NoMatter
-readAct SectorCount = NoMatter
-readAct SectorNumber = NoMatter
-readAct CylinderLow = NoMatter
-readAct CylinderHigh = NoMatter
-readAct DriveHead = NoMatter
-readAct StatusCommand = StatusRead
-readAct AlternateControl = NoMatter
-readAct DriveAddress = NoMatter
-
--- a Command write in a Device Control hold has no effect
-abbrev pub writeAct : Register → ℕ → Bool → Act
-writeAct ErrorFeature v held = NoMatter
-writeAct SectorCount v held = NoMatter
-writeAct SectorNumber v held = NoMatter
-writeAct CylinderLow v held = NoMatter
-writeAct CylinderHigh v held = NoMatter
-writeAct DriveHead v held = NoMatter
-writeAct StatusCommand v held = pick held NoMatter (CommandWrite (commandOf v))
-writeAct AlternateControl v held = ControlWrite v
-writeAct DriveAddress v held = NoMatter
-
-abbrev pub actOf : Meaning → Bool → Act
-actOf (Meaning.Refused r) held = NoMatter
-actOf (TupleByte b) held = NoMatter
-actOf ReadOption held = NoMatter
-actOf (WriteOption v) held = OptionWrite v
-actOf (ReadRegister r) held = readAct r
-actOf (WriteRegister r v) held = writeAct r v held
-actOf (ReadData port) held = DataRead
-actOf (WriteData port v) held = DataWrite
+use Rattle.laws.specs.Acts.{Act, StatusRead, CommandWrite, ControlWrite, OptionWrite, DataRead, DataWrite, NoMatter}
 
 -- ---- what a host sees
 

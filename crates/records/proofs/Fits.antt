@@ -10,9 +10,8 @@ use borrow.Author.Tests.{ltb-false, eqb-true}
 use Rattle.ground.proofs.Picks.{pick-elim}
 use Rattle.records.specs.declared.Asked.{Asked}
 use Rattle.records.specs.declared.Break.{Break}
-use Rattle.records.specs.declared.Sizes.{Sizes}
 use Rattle.records.specs.declared.Record.{Record}
-use Rattle.records.specs.declared.Record.the-variants.{Opening, Access, Broken}
+use Rattle.records.specs.declared.Record.the-variants.{Access, Broken}
 use Rattle.records.specs.declared.After.{After}
 use Rattle.records.specs.Record.{wordAt, askedAt, valueAbove, fieldsTested, openingAt, accessAt, kindAt, recordAt, afterOf, sizeOf}
 
@@ -21,9 +20,6 @@ Inside write q left r = afterOf r ≡ After.Access write q → sizeOf write ≤ 
 
 stopped : (write : Bool) (q : Asked) (left : ℕ) (why : Break) → Inside write q left (Broken why)
 stopped write q left why e = let z : _≡_ {A = ℕ} 0 1 = cc in absurd (omega arith)
-
-opened : (write : Bool) (q : Asked) (left : ℕ) (s : Sizes) → Inside write q left (Opening s)
-opened write q left s e = let z : _≡_ {A = ℕ} 0 1 = cc in absurd (omega arith)
 
 access-inside : (write w : Bool) (q a : Asked) (left : ℕ) → sizeOf w ≤ left → Inside write q left (Access w a)
 access-inside write w q a left h e = let f : w ≡ write = cc in rw f at h

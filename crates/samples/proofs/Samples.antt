@@ -31,7 +31,8 @@ use Rattle.card.specs.Opening.{opened}
 use Rattle.registers.specs.PowerOn.{zeros}
 use Rattle.tuples.specs.Chain.{chainFrom}
 use Rattle.tuples.specs.Read.{counted, readOutcome}
-use Rattle.samples.specs.Lines.{listed, store, marks, tuples, opening, agrees}
+use Rattle.ground.specs.Lists.{listed}
+use Rattle.samples.specs.Lines.{store, marks, tuples, opening, agrees}
 use Rattle.samples.specs.Parts.{sector}
 use Rattle.samples.specs.List.{sample1, sample2, sample3, sample4, sample5, sample6, sample7, sample8, sample9, sample10, sample11, sample12, sample13, samples, identified, wordLines}
 use Rattle.samples.specs.Passes.{sameEntries, readsAs, holdsOf, allOf, passes}

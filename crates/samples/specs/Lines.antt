@@ -1,5 +1,5 @@
 -- How a sample is written: the accesses of a host, each with its answer's number and its value.
-use Prim.Native.Nat.{ℕ, zero, suc, _+_, _*_, _/_, _%_}
+use Prim.Native.Nat.{ℕ, _+_, _*_, _/_, _%_}
 use mathlib.Core.Bool.{Bool, true, false, _&&_}
 use mathlib.Core.List.{List, [], _∷_}
 use lib.ListN.{replicate}
@@ -11,6 +11,7 @@ use Rattle.card.specs.Access.{Access}
 use Rattle.card.specs.Step.{Stepped}
 use Rattle.card.specs.Opening.{opened}
 use Rattle.card.specs.Doors.{machineOf}
+use Rattle.ground.specs.Lists.{listed}
 
 -- an access, and what it must answer
 pub record Line : Type 0 where
@@ -21,11 +22,6 @@ pub record Line : Type 0 where
 -- "C 4, H 2, S 4, N 32"
 abbrev pub geometry : Geometry
 geometry = record { cylinders = 4; heads = 2; sectors = 4 }
-
--- f i, f (i + 1), …, n of them
-unfoldable pub listed {ℓ} : {A : Type ℓ} → (ℕ → A) → ℕ → ℕ → List A
-listed f i zero = []
-listed f i (suc n) = f i ∷ listed f (i + 1) n
 
 -- a store whose sectors differ: byte j of sector i is i + j, in eight bits
 abbrev pub byteIn : ℕ → ℕ → ℕ

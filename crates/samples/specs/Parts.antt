@@ -2,7 +2,8 @@
 use Prim.Native.Nat.{ℕ, _+_}
 use mathlib.Core.List.{List, [], _∷_, _++_}
 use lib.ListN.{replicate}
-use Rattle.samples.specs.Lines.{Line, listed, reads, writes, wordIn}
+use Rattle.ground.specs.Lists.{listed}
+use Rattle.samples.specs.Lines.{Line, reads, writes, wordIn}
 
 -- True IDE: 0 data, 1 Error, 2 Sector Count, 3 Sector Number, 4 and 5 Cylinder, 6 Drive/Head, 7 Status/Command
 abbrev pub get : ℕ → ℕ → Line

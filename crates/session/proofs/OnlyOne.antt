@@ -1,4 +1,4 @@
--- No second answer meets a promise: of the run and of the whole session, with all that was lent. (`record_at`, `first_record`, `first`, `turn` and `number` promise `r ≡ d`: ground's `only-one`.)
+-- No second answer meets a promise: of the run and of the whole session, with all that was lent. (`number` promises `r ≡ d`: ground's `only-one`.)
 use Prim.Native.Nat.{ℕ}
 use mathlib.Core.Path.{_≡_, sym, ap, _∙_}
 use mathlib.Core.List.{List}

@@ -1,4 +1,4 @@
--- The digits that are digitsUp up are those of the number, and they print it.
+-- The digits that are counted up are those of the number, and they print it.
 use Prim.Native.Nat.{ℕ, suc, _+_, _/_, _%_, _^_, _<_, _≤_}
 use mathlib.Core.Path.{_≡_, refl, sym, ap, _∙_}
 use mathlib.Core.List.{List, [], _∷_, _++_}

@@ -24,7 +24,7 @@ lastDigits (suc k) n = lastDigits k (n / 10) ++ ((48 + n % 10) ∷ [])
 abbrev pub decimal : ℕ → List ℕ
 decimal n = lastDigits (digitCount n) n
 
--- "in number hex digits"
+-- "in four hex digits"
 unfoldable pub hexDigit : ℕ → ℕ
 hexDigit d = pick (ltb d 10) (48 + d) (55 + d)
 
@@ -41,7 +41,7 @@ newline = 10
 abbrev pub letter : Bool → List ℕ
 letter write = blank ∷ pick write 87 82 ∷ blank ∷ []
 
--- "for each access its number …, R or W, the answer, and the value read or written in number hex digits"
+-- "for each access its number …, R or W, the answer, and the value read or written in four hex digits"
 abbrev pub lineBy : List ℕ → Bool → ℕ → ℕ → List ℕ
 lineBy number write answer value =
     number ++ (letter write ++ (decimal answer ++ ((blank ∷ []) ++ (hexFour value ++ (newline ∷ [])))))

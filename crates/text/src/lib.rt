@@ -9,7 +9,7 @@ ghost use Rattle.text.specs.Text.{digitCount, lastDigits, decimal, hexDi
 ghost use Rattle.text.specs.Digits.{lineNumber, nextNumber, shortNumeral, numeral};
 ghost use Rattle.text.specs.Output.{output, putByte, put, written, Wrote};
 
-// A number with its last number digits as text: counting them up takes no division.
+// An access's number with its last four decimal digits as text: counting the digits up takes no division, and a session has at most 4,094 accesses.
 pub struct LineNumber {
     pub value: u64,
     pub thousands: u8,

@@ -23,14 +23,11 @@ use Rattle.tuples.specs.declared.Entry.{Entry}
 use Rattle.tuples.proofs.Chains.{yes-no}
 use Rattle.tuples.proofs.Filling.{all}
 use Rattle.answers.proofs.Outcomes.{accepts-not}
+use Rattle.ground.proofs.Picks.{pick-elim}
 
 -- ---- how many entries a chain has room for
 abbrev Room : ℕ → ℕ → Chain → Type 0
 Room k n c = c .ended ≡ true → k + 2 * length (c .entries) + 1 ≤ n
-
-room-pick : (n : ℕ) (t : Bool) (a b : Chain) → Room 0 n a → Room 0 n b → Room 0 n (pick t a b)
-room-pick n true a b p q = p
-room-pick n false a b p q = q
 
 pub rooms : (k : ℕ) (r : List ℕ) (at : ℕ) → Room k (length r) (chainFrom k r at)
 unfolding chainFrom
@@ -38,8 +35,10 @@ rooms k [] at = λ p. yes-no (sym p)
 rooms (suc k) (b ∷ r) at = λ p. omega (arith, rooms k r (at + 1) p)
 rooms zero (b ∷ []) at = λ p. omega arith
 rooms zero (b ∷ (n ∷ r)) at =
-    room-pick _ (eqb b 255) _ _ (λ p. omega arith)
-    (room-pick _ (eqb b 0) _ _ (λ p. omega (arith, rooms zero (n ∷ r) (at + 1) p)) (room-pick _ (leb n (length r)) _ _ (λ p. omega (arith, rooms n r (at + 2) p)) (λ p. yes-no (sym p))))
+    let P = Room 0 (length (b ∷ (n ∷ r))) in
+    pick-elim P (eqb b 255) _ _ (λ _ p. omega arith)
+    (λ _. pick-elim P (eqb b 0) _ _ (λ _ p. omega (arith, rooms zero (n ∷ r) (at + 1) p))
+    (λ _. pick-elim P (leb n (length r)) _ _ (λ _ p. omega (arith, rooms n r (at + 2) p)) (λ _ p. yes-no (sym p))))
 
 pub most-entries : (s : List ℕ) → length s ≡ 256 → chainAt s 0 .ended ≡ true → length (all s) ≤ 127
 most-entries s h e = omega (arith, rooms 0 s 0 e)

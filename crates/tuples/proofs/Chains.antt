@@ -13,7 +13,7 @@ use lib.Seq.{drop-cons, drop-drop}
 use lib.Dec.{leb, ltb, eqb}
 use borrow.Author.Tests.{ltb-true, ltb-false, le-leb, lt-leb, leb-true, leb-false}
 use Rattle.ground.specs.Choice.{pick}
-use Rattle.ground.proofs.Picks.{pick-same}
+use Rattle.ground.proofs.Picks.{pick-elim, pick-same}
 use Rattle.tuples.specs.Chain.{Chain, stop, grow, entry, endOf, stepAt, chainFrom, chainAt}
 use Rattle.tuples.specs.declared.Entry.{Entry}
 use Rattle.tuples.specs.declared.Step.{Step}
@@ -117,13 +117,15 @@ ahead-pick : (t : Bool) (a b : Step) (d : ℕ) → ahead (pick t a b) d ≡ pick
 ahead-pick true a b d = refl
 ahead-pick false a b d = refl
 
-less-pick : (at : ℕ) (t : Bool) (a b : ℕ) → at < a → at < b → at < pick t a b
-less-pick at true a b p q = p
-less-pick at false a b p q = q
-
 pub forward : (s : List ℕ) (at : ℕ) → at < ahead (stepAt s at) (at + 1)
 unfolding stepAt
 forward s at =
     let one : at < at + 1 = omega arith in
     let more : at < at + 2 + getD s (at + 1) 0 = omega arith in
-    simp ahead-pick (less-pick at (ltb at (length s)) _ _ (less-pick at (eqb (getD s at 0) 255) _ _ one (less-pick at (eqb (getD s at 0) 0) _ _ one (less-pick at (leb (at + 2 + getD s (at + 1) 0) (length s)) _ _ more one))) one)
+    let P : ℕ → Type 0 = λ n. at < n in
+    simp ahead-pick
+    (pick-elim P (ltb at (length s)) _ _
+    (λ _. pick-elim P (eqb (getD s at 0) 255) _ _ (λ _. one)
+    (λ _. pick-elim P (eqb (getD s at 0) 0) _ _ (λ _. one)
+    (λ _. pick-elim P (leb (at + 2 + getD s (at + 1) 0) (length s)) _ _ (λ _. more) (λ _. one))))
+    (λ _. one))

@@ -22,7 +22,10 @@ same-length-2 c = search needs
 
 returns : tie.Need-returns
 unfolding worked
-returns c = simp (c .reply-of .ensures) (ap (λ (x : Effect). stepped x) (simp (c .before .before .before .before .before .before .before .before .before .decide .ensures) at (c .before .before .before .before .before .perform .ensures)))
+returns c =
+    let c5 = c .before .before .before .before .before in
+    let c9 = c5 .before .before .before .before in
+    simp (c .reply-of .ensures) (ap (λ (x : Effect). stepped x) (simp (c9 .decide .ensures) at (c5 .perform .ensures)))
 
 pub work-spec : {M : Type 1} → statement M
 work-spec =

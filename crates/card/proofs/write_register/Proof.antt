@@ -93,7 +93,11 @@ same-length-2 c = search needs
 
 returns-8 : tie.Need-returns-8
 unfolding registerWritten
-returns-8 c = simp (c .before .before .before .before .before .before .before .before .before .before .before .enum-told7 .given .1, c .before .before .before .before .before .before .before .before .if1 .left) (c .before .before .before .before .command-given .ensures)
+returns-8 c =
+    let c4 = c .before .before .before .before in
+    let c8 = c4 .before .before .before .before in
+    let c11 = c8 .before .before .before in
+    simp (c11 .enum-told7 .given .1, c8 .if1 .left) (c4 .command-given .ensures)
 
 returns-9 : tie.Need-returns-9
 unfolding registerWritten

@@ -29,12 +29,17 @@ same-length c = search needs
 returns : tie.Need-returns
 unfolding furtherDigits lastDigits
 returns c =
-    let p = wrote-then (c .before .before .before .before .before .before .before .before .before .before .before .before .before .before .before .before .before .before .before .before .before .before .short-numeral .ensures .0) (wrote-then (c .before .before .before .before .before .before .before .before .before .before .before .before .before .before .before .before .before .before .letter .ensures) (wrote-then (c .before .before .before .before .before .before .before .before .before .before .before .before .before .before .byte .ensures) (wrote-then (c .before .before .before .before .before .before .before .before .before .before .byte2 .ensures) (wrote-then (c .before .before .before .before .before .before .hex-four .ensures) (c .before .before .byte3 .ensures))))) in
-    let a = c .before .before .before .before .before .before .before .before .before .before .before .before .before .before .before .before .before .before .before .before .before .before .short-numeral .ensures .1 in
-    let b = c .before .before .before .before .before .before .before .before .before .before .before .before .before .before .before .before .before .before .letter .ensures .place in
-    let d = c .before .before .before .before .before .before .before .before .before .before .before .before .before .before .byte .ensures .place in
-    let e = c .before .before .before .before .before .before .before .before .before .before .byte2 .ensures .place in
-    let f = c .before .before .before .before .before .before .hex-four .ensures .place in
+    let c6 = c .before .before .before .before .before .before in
+    let c10 = c6 .before .before .before .before in
+    let c14 = c10 .before .before .before .before in
+    let c18 = c14 .before .before .before .before in
+    let c22 = c18 .before .before .before .before in
+    let p = wrote-then (c22 .short-numeral .ensures .0) (wrote-then (c18 .letter .ensures) (wrote-then (c14 .byte .ensures) (wrote-then (c10 .byte2 .ensures) (wrote-then (c6 .hex-four .ensures) (c .before .before .byte3 .ensures))))) in
+    let a = c22 .short-numeral .ensures .1 in
+    let b = c18 .letter .ensures .place in
+    let d = c14 .byte .ensures .place in
+    let e = c10 .byte2 .ensures .place in
+    let f = c6 .hex-four .ensures .place in
     let g = c .before .before .byte3 .ensures .place in
     (p, omega arith)
 

@@ -32,8 +32,15 @@ same-length c = search needs
 
 returns : tie.Need-returns
 returns c =
-    let p = wrote-then (c .before .before .before .before .before .before .before .before .before .before .before .before .before .before .byte .ensures) (wrote-then (c .before .before .before .before .before .before .before .before .before .before .byte2 .ensures) (wrote-then (c .before .before .before .before .before .before .byte3 .ensures) (c .before .before .byte4 .ensures))) in
-    simp (c .before .before .before .before .before .before .before .before .before .before .before .before .before .before .before .before .hex-digit4 .ensures, c .before .before .before .before .before .before .before .before .before .before .before .before .before .before .before .before .before .hex-digit3 .ensures, c .before .before .before .before .before .before .before .before .before .before .before .before .before .before .before .before .before .before .hex-digit2 .ensures, c .before .before .before .before .before .before .before .before .before .before .before .before .before .before .before .before .before .before .before .hex-digit .ensures) at p
+    let c6 = c .before .before .before .before .before .before in
+    let c10 = c6 .before .before .before .before in
+    let c14 = c10 .before .before .before .before in
+    let c16 = c14 .before .before in
+    let c17 = c16 .before in
+    let c18 = c17 .before in
+    let c19 = c18 .before in
+    let p = wrote-then (c14 .byte .ensures) (wrote-then (c10 .byte2 .ensures) (wrote-then (c6 .byte3 .ensures) (c .before .before .byte4 .ensures))) in
+    simp (c16 .hex-digit4 .ensures, c17 .hex-digit3 .ensures, c18 .hex-digit2 .ensures, c19 .hex-digit .ensures) at p
 
 pub hex-four-spec : {M : Type 1} → statement M
 hex-four-spec =

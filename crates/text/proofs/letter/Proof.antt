@@ -20,8 +20,11 @@ same-length c = search needs
 
 returns : tie.Need-returns
 returns c =
-    let p = wrote-then (c .before .before .before .before .before .before .before .before .before .before .byte .ensures) (wrote-then (c .before .before .before .before .before .before .byte2 .ensures) (c .before .before .byte3 .ensures)) in
-    simp (c .before .before .before .before .before .before .before .before .before .before .before .before .letter-code .ensures) at p
+    let c6 = c .before .before .before .before .before .before in
+    let c10 = c6 .before .before .before .before in
+    let c12 = c10 .before .before in
+    let p = wrote-then (c10 .byte .ensures) (wrote-then (c6 .byte2 .ensures) (c .before .before .byte3 .ensures)) in
+    simp (c12 .letter-code .ensures) at p
 
 pub letter-spec : {M : Type 1} → statement M
 letter-spec =

@@ -21,7 +21,9 @@ same-length c = search needs
 
 returns : tie.Need-returns
 returns c =
-    c .before .before .put-number .ensures ∙ ap (λ (o : Output). put o (decimal (c .before .before .before .before .before .before .before .before .before .before .args .place) ++ (newline ∷ []))) (c .before .before .before .before .before .before .put .ensures) ∙ sym (put-then _ _ _)
+    let c6 = c .before .before .before .before .before .before in
+    let c10 = c6 .before .before .before .before in
+    c .before .before .put-number .ensures ∙ ap (λ (o : Output). put o (decimal (c10 .args .place) ++ (newline ∷ []))) (c6 .put .ensures) ∙ sym (put-then _ _ _)
 
 pub put-bad-spec : {M : Type 1} → statement M
 put-bad-spec =

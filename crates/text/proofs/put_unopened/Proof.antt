@@ -21,7 +21,9 @@ same-length c = search needs
 
 returns : tie.Need-returns
 returns c =
-    c .before .before .put-number .ensures ∙ ap (λ (o : Output). put o (decimal (c .before .before .before .before .before .before .before .before .before .before .args .number) ++ (newline ∷ []))) (c .before .before .before .before .before .before .put .ensures) ∙ sym (put-then _ _ _)
+    let c6 = c .before .before .before .before .before .before in
+    let c10 = c6 .before .before .before .before in
+    c .before .before .put-number .ensures ∙ ap (λ (o : Output). put o (decimal (c10 .args .number) ++ (newline ∷ []))) (c6 .put .ensures) ∙ sym (put-then _ _ _)
 
 pub put-unopened-spec : {M : Type 1} → statement M
 put-unopened-spec =

@@ -24,9 +24,13 @@ same-length c = search needs
 returns : tie.Need-returns
 unfolding shortNumeral
 returns c =
-    let p = wrote-then (c .before .before .before .before .before .before .before .before .before .before .before .before .before .before .byte .ensures) (wrote-then (c .before .before .before .before .before .before .before .before .before .before .byte2 .ensures) (wrote-then (c .before .before .before .before .before .before .byte3 .ensures) (c .before .before .byte4 .ensures))) in
+    let c6 = c .before .before .before .before .before .before in
+    let c10 = c6 .before .before .before .before in
+    let c14 = c10 .before .before .before .before in
+    let c16 = c14 .before .before in
+    let p = wrote-then (c14 .byte .ensures) (wrote-then (c10 .byte2 .ensures) (wrote-then (c6 .byte3 .ensures) (c .before .before .byte4 .ensures))) in
     let e = p .place in
-    (simp (ne-eqb _ _ (c .before .before .before .before .before .before .before .before .before .before .before .before .before .before .before .before .if1 .taken)) p, omega arith)
+    (simp (ne-eqb _ _ (c16 .if1 .taken)) p, omega arith)
 
 byte-requires-5 : tie.Need-byte-requires-5
 byte-requires-5 c κs = search needs
@@ -43,9 +47,13 @@ same-length-2 c = search needs
 returns-2 : tie.Need-returns-2
 unfolding shortNumeral
 returns-2 c =
-    let p = wrote-then (c .before .before .before .before .before .before .before .before .before .before .byte5 .ensures) (wrote-then (c .before .before .before .before .before .before .byte6 .ensures) (c .before .before .byte7 .ensures)) in
+    let c6 = c .before .before .before .before .before .before in
+    let c10 = c6 .before .before .before .before in
+    let c12 = c10 .before .before in
+    let c14 = c12 .before .before in
+    let p = wrote-then (c10 .byte5 .ensures) (wrote-then (c6 .byte6 .ensures) (c .before .before .byte7 .ensures)) in
     let e = p .place in
-    (simp (eq-eqb _ _ (c .before .before .before .before .before .before .before .before .before .before .before .before .before .before .if1 .left), ne-eqb _ _ (c .before .before .before .before .before .before .before .before .before .before .before .before .if2 .taken)) p, omega arith)
+    (simp (eq-eqb _ _ (c14 .if1 .left), ne-eqb _ _ (c12 .if2 .taken)) p, omega arith)
 
 byte-requires-8 : tie.Need-byte-requires-8
 byte-requires-8 c κs = search needs
@@ -59,9 +67,13 @@ same-length-3 c = search needs
 returns-3 : tie.Need-returns-3
 unfolding shortNumeral
 returns-3 c =
-    let p = wrote-then (c .before .before .before .before .before .before .byte8 .ensures) (c .before .before .byte9 .ensures) in
+    let c6 = c .before .before .before .before .before .before in
+    let c8 = c6 .before .before in
+    let c10 = c8 .before .before in
+    let c12 = c10 .before .before in
+    let p = wrote-then (c6 .byte8 .ensures) (c .before .before .byte9 .ensures) in
     let e = p .place in
-    (simp (eq-eqb _ _ (c .before .before .before .before .before .before .before .before .before .before .before .before .if1 .left), eq-eqb _ _ (c .before .before .before .before .before .before .before .before .before .before .if2 .left), ne-eqb _ _ (c .before .before .before .before .before .before .before .before .if3 .taken)) p, omega arith)
+    (simp (eq-eqb _ _ (c12 .if1 .left), eq-eqb _ _ (c10 .if2 .left), ne-eqb _ _ (c8 .if3 .taken)) p, omega arith)
 
 byte-requires-10 : tie.Need-byte-requires-10
 byte-requires-10 c κs = search needs
@@ -72,9 +84,12 @@ same-length-4 c = search needs
 returns-4 : tie.Need-returns-4
 unfolding shortNumeral
 returns-4 c =
+    let c4 = c .before .before .before .before in
+    let c6 = c4 .before .before in
+    let c8 = c6 .before .before in
     let p = c .before .before .byte10 .ensures in
     let e = p .place in
-    (simp (eq-eqb _ _ (c .before .before .before .before .before .before .before .before .if1 .left), eq-eqb _ _ (c .before .before .before .before .before .before .if2 .left), eq-eqb _ _ (c .before .before .before .before .if3 .left)) p, omega arith)
+    (simp (eq-eqb _ _ (c8 .if1 .left), eq-eqb _ _ (c6 .if2 .left), eq-eqb _ _ (c4 .if3 .left)) p, omega arith)
 
 pub short-numeral-spec : {M : Type 1} → statement M
 short-numeral-spec =

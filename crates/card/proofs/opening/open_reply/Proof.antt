@@ -63,10 +63,14 @@ open-refused-requires-5 c κs = search needs
 returns-5 : tie.Need-returns-5
 unfolding opened
 returns-5 c =
-    let w = sym (c .before .before .before .before .before .before .before .fits2 .ensures) ∙ un-not _ _ (c .before .before .before .before .before .before .if1 .left) in
-    let s = simp (c .before .before .before .before .total .ensures) at (c .before .before .before .if3 .left) in
-    let n = simp (c .before .before .before .before .total .ensures) at (c .before .before .if4 .left) in
-    simp (w, le-leb _ _ (c .before .before .before .before .before .if2 .left), eq-eqb _ _ s, eq-eqb _ _ n, ne-eqb _ _ (c .before .if5 .taken), c .open-refused5 .ensures)
+    let c4 = c .before .before .before .before in
+    let c5 = c4 .before in
+    let c6 = c5 .before in
+    let c7 = c6 .before in
+    let w = sym (c7 .fits2 .ensures) ∙ un-not _ _ (c6 .if1 .left) in
+    let s = simp (c4 .total .ensures) at (c .before .before .before .if3 .left) in
+    let n = simp (c4 .total .ensures) at (c .before .before .if4 .left) in
+    simp (w, le-leb _ _ (c5 .if2 .left), eq-eqb _ _ s, eq-eqb _ _ n, ne-eqb _ _ (c .before .if5 .taken), c .open-refused5 .ensures)
 
 marks-fit-requires : tie.Need-marks-fit-requires
 marks-fit-requires c κs = search needs
@@ -77,11 +81,17 @@ open-refused-requires-6 c κs = search needs
 returns-6 : tie.Need-returns-6
 unfolding opened
 returns-6 c =
-    let w = sym (c .before .before .before .before .before .before .before .before .before .fits2 .ensures) ∙ un-not _ _ (c .before .before .before .before .before .before .before .before .if1 .left) in
-    let s = simp (c .before .before .before .before .before .before .total .ensures) at (c .before .before .before .before .before .if3 .left) in
-    let n = simp (c .before .before .before .before .before .before .total .ensures) at (c .before .before .before .before .if4 .left) in
+    let c4 = c .before .before .before .before in
+    let c5 = c4 .before in
+    let c6 = c5 .before in
+    let c7 = c6 .before in
+    let c8 = c7 .before in
+    let c9 = c8 .before in
+    let w = sym (c9 .fits2 .ensures) ∙ un-not _ _ (c8 .if1 .left) in
+    let s = simp (c6 .total .ensures) at (c5 .if3 .left) in
+    let n = simp (c6 .total .ensures) at (c4 .if4 .left) in
     let m = sym (c .before .before .marks-fit .ensures) ∙ un-not _ _ (c .before .if6 .taken) in
-    simp (w, le-leb _ _ (c .before .before .before .before .before .before .before .if2 .left), eq-eqb _ _ s, eq-eqb _ _ n, eq-eqb _ _ (c .before .before .before .if5 .left), m, c .open-refused6 .ensures)
+    simp (w, le-leb _ _ (c7 .if2 .left), eq-eqb _ _ s, eq-eqb _ _ n, eq-eqb _ _ (c .before .before .before .if5 .left), m, c .open-refused6 .ensures)
 
 mode-of-requires : tie.Need-mode-of-requires
 mode-of-requires c κs = search needs
@@ -92,11 +102,18 @@ powered-requires c κs = search needs
 returns-7 : tie.Need-returns-7
 unfolding opened
 returns-7 c =
-    let w = sym (c .before .before .before .before .before .before .before .before .before .before .fits2 .ensures) ∙ un-not _ _ (c .before .before .before .before .before .before .before .before .before .if1 .left) in
-    let s = simp (c .before .before .before .before .before .before .before .total .ensures) at (c .before .before .before .before .before .before .if3 .left) in
-    let n = simp (c .before .before .before .before .before .before .before .total .ensures) at (c .before .before .before .before .before .if4 .left) in
+    let c4 = c .before .before .before .before in
+    let c5 = c4 .before in
+    let c6 = c5 .before in
+    let c7 = c6 .before in
+    let c8 = c7 .before in
+    let c9 = c8 .before in
+    let c10 = c9 .before in
+    let w = sym (c10 .fits2 .ensures) ∙ un-not _ _ (c9 .if1 .left) in
+    let s = simp (c7 .total .ensures) at (c6 .if3 .left) in
+    let n = simp (c7 .total .ensures) at (c5 .if4 .left) in
     let m = sym (c .before .before .before .marks-fit .ensures) ∙ un-not _ _ (c .before .before .if6 .left) in
-    simp (w, le-leb _ _ (c .before .before .before .before .before .before .before .before .if2 .left), eq-eqb _ _ s, eq-eqb _ _ n, eq-eqb _ _ (c .before .before .before .before .if5 .left), m, c .powered .ensures, c .before .mode-of .ensures)
+    simp (w, le-leb _ _ (c8 .if2 .left), eq-eqb _ _ s, eq-eqb _ _ n, eq-eqb _ _ (c4 .if5 .left), m, c .powered .ensures, c .before .mode-of .ensures)
 
 pub open-reply-spec : {M : Type 1} → statement M
 open-reply-spec =

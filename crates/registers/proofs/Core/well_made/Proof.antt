@@ -34,8 +34,11 @@ index-fits-requires c κs = search needs
 returns-3 : tie.Need-returns-3
 unfolding wellMade every
 returns-3 c =
-    let w1 = sym (c .before .before .before .before .before .before .fits2 .ensures) ∙ un-not _ _ (c .before .before .before .before .before .if1 .left) in
-    let w2 = sym (simp (c .before .before .before .before .total .ensures) at (c .before .before .before .current-for .ensures)) ∙ un-not _ _ (c .before .before .if2 .left) in
+    let c4 = c .before .before .before .before in
+    let c5 = c4 .before in
+    let c6 = c5 .before in
+    let w1 = sym (c6 .fits2 .ensures) ∙ un-not _ _ (c5 .if1 .left) in
+    let w2 = sym (simp (c4 .total .ensures) at (c .before .before .before .current-for .ensures)) ∙ un-not _ _ (c .before .before .if2 .left) in
     let w3 = sym (c .before .index-fits .ensures) ∙ un-not _ _ (c .if3 .taken) in
     simp (w1, w2, w3)
 
@@ -45,8 +48,13 @@ sreset-fits-requires c κs = search needs
 returns-4 : tie.Need-returns-4
 unfolding wellMade every
 returns-4 c =
-    let w1 = sym (c .before .before .before .before .before .before .before .before .fits2 .ensures) ∙ un-not _ _ (c .before .before .before .before .before .before .before .if1 .left) in
-    let w2 = sym (simp (c .before .before .before .before .before .before .total .ensures) at (c .before .before .before .before .before .current-for .ensures)) ∙ un-not _ _ (c .before .before .before .before .if2 .left) in
+    let c4 = c .before .before .before .before in
+    let c5 = c4 .before in
+    let c6 = c5 .before in
+    let c7 = c6 .before in
+    let c8 = c7 .before in
+    let w1 = sym (c8 .fits2 .ensures) ∙ un-not _ _ (c7 .if1 .left) in
+    let w2 = sym (simp (c6 .total .ensures) at (c5 .current-for .ensures)) ∙ un-not _ _ (c4 .if2 .left) in
     let w3 = sym (c .before .before .before .index-fits .ensures) ∙ un-not _ _ (c .before .before .if3 .left) in
     let w4 = sym (c .before .sreset-fits .ensures) ∙ un-not _ _ (c .if4 .taken) in
     simp (w1, w2, w3, w4)
@@ -57,9 +65,16 @@ status-fits-requires c κs = search needs
 returns-5 : tie.Need-returns-5
 unfolding wellMade every
 returns-5 c =
-    let w1 = sym (c .before .before .before .before .before .before .before .before .before .before .fits2 .ensures) ∙ un-not _ _ (c .before .before .before .before .before .before .before .before .before .if1 .left) in
-    let w2 = sym (simp (c .before .before .before .before .before .before .before .before .total .ensures) at (c .before .before .before .before .before .before .before .current-for .ensures)) ∙ un-not _ _ (c .before .before .before .before .before .before .if2 .left) in
-    let w3 = sym (c .before .before .before .before .before .index-fits .ensures) ∙ un-not _ _ (c .before .before .before .before .if3 .left) in
+    let c4 = c .before .before .before .before in
+    let c5 = c4 .before in
+    let c6 = c5 .before in
+    let c7 = c6 .before in
+    let c8 = c7 .before in
+    let c9 = c8 .before in
+    let c10 = c9 .before in
+    let w1 = sym (c10 .fits2 .ensures) ∙ un-not _ _ (c9 .if1 .left) in
+    let w2 = sym (simp (c8 .total .ensures) at (c7 .current-for .ensures)) ∙ un-not _ _ (c6 .if2 .left) in
+    let w3 = sym (c5 .index-fits .ensures) ∙ un-not _ _ (c4 .if3 .left) in
     let w4 = sym (c .before .before .before .sreset-fits .ensures) ∙ un-not _ _ (c .before .before .if4 .left) in
     let w5 = sym (c .before .status-fits .ensures) ∙ un-not _ _ (c .if5 .taken) in
     simp (w1, w2, w3, w4, w5)
@@ -73,11 +88,21 @@ hold-fits-requires c κs = search needs
 returns-6 : tie.Need-returns-6
 unfolding wellMade every
 returns-6 c =
-    let w1 = sym (c .before .before .before .before .before .before .before .before .before .before .before .before .before .fits2 .ensures) ∙ un-not _ _ (c .before .before .before .before .before .before .before .before .before .before .before .before .if1 .left) in
-    let w2 = sym (simp (c .before .before .before .before .before .before .before .before .before .before .before .total .ensures) at (c .before .before .before .before .before .before .before .before .before .before .current-for .ensures)) ∙ un-not _ _ (c .before .before .before .before .before .before .before .before .before .if2 .left) in
-    let w3 = sym (c .before .before .before .before .before .before .before .before .index-fits .ensures) ∙ un-not _ _ (c .before .before .before .before .before .before .before .if3 .left) in
-    let w4 = sym (c .before .before .before .before .before .before .sreset-fits .ensures) ∙ un-not _ _ (c .before .before .before .before .before .if4 .left) in
-    let w5 = sym (c .before .before .before .before .status-fits .ensures) ∙ un-not _ _ (c .before .before .before .if5 .left) in
+    let c4 = c .before .before .before .before in
+    let c5 = c4 .before in
+    let c6 = c5 .before in
+    let c7 = c6 .before in
+    let c8 = c7 .before in
+    let c9 = c8 .before in
+    let c10 = c9 .before in
+    let c11 = c10 .before in
+    let c12 = c11 .before in
+    let c13 = c12 .before in
+    let w1 = sym (c13 .fits2 .ensures) ∙ un-not _ _ (c12 .if1 .left) in
+    let w2 = sym (simp (c11 .total .ensures) at (c10 .current-for .ensures)) ∙ un-not _ _ (c9 .if2 .left) in
+    let w3 = sym (c8 .index-fits .ensures) ∙ un-not _ _ (c7 .if3 .left) in
+    let w4 = sym (c6 .sreset-fits .ensures) ∙ un-not _ _ (c5 .if4 .left) in
+    let w5 = sym (c4 .status-fits .ensures) ∙ un-not _ _ (c .before .before .before .if5 .left) in
     let w6 = sym (simp (c .before .before .held-in .ensures) at (c .before .hold-fits .ensures)) ∙ un-not _ _ (c .if6 .taken) in
     simp (w1, w2, w3, w4, w5, w6)
 
@@ -87,12 +112,24 @@ words-fit-requires c κs = search needs
 returns-7 : tie.Need-returns-7
 unfolding wellMade every
 returns-7 c =
-    let w1 = sym (c .before .before .before .before .before .before .before .before .before .before .before .before .before .before .before .fits2 .ensures) ∙ un-not _ _ (c .before .before .before .before .before .before .before .before .before .before .before .before .before .before .if1 .left) in
-    let w2 = sym (simp (c .before .before .before .before .before .before .before .before .before .before .before .before .before .total .ensures) at (c .before .before .before .before .before .before .before .before .before .before .before .before .current-for .ensures)) ∙ un-not _ _ (c .before .before .before .before .before .before .before .before .before .before .before .if2 .left) in
-    let w3 = sym (c .before .before .before .before .before .before .before .before .before .before .index-fits .ensures) ∙ un-not _ _ (c .before .before .before .before .before .before .before .before .before .if3 .left) in
-    let w4 = sym (c .before .before .before .before .before .before .before .before .sreset-fits .ensures) ∙ un-not _ _ (c .before .before .before .before .before .before .before .if4 .left) in
-    let w5 = sym (c .before .before .before .before .before .before .status-fits .ensures) ∙ un-not _ _ (c .before .before .before .before .before .if5 .left) in
-    let w6 = sym (simp (c .before .before .before .before .held-in .ensures) at (c .before .before .before .hold-fits .ensures)) ∙ un-not _ _ (c .before .before .if6 .left) in
+    let c4 = c .before .before .before .before in
+    let c5 = c4 .before in
+    let c6 = c5 .before in
+    let c7 = c6 .before in
+    let c8 = c7 .before in
+    let c9 = c8 .before in
+    let c10 = c9 .before in
+    let c11 = c10 .before in
+    let c12 = c11 .before in
+    let c13 = c12 .before in
+    let c14 = c13 .before in
+    let c15 = c14 .before in
+    let w1 = sym (c15 .fits2 .ensures) ∙ un-not _ _ (c14 .if1 .left) in
+    let w2 = sym (simp (c13 .total .ensures) at (c12 .current-for .ensures)) ∙ un-not _ _ (c11 .if2 .left) in
+    let w3 = sym (c10 .index-fits .ensures) ∙ un-not _ _ (c9 .if3 .left) in
+    let w4 = sym (c8 .sreset-fits .ensures) ∙ un-not _ _ (c7 .if4 .left) in
+    let w5 = sym (c6 .status-fits .ensures) ∙ un-not _ _ (c5 .if5 .left) in
+    let w6 = sym (simp (c4 .held-in .ensures) at (c .before .before .before .hold-fits .ensures)) ∙ un-not _ _ (c .before .before .if6 .left) in
     let w7 = sym (c .before .words-fit .ensures) ∙ un-not _ _ (c .if7 .taken) in
     simp (w1, w2, w3, w4, w5, w6, w7)
 
@@ -102,12 +139,26 @@ run-fits-requires c κs = search needs
 returns-8 : tie.Need-returns-8
 unfolding wellMade every
 returns-8 c =
-    let w1 = sym (c .before .before .before .before .before .before .before .before .before .before .before .before .before .before .before .before .before .fits2 .ensures) ∙ un-not _ _ (c .before .before .before .before .before .before .before .before .before .before .before .before .before .before .before .before .if1 .left) in
-    let w2 = sym (simp (c .before .before .before .before .before .before .before .before .before .before .before .before .before .before .before .total .ensures) at (c .before .before .before .before .before .before .before .before .before .before .before .before .before .before .current-for .ensures)) ∙ un-not _ _ (c .before .before .before .before .before .before .before .before .before .before .before .before .before .if2 .left) in
-    let w3 = sym (c .before .before .before .before .before .before .before .before .before .before .before .before .index-fits .ensures) ∙ un-not _ _ (c .before .before .before .before .before .before .before .before .before .before .before .if3 .left) in
-    let w4 = sym (c .before .before .before .before .before .before .before .before .before .before .sreset-fits .ensures) ∙ un-not _ _ (c .before .before .before .before .before .before .before .before .before .if4 .left) in
-    let w5 = sym (c .before .before .before .before .before .before .before .before .status-fits .ensures) ∙ un-not _ _ (c .before .before .before .before .before .before .before .if5 .left) in
-    let w6 = sym (simp (c .before .before .before .before .before .before .held-in .ensures) at (c .before .before .before .before .before .hold-fits .ensures)) ∙ un-not _ _ (c .before .before .before .before .if6 .left) in
+    let c4 = c .before .before .before .before in
+    let c5 = c4 .before in
+    let c6 = c5 .before in
+    let c7 = c6 .before in
+    let c8 = c7 .before in
+    let c9 = c8 .before in
+    let c10 = c9 .before in
+    let c11 = c10 .before in
+    let c12 = c11 .before in
+    let c13 = c12 .before in
+    let c14 = c13 .before in
+    let c15 = c14 .before in
+    let c16 = c15 .before in
+    let c17 = c16 .before in
+    let w1 = sym (c17 .fits2 .ensures) ∙ un-not _ _ (c16 .if1 .left) in
+    let w2 = sym (simp (c15 .total .ensures) at (c14 .current-for .ensures)) ∙ un-not _ _ (c13 .if2 .left) in
+    let w3 = sym (c12 .index-fits .ensures) ∙ un-not _ _ (c11 .if3 .left) in
+    let w4 = sym (c10 .sreset-fits .ensures) ∙ un-not _ _ (c9 .if4 .left) in
+    let w5 = sym (c8 .status-fits .ensures) ∙ un-not _ _ (c7 .if5 .left) in
+    let w6 = sym (simp (c6 .held-in .ensures) at (c5 .hold-fits .ensures)) ∙ un-not _ _ (c4 .if6 .left) in
     let w7 = sym (c .before .before .before .words-fit .ensures) ∙ un-not _ _ (c .before .before .if7 .left) in
     let w8 = sym (c .before .run-fits .ensures) ∙ un-not _ _ (c .if8 .taken) in
     simp (w1, w2, w3, w4, w5, w6, w7, w8)
@@ -115,12 +166,26 @@ returns-8 c =
 returns-9 : tie.Need-returns-9
 unfolding wellMade every
 returns-9 c =
-    let w1 = sym (c .before .before .before .before .before .before .before .before .before .before .before .before .before .before .before .before .before .fits2 .ensures) ∙ un-not _ _ (c .before .before .before .before .before .before .before .before .before .before .before .before .before .before .before .before .if1 .left) in
-    let w2 = sym (simp (c .before .before .before .before .before .before .before .before .before .before .before .before .before .before .before .total .ensures) at (c .before .before .before .before .before .before .before .before .before .before .before .before .before .before .current-for .ensures)) ∙ un-not _ _ (c .before .before .before .before .before .before .before .before .before .before .before .before .before .if2 .left) in
-    let w3 = sym (c .before .before .before .before .before .before .before .before .before .before .before .before .index-fits .ensures) ∙ un-not _ _ (c .before .before .before .before .before .before .before .before .before .before .before .if3 .left) in
-    let w4 = sym (c .before .before .before .before .before .before .before .before .before .before .sreset-fits .ensures) ∙ un-not _ _ (c .before .before .before .before .before .before .before .before .before .if4 .left) in
-    let w5 = sym (c .before .before .before .before .before .before .before .before .status-fits .ensures) ∙ un-not _ _ (c .before .before .before .before .before .before .before .if5 .left) in
-    let w6 = sym (simp (c .before .before .before .before .before .before .held-in .ensures) at (c .before .before .before .before .before .hold-fits .ensures)) ∙ un-not _ _ (c .before .before .before .before .if6 .left) in
+    let c4 = c .before .before .before .before in
+    let c5 = c4 .before in
+    let c6 = c5 .before in
+    let c7 = c6 .before in
+    let c8 = c7 .before in
+    let c9 = c8 .before in
+    let c10 = c9 .before in
+    let c11 = c10 .before in
+    let c12 = c11 .before in
+    let c13 = c12 .before in
+    let c14 = c13 .before in
+    let c15 = c14 .before in
+    let c16 = c15 .before in
+    let c17 = c16 .before in
+    let w1 = sym (c17 .fits2 .ensures) ∙ un-not _ _ (c16 .if1 .left) in
+    let w2 = sym (simp (c15 .total .ensures) at (c14 .current-for .ensures)) ∙ un-not _ _ (c13 .if2 .left) in
+    let w3 = sym (c12 .index-fits .ensures) ∙ un-not _ _ (c11 .if3 .left) in
+    let w4 = sym (c10 .sreset-fits .ensures) ∙ un-not _ _ (c9 .if4 .left) in
+    let w5 = sym (c8 .status-fits .ensures) ∙ un-not _ _ (c7 .if5 .left) in
+    let w6 = sym (simp (c6 .held-in .ensures) at (c5 .hold-fits .ensures)) ∙ un-not _ _ (c4 .if6 .left) in
     let w7 = sym (c .before .before .before .words-fit .ensures) ∙ un-not _ _ (c .before .before .if7 .left) in
     let w8 = sym (c .before .run-fits .ensures) ∙ un-not _ _ (c .if8 .left) in
     simp (w1, w2, w3, w4, w5, w6, w7, w8)

@@ -27,11 +27,19 @@ cast-count c = search needs
 
 returns-4 : tie.Need-returns-4
 unfolding sectorsFit every
-returns-4 c = let w = sym (c .before .before .before .before .before .before .found .ensures) ∙ un-not _ _ (c .before .before .before .before .before .if1 .left) in simp (w, le-leb _ _ (c .before .before .before .before .if2 .left), le-leb _ _ (c .before .before .before .if3 .left), ne-eqb _ _ (c .if4 .taken))
+returns-4 c =
+    let c4 = c .before .before .before .before in
+    let c5 = c4 .before in
+    let c6 = c5 .before in
+    let w = sym (c6 .found .ensures) ∙ un-not _ _ (c5 .if1 .left) in simp (w, le-leb _ _ (c4 .if2 .left), le-leb _ _ (c .before .before .before .if3 .left), ne-eqb _ _ (c .if4 .taken))
 
 returns-5 : tie.Need-returns-5
 unfolding sectorsFit every
-returns-5 c = let w = sym (c .before .before .before .before .before .before .found .ensures) ∙ un-not _ _ (c .before .before .before .before .before .if1 .left) in simp (w, le-leb _ _ (c .before .before .before .before .if2 .left), le-leb _ _ (c .before .before .before .if3 .left), eq-eqb _ _ (c .if4 .left))
+returns-5 c =
+    let c4 = c .before .before .before .before in
+    let c5 = c4 .before in
+    let c6 = c5 .before in
+    let w = sym (c6 .found .ensures) ∙ un-not _ _ (c5 .if1 .left) in simp (w, le-leb _ _ (c4 .if2 .left), le-leb _ _ (c .before .before .before .if3 .left), eq-eqb _ _ (c .if4 .left))
 
 pub sectors-fit-spec : {M : Type 1} → statement M
 sectors-fit-spec =

@@ -13,7 +13,9 @@ same-length : tie.Need-same-length
 same-length c = search needs
 
 returns : tie.Need-returns
-returns c = ap (λ (o : Output). printedIn o (stopped (c .before .before .before .before .before .args .place) (Broken (c .before .before .before .before .before .args .why)))) (c .before .before .put-bad .ensures)
+returns c =
+    let c5 = c .before .before .before .before .before in
+    ap (λ (o : Output). printedIn o (stopped (c5 .args .place) (Broken (c5 .args .why)))) (c .before .before .put-bad .ensures)
 
 pub bad-spec : {M : Type 1} → statement M
 bad-spec = tie.close (tie.spec put-bad-requires same-length returns)

@@ -35,11 +35,15 @@ same-length-3 c = search needs
 returns : tie.Need-returns
 unfolding openedOn
 returns c =
-    let a = c .before .before .before .before .before .before .before .before .before .before .before .before .before .before .before .before .before .before .before .before .before .args in
+    let c6 = c .before .before .before .before .before .before in
+    let c10 = c6 .before .before .before .before in
+    let c13 = c10 .before .before .before in
+    let c21 = c13 .before .before .before .before .before .before .before .before in
+    let a = c21 .args in
     let o = output (a .out .now) (a .at) in
-    ap (λ (s : Shown). record { place = s .place; done = s .done; end = s .end; out = s .out }) (c .before .before .before .before .before .before .run-from .ensures)
-    ∙ ap (λ (x : Outcome). printedAt o (opensAs x (c .before .before .before .before .before .before .before .before .before .before .before .before .before .«open» .result .card) (a .file .now) (a .store .now) (a .marks .now) (a .tuples .now))) (sym (c .before .before .before .before .before .before .before .before .before .before .enum-told .given .1))
-    ∙ ap (λ (x : Answer). printedAt o (opensAs (x .outcome) (x .card) (a .file .now) (a .store .now) (a .marks .now) (a .tuples .now))) (c .before .before .before .before .before .before .before .before .before .before .before .before .before .«open» .ensures .0)
+    ap (λ (s : Shown). record { place = s .place; done = s .done; end = s .end; out = s .out }) (c6 .run-from .ensures)
+    ∙ ap (λ (x : Outcome). printedAt o (opensAs x (c13 .«open» .result .card) (a .file .now) (a .store .now) (a .marks .now) (a .tuples .now))) (sym (c10 .enum-told .given .1))
+    ∙ ap (λ (x : Answer). printedAt o (opensAs (x .outcome) (x .card) (a .file .now) (a .store .now) (a .marks .now) (a .tuples .now))) (c13 .«open» .ensures .0)
 
 same-length-4 : tie.Need-same-length-4
 same-length-4 c = search needs
@@ -53,11 +57,14 @@ same-length-6 c = search needs
 returns-2 : tie.Need-returns-2
 unfolding openedOn
 returns-2 c =
-    let a = c .before .before .before .before .before .before .before .before .before .before .before .before .before .before .before .before .args in
+    let c5 = c .before .before .before .before .before in
+    let c8 = c5 .before .before .before in
+    let c16 = c8 .before .before .before .before .before .before .before .before in
+    let a = c16 .args in
     let o = output (a .out .now) (a .at) in
     c .before .before .unopened .ensures
-    ∙ ap (λ (x : Outcome). printedAt o (opensAs x (c .before .before .before .before .before .before .before .before .«open» .result .card) (a .file .now) (a .store .now) (a .marks .now) (a .tuples .now))) (sym (c .before .before .before .before .before .outcome .given .1))
-    ∙ ap (λ (x : Answer). printedAt o (opensAs (x .outcome) (x .card) (a .file .now) (a .store .now) (a .marks .now) (a .tuples .now))) (c .before .before .before .before .before .before .before .before .«open» .ensures .0)
+    ∙ ap (λ (x : Outcome). printedAt o (opensAs x (c8 .«open» .result .card) (a .file .now) (a .store .now) (a .marks .now) (a .tuples .now))) (sym (c5 .outcome .given .1))
+    ∙ ap (λ (x : Answer). printedAt o (opensAs (x .outcome) (x .card) (a .file .now) (a .store .now) (a .marks .now) (a .tuples .now))) (c8 .«open» .ensures .0)
 
 pub opened-on-spec : {M : Type 1} → statement M
 opened-on-spec =

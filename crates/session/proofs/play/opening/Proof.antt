@@ -21,7 +21,10 @@ same-length c = search needs
 
 returns : tie.Need-returns
 unfolding opening
-returns c = simp (lt-ltb _ _ (rw (c .before .before .before .before .before .capacity .ensures) at (c .before .before .before .before .if1 .taken))) (c .before .before .unopened .ensures)
+returns c =
+    let c4 = c .before .before .before .before in
+    let c5 = c4 .before in
+    simp (lt-ltb _ _ (rw (c5 .capacity .ensures) at (c4 .if1 .taken))) (c .before .before .unopened .ensures)
 
 mul-size : tie.Need-mul-size
 mul-size c = search needs
@@ -59,9 +62,16 @@ same-length-2 c = search needs
 returns-2 : tie.Need-returns-2
 unfolding opening
 returns-2 c =
-    let h = rw (c .before .before .before .before .before .before .before .before .before .before .before .before .before .capacity .ensures) at (c .before .before .before .before .before .before .before .before .before .before .before .before .if1 .left) in
-    let e = simp (c .before .before .before .before .before .before .before .before .before .before .before .zero-store .ensures, c .before .before .before .before .before .before .before .before .before .before .zero-marks .ensures, c .before .before .before .before .before .before .before .before .before .no-tuples .ensures, c .before .before .before .before .before .before .before .before .before .before .before .before .before .capacity .ensures) at (c .before .before .before .before .opened-on .ensures) in
-    let n = capacityOf (geometryOf (c .before .before .before .before .before .before .before .before .before .before .before .before .before .before .before .before .args .sizes)) in
+    let c4 = c .before .before .before .before in
+    let c9 = c4 .before .before .before .before .before in
+    let c10 = c9 .before in
+    let c11 = c10 .before in
+    let c12 = c11 .before in
+    let c13 = c12 .before in
+    let c16 = c13 .before .before .before in
+    let h = rw (c13 .capacity .ensures) at (c12 .if1 .left) in
+    let e = simp (c11 .zero-store .ensures, c10 .zero-marks .ensures, c9 .no-tuples .ensures, c13 .capacity .ensures) at (c4 .opened-on .ensures) in
+    let n = capacityOf (geometryOf (c16 .args .sizes)) in
     simp (le-ltb _ _ h) (simp (zero-part (512 * n) 16384 (omega arith), zero-part n 32 h) at e)
 
 pub opening-spec : {M : Type 1} → statement M

@@ -17,8 +17,10 @@ same-length c = search needs
 
 returns : tie.Need-returns
 returns c =
-    let a = c .before .before .before .before .before .before .before .before .before .before .args in
-    let e = c .before .before .session .ensures ∙ ap (λ (o : Output). printedAt o (sessionOf (a .file .now))) (c .before .before .before .before .before .before .put-header .ensures) ∙ after-header (a .out .now) (a .file .now) in
+    let c6 = c .before .before .before .before .before .before in
+    let c10 = c6 .before .before .before .before in
+    let a = c10 .args in
+    let e = c .before .before .session .ensures ∙ ap (λ (o : Output). printedAt o (sessionOf (a .file .now))) (c6 .put-header .ensures) ∙ after-header (a .out .now) (a .file .now) in
     (e, text-lies (a .out .now) (a .file .now) _ _ e)
 
 pub play-spec : {M : Type 1} → statement M

@@ -24,7 +24,10 @@ same-length-2 c = search needs
 
 returns-2 : tie.Need-returns-2
 unfolding sessionOf
-returns-2 c = simp (le-ltb _ _ (c .before .before .before .before .before .if1 .left), eq-eqb _ _ (c .before .before .before .before .if2 .taken)) (c .before .before .bad2 .ensures)
+returns-2 c =
+    let c4 = c .before .before .before .before in
+    let c5 = c4 .before in
+    simp (le-ltb _ _ (c5 .if1 .left), eq-eqb _ _ (c4 .if2 .taken)) (c .before .before .bad2 .ensures)
 
 first-record-requires : tie.Need-first-record-requires
 first-record-requires c κs = search needs
@@ -49,14 +52,26 @@ same-length-3 c = search needs
 
 returns-3 : tie.Need-returns-3
 unfolding sessionOf
-returns-3 c = let e = sym (ap firstOf (c .before .before .before .before .before .before .before .before .first-record .ensures)) ∙ sym (c .before .before .before .before .before .before .before .first .ensures) ∙ c .before .before .before .before .before .sizes .given .1 in simp (le-ltb _ _ (c .before .before .before .before .before .before .before .before .before .before .if1 .left), ne-eqb _ _ (c .before .before .before .before .before .before .before .before .before .if2 .left), e) (c .before .before .opening .ensures)
+returns-3 c =
+    let c5 = c .before .before .before .before .before in
+    let c7 = c5 .before .before in
+    let c8 = c7 .before in
+    let c9 = c8 .before in
+    let c10 = c9 .before in
+    let e = sym (ap firstOf (c8 .first-record .ensures)) ∙ sym (c7 .first .ensures) ∙ c5 .sizes .given .1 in simp (le-ltb _ _ (c10 .if1 .left), ne-eqb _ _ (c9 .if2 .left), e) (c .before .before .opening .ensures)
 
 same-length-4 : tie.Need-same-length-4
 same-length-4 c = search needs
 
 returns-4 : tie.Need-returns-4
 unfolding sessionOf
-returns-4 c = let e = sym (ap firstOf (c .before .before .before .before .before .before .before .before .first-record .ensures)) ∙ sym (c .before .before .before .before .before .before .before .first .ensures) ∙ c .before .before .before .before .before .why .given .1 in simp (le-ltb _ _ (c .before .before .before .before .before .before .before .before .before .before .if1 .left), ne-eqb _ _ (c .before .before .before .before .before .before .before .before .before .if2 .left), e) (c .before .before .bad3 .ensures)
+returns-4 c =
+    let c5 = c .before .before .before .before .before in
+    let c7 = c5 .before .before in
+    let c8 = c7 .before in
+    let c9 = c8 .before in
+    let c10 = c9 .before in
+    let e = sym (ap firstOf (c8 .first-record .ensures)) ∙ sym (c7 .first .ensures) ∙ c5 .why .given .1 in simp (le-ltb _ _ (c10 .if1 .left), ne-eqb _ _ (c9 .if2 .left), e) (c .before .before .bad3 .ensures)
 
 pub session-spec : {M : Type 1} → statement M
 session-spec =

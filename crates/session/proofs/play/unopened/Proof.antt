@@ -16,7 +16,9 @@ same-length : tie.Need-same-length
 same-length c = search needs
 
 returns : tie.Need-returns
-returns c = ap (λ (o : Output). printedIn o (stopped 0 (Unopened (c .before .before .before .before .before .before .args .refusal)))) (rw (c .before .before .before .number .ensures) at (c .before .before .put-unopened .ensures))
+returns c =
+    let c6 = c .before .before .before .before .before .before in
+    ap (λ (o : Output). printedIn o (stopped 0 (Unopened (c6 .args .refusal)))) (rw (c .before .before .before .number .ensures) at (c .before .before .put-unopened .ensures))
 
 pub unopened-spec : {M : Type 1} → statement M
 unopened-spec = tie.close (tie.spec number-requires put-unopened-requires same-length returns)

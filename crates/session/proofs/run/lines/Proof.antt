@@ -39,8 +39,9 @@ of-requires c κs = search needs
 
 loop-holds : tie.Need-loop-holds Inv-loop μ-loop
 loop-holds c =
+    let c8 = c .before .before .before .before .before .before .before .before in
     let e = c .of .ensures in
-    (search needs, search needs, refl, refl, refl, c .before .before .before .before .before .before .before .before .pre, rw e (search needs), e ∙ ap (λ (f : LineNumber). lineNumber (f .value)) (sym e), rw e refl)
+    (search needs, search needs, refl, refl, refl, c8 .pre, rw e (search needs), e ∙ ap (λ (f : LineNumber). lineNumber (f .value)) (sym e), rw e refl)
 
 ran-requires : tie.Need-ran-requires Inv-loop μ-loop
 ran-requires c κs = search needs
@@ -85,19 +86,29 @@ same-length-5 : tie.Need-same-length-5 Inv-loop μ-loop
 same-length-5 c = c .before .before .before .before .before .before .before .before .before .before .before .before .before .loop .inv .3
 
 same-length-6 : tie.Need-same-length-6 Inv-loop μ-loop
-same-length-6 c = c .before .before .before .put-bad .kept .0 ∙ c .before .before .before .before .before .before .before .before .before .before .before .before .before .loop .inv .4
+same-length-6 c =
+    let c13 = c .before .before .before .before .before .before .before .before .before .before .before .before .before in
+    c .before .before .before .put-bad .kept .0 ∙ c13 .loop .inv .4
 
 returns-2 : tie.Need-returns-2 Inv-loop μ-loop
 returns-2 c =
-    let l = c .before .before .before .before .before .before .before .before .before .before .before .before .before .loop in
-    let a = c .before .before .before .before .before .before .before .before .before .before .before .before .before .before .before .before .before .before .before .before .before .before .args in
+    let c5 = c .before .before .before .before .before in
+    let c7 = c5 .before .before in
+    let c9 = c7 .before .before in
+    let c10 = c9 .before in
+    let c11 = c10 .before in
+    let c12 = c11 .before in
+    let c13 = c12 .before in
+    let c22 = c13 .before .before .before .before .before .before .before .before .before in
+    let l = c13 .loop in
+    let a = c22 .args in
     let o = output (l .out) (l .text) in
     let m = machine (l .core) (l .buffer) (l .store) (l .marks) in
-    let p = c .before .before .before .put-bad .ensures ∙ ap (λ (n : ℕ). put o (bad n)) (c .before .before .before .before .before .wrapping-add-u64 .ensures) in
-    let e = sym (ap afterOf (c .before .before .before .before .before .before .before .before .before .before .record-at .ensures)) ∙ sym (c .before .before .before .before .before .before .before .before .before .after .ensures) ∙ c .before .before .before .before .before .before .before .why .given .1 in
+    let p = c .before .before .before .put-bad .ensures ∙ ap (λ (n : ℕ). put o (bad n)) (c5 .wrapping-add-u64 .ensures) in
+    let e = sym (ap afterOf (c10 .record-at .ensures)) ∙ sym (c9 .after .ensures) ∙ c7 .why .given .1 in
     rw (c .ran2 .ensures)
-    (ap (λ (x : Output). record { machine = m; place = wrapped (a .first + l .at); done = l .done; end = Broken (c .before .before .before .before .before .before .before .why .given .0 .0); out = x }) p
-    ∙ sym (lines-stop o (a .first) (l .counter .value) (l .done) (l .left) (l .at) (a .part .now) (a .tuples .now) m (c .before .before .before .before .before .before .before .why .given .0 .0) (c .before .before .before .before .before .before .before .before .before .before .before .before .loop-test .taken) (c .before .before .before .before .before .before .before .before .before .before .before .if1 .left) e)
+    (ap (λ (x : Output). record { machine = m; place = wrapped (a .first + l .at); done = l .done; end = Broken (c7 .why .given .0 .0); out = x }) p
+    ∙ sym (lines-stop o (a .first) (l .counter .value) (l .done) (l .left) (l .at) (a .part .now) (a .tuples .now) m (c7 .why .given .0 .0) (c12 .loop-test .taken) (c11 .if1 .left) e)
     ∙ l .inv .8)
 
 enum-known-write : tie.Need-enum-known-write Inv-loop μ-loop
@@ -113,7 +124,9 @@ by-verdict-requires : tie.Need-by-verdict-requires Inv-loop μ-loop
 by-verdict-requires c κs = search needs
 
 put-answer-requires : tie.Need-put-answer-requires Inv-loop μ-loop
-put-answer-requires c κs = c .before .before .before .before .before .before .before .before .before .before .before .before .before .before .before .before .before .before .before .before .loop .inv .7
+put-answer-requires c κs =
+    let c20 = c .before .before .before .before .before .before .before .before .before .before .before .before .before .before .before .before .before .before .before .before in
+    c20 .loop .inv .7
 
 next-requires : tie.Need-next-requires Inv-loop μ-loop
 next-requires c κs = search needs
@@ -126,35 +139,61 @@ cast-at c = search needs
 
 add-at : tie.Need-add-at Inv-loop μ-loop
 add-at c =
-    let l = c .before .before .before .before .before .before .before .before .before .before .before .before .before .before .before .before .before .before .before .before .before .before .before .before .before .loop in
-    let f = access-fits _ _ (c .before .before .before .before .before .before .before .before .before .before .before .before .before .before .before .before .before .before .before .before .before .before .before .before .before .before .before .before .before .before .before .before .before .before .args .part .now) (l .at) (c .before .before .before .before .before .before .before .before .before .before .before .before .before .before .before .before .before .before .before .before .before .before .before .if1 .left) (sym (ap afterOf (c .before .before .before .before .before .before .before .before .before .before .before .before .before .before .before .before .before .before .before .before .before .before .record-at .ensures)) ∙ sym (c .before .before .before .before .before .before .before .before .before .before .before .before .before .before .before .before .before .before .before .before .before .after .ensures) ∙ c .before .before .before .before .before .before .before .before .before .before .before .before .before .before .before .before .before .before .before .write .given .1) in
+    let c19 = c .before .before .before .before .before .before .before .before .before .before .before .before .before .before .before .before .before .before .before in
+    let c21 = c19 .before .before in
+    let c22 = c21 .before in
+    let c23 = c22 .before in
+    let c25 = c23 .before .before in
+    let c34 = c25 .before .before .before .before .before .before .before .before .before in
+    let l = c25 .loop in
+    let f = access-fits _ _ (c34 .args .part .now) (l .at) (c23 .if1 .left) (sym (ap afterOf (c22 .record-at .ensures)) ∙ sym (c21 .after .ensures) ∙ c19 .write .given .1) in
     omega (arith, f, c .size-of .ensures .0, l .inv .1)
 
 add-done : tie.Need-add-done Inv-loop μ-loop
-add-done c = omega (arith, c .before .before .before .before .before .before .before .before .before .before .before .before .before .before .before .before .before .before .before .before .before .before .before .before .before .loop .inv .0, c .before .before .before .before .before .before .before .before .before .before .before .before .before .before .before .before .before .before .before .before .before .before .before .before .before .loop .inv .1, c .before .before .before .before .before .before .before .before .before .before .before .before .before .before .before .before .before .before .before .before .before .before .before .before .loop-test .taken)
+add-done c =
+    let c24 = c .before .before .before .before .before .before .before .before .before .before .before .before .before .before .before .before .before .before .before .before .before .before .before .before in
+    let c25 = c24 .before in
+    omega (arith, c25 .loop .inv .0, c25 .loop .inv .1, c24 .loop-test .taken)
 
 sub-left : tie.Need-sub-left Inv-loop μ-loop
-sub-left c = omega (arith, c .before .before .before .before .before .before .before .before .before .before .before .before .before .before .before .before .before .before .before .before .before .before .before .before .before .loop .inv .0, c .before .before .before .before .before .before .before .before .before .before .before .before .before .before .before .before .before .before .before .before .before .before .before .before .before .loop .inv .1, c .before .before .before .before .before .before .before .before .before .before .before .before .before .before .before .before .before .before .before .before .before .before .before .before .loop-test .taken)
+sub-left c =
+    let c24 = c .before .before .before .before .before .before .before .before .before .before .before .before .before .before .before .before .before .before .before .before .before .before .before .before in
+    let c25 = c24 .before in
+    omega (arith, c25 .loop .inv .0, c25 .loop .inv .1, c24 .loop-test .taken)
 
 loop-less : tie.Need-loop-less Inv-loop μ-loop
-loop-less c = omega (arith, c .before .before .before .before .before .before .before .before .before .before .before .before .before .before .before .before .before .before .before .before .before .before .before .before .before .loop .inv .0, c .before .before .before .before .before .before .before .before .before .before .before .before .before .before .before .before .before .before .before .before .before .before .before .before .before .loop .inv .1, c .before .before .before .before .before .before .before .before .before .before .before .before .before .before .before .before .before .before .before .before .before .before .before .before .loop-test .taken)
+loop-less c =
+    let c24 = c .before .before .before .before .before .before .before .before .before .before .before .before .before .before .before .before .before .before .before .before .before .before .before .before in
+    let c25 = c24 .before in
+    omega (arith, c25 .loop .inv .0, c25 .loop .inv .1, c24 .loop-test .taken)
 
 loop-again : tie.Need-loop-again Inv-loop μ-loop
 loop-again c =
-    let l = c .before .before .before .before .before .before .before .before .before .before .before .before .before .before .before .before .before .before .before .before .before .before .before .before .before .loop in
-    let a = c .before .before .before .before .before .before .before .before .before .before .before .before .before .before .before .before .before .before .before .before .before .before .before .before .before .before .before .before .before .before .before .before .before .before .args in
-    let r = c .before .before .before .before .before .before .before .before .before .before .before .by-verdict in
+    let c4 = c .before .before .before .before in
+    let c11 = c4 .before .before .before .before .before .before .before in
+    let c15 = c11 .before .before .before .before in
+    let c16 = c15 .before in
+    let c19 = c16 .before .before .before in
+    let c21 = c19 .before .before in
+    let c22 = c21 .before in
+    let c23 = c22 .before in
+    let c24 = c23 .before in
+    let c25 = c24 .before in
+    let c34 = c25 .before .before .before .before .before .before .before .before .before in
+    let l = c25 .loop in
+    let a = c34 .args in
+    let r = c11 .by-verdict in
     let k = r .kept .1 .1 .1 .1 .1 .1 .1 .1 .1 in
     let o = output (l .out) (l .text) in
-    let e = sym (ap afterOf (c .before .before .before .before .before .before .before .before .before .before .before .before .before .before .before .before .before .before .before .before .before .before .record-at .ensures)) ∙ sym (c .before .before .before .before .before .before .before .before .before .before .before .before .before .before .before .before .before .before .before .before .before .after .ensures) ∙ c .before .before .before .before .before .before .before .before .before .before .before .before .before .before .before .before .before .before .before .write .given .1 in
-    let t = steady (a .verdict) (machine (l .core) (l .buffer) (l .store) (l .marks)) (accessOf _ _ (a .tuples .now)) _ (l .inv .5) (c .before .before .before .before .before .before .before .before .before .before .before .before .before .before .before .count-known .ensures) (c .before .before .before .before .before .before .before .before .before .before .before .before .before .before .before .before .length-known .ensures) (r .ensures) in
+    let e = sym (ap afterOf (c22 .record-at .ensures)) ∙ sym (c21 .after .ensures) ∙ c19 .write .given .1 in
+    let t = steady (a .verdict) (machine (l .core) (l .buffer) (l .store) (l .marks)) (accessOf _ _ (a .tuples .now)) _ (l .inv .5) (c15 .count-known .ensures) (c16 .length-known .ensures) (r .ensures) in
     let g = c .before .next .ensures ∙ ap nextNumber (l .inv .7) ∙ sym (next-number (l .counter .value) (l .inv .6)) in
-    let f = lines-turn o _ (a .first) (l .counter .value) (l .done) (l .left) (l .at) (a .part .now) (a .tuples .now) (machine (l .core) (l .buffer) (l .store) (l .marks)) _ _ _ (c .before .before .before .before .before .before .before .before .before .before .before .before .before .before .before .before .before .before .before .before .before .before .before .before .loop-test .taken) (c .before .before .before .before .before .before .before .before .before .before .before .before .before .before .before .before .before .before .before .before .before .before .before .if1 .left) e (t .0) (c .before .before .before .before .put-answer .ensures) in (
-      omega (arith, l .inv .0, c .before .before .before .before .before .before .before .before .before .before .before .before .before .before .before .before .before .before .before .before .before .before .before .before .loop-test .taken),
+    let f = lines-turn o _ (a .first) (l .counter .value) (l .done) (l .left) (l .at) (a .part .now) (a .tuples .now) (machine (l .core) (l .buffer) (l .store) (l .marks)) _ _ _ (c24 .loop-test .taken) (c23 .if1 .left) e (t .0) (c4 .put-answer .ensures) in (
+      omega (arith, l .inv .0, c24 .loop-test .taken),
       l .inv .1,
       k .0 ∙ l .inv .2,
       k .1 .0 ∙ l .inv .3,
-      c .before .before .before .before .put-answer .kept .0 ∙ l .inv .4,
+      c4 .put-answer .kept .0 ∙ l .inv .4,
       t .1,
       rw g (omega arith),
       g ∙ ap (λ (f : LineNumber). lineNumber (f .value)) (sym g),

@@ -17,32 +17,47 @@ add-self c = search needs
 
 returns-2 : tie.Need-returns-2
 unfolding nextNumber digitsUp
-returns-2 c = search (needs, eq-eqb, ne-eqb, lt-ltb, le-ltb) ∙ ap (nextBy (c .before .before .before .before .before .args .self)) (c .before .before .before .before .wrapping-add-u64 .ensures)
+returns-2 c =
+    let c4 = c .before .before .before .before in
+    let c5 = c4 .before in
+    search (needs, eq-eqb, ne-eqb, lt-ltb, le-ltb) ∙ ap (nextBy (c5 .args .self)) (c4 .wrapping-add-u64 .ensures)
 
 add-self-2 : tie.Need-add-self-2
 add-self-2 c = search needs
 
 returns-3 : tie.Need-returns-3
 unfolding nextNumber digitsUp
-returns-3 c = search (needs, eq-eqb, ne-eqb, lt-ltb, le-ltb) ∙ ap (nextBy (c .before .before .before .before .before .before .before .args .self)) (c .before .before .before .before .before .before .wrapping-add-u64 .ensures)
+returns-3 c =
+    let c6 = c .before .before .before .before .before .before in
+    let c7 = c6 .before in
+    search (needs, eq-eqb, ne-eqb, lt-ltb, le-ltb) ∙ ap (nextBy (c7 .args .self)) (c6 .wrapping-add-u64 .ensures)
 
 add-self-3 : tie.Need-add-self-3
 add-self-3 c = search needs
 
 returns-4 : tie.Need-returns-4
 unfolding nextNumber digitsUp
-returns-4 c = search (needs, eq-eqb, ne-eqb, lt-ltb, le-ltb) ∙ ap (nextBy (c .before .before .before .before .before .before .before .before .before .args .self)) (c .before .before .before .before .before .before .before .before .wrapping-add-u64 .ensures)
+returns-4 c =
+    let c8 = c .before .before .before .before .before .before .before .before in
+    let c9 = c8 .before in
+    search (needs, eq-eqb, ne-eqb, lt-ltb, le-ltb) ∙ ap (nextBy (c9 .args .self)) (c8 .wrapping-add-u64 .ensures)
 
 add-self-4 : tie.Need-add-self-4
 add-self-4 c = search needs
 
 returns-5 : tie.Need-returns-5
 unfolding nextNumber digitsUp
-returns-5 c = search (needs, eq-eqb, ne-eqb, lt-ltb, le-ltb) ∙ ap (nextBy (c .before .before .before .before .before .before .before .before .before .before .before .args .self)) (c .before .before .before .before .before .before .before .before .before .before .wrapping-add-u64 .ensures)
+returns-5 c =
+    let c10 = c .before .before .before .before .before .before .before .before .before .before in
+    let c11 = c10 .before in
+    search (needs, eq-eqb, ne-eqb, lt-ltb, le-ltb) ∙ ap (nextBy (c11 .args .self)) (c10 .wrapping-add-u64 .ensures)
 
 returns-6 : tie.Need-returns-6
 unfolding nextNumber digitsUp
-returns-6 c = search (needs, eq-eqb, ne-eqb, lt-ltb, le-ltb) ∙ ap (nextBy (c .before .before .before .before .before .before .before .before .before .before .args .self)) (c .before .before .before .before .before .before .before .before .before .wrapping-add-u64 .ensures)
+returns-6 c =
+    let c9 = c .before .before .before .before .before .before .before .before .before in
+    let c10 = c9 .before in
+    search (needs, eq-eqb, ne-eqb, lt-ltb, le-ltb) ∙ ap (nextBy (c10 .args .self)) (c9 .wrapping-add-u64 .ensures)
 
 pub next-spec : {M : Type 1} → statement M
 next-spec =
