@@ -2,7 +2,7 @@
 import re
 
 from . import card
-from .records import LONGEST, MOST_SECTORS
+from .records import LONGEST, MOST_SECTORS, shortened
 
 HEADER = "n op answer value"
 CONTROL, OPTION = 0xE, 0x200
@@ -230,9 +230,9 @@ def opening_fault(opening):
 
 def parted(line, number):
     """A printed line of an access, as (n, letter, answer, value)."""
-    found = re.fullmatch(r"([0-9]+) ([RW]) ([0-9]+) ([0-9A-F]{4})", line)
+    found = re.fullmatch(r"([0-9]{1,5}) ([RW]) ([0-9]{1,2}) ([0-9A-F]{4})", line)
     if not found:
-        raise Mismatch(f"printed line {number}: '{line}' is no line of an access")
+        raise Mismatch(f"printed line {number}: '{shortened(line)}' is no line of an access")
     return int(found[1]), found[2], int(found[3]), int(found[4], 16)
 
 
@@ -260,10 +260,10 @@ def pairs_of(records, broken, printed):
     yield printed[0], opening_told(records[0]) if records else "no opening in the file", None
     done = 1
     if records and len(printed) > 1 and printed[1].startswith("open "):
-        row = int(printed[1][5:]) if printed[1][5:].isdigit() else 0
-        if row != 1 or not opening_fault(records[0]):
-            raise Mismatch(f"printed line 2: it is '{printed[1]}', and this opening is {'refused by row 1' if opening_fault(records[0]) else 'taken'}")
-        yield printed[1], f"the opening is refused, row {row}: {card.ROWS.get(row, 'no row')} ({opening_fault(records[0])})", None
+        if printed[1] != "open 1" or not opening_fault(records[0]):
+            wanted = "refused by row 1" if opening_fault(records[0]) else "taken"
+            raise Mismatch(f"printed line 2: it is '{shortened(printed[1])}', and this opening is {wanted}")
+        yield printed[1], f"the opening is refused, row 1: {card.ROWS[1]} ({opening_fault(records[0])})", None
         done = 2
     else:
         if records:
@@ -277,7 +277,7 @@ def pairs_of(records, broken, printed):
             yield printed[done], f"row 17: {card.ROWS[17]}: {where}{broken.why}", None
             done += 1
     if done < len(printed):
-        raise Mismatch(f"printed line {done + 1}: '{printed[done]}' is more than the session has")
+        raise Mismatch(f"printed line {done + 1}: '{shortened(printed[done])}' is more than the session has")
 
 
 def folded(pairs, least=4):

@@ -41,6 +41,11 @@ class Broken(Exception):
     """Why a record is broken."""
 
 
+def shortened(word):
+    """A word as a message shows it."""
+    return word if len(word) <= 20 else word[:20] + ".."
+
+
 def record_at(file, place):
     """The record that begins at a place, and its length; Broken where it is none, by the card's tests in the card's order."""
     left = len(file) - place

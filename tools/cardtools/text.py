@@ -4,7 +4,7 @@ from itertools import groupby
 
 from .card import access_words, opening_words
 from .explain import Follower
-from .records import LONGEST, SPACES, Access, Opening, file_of, records_of, size_of
+from .records import LONGEST, SPACES, Access, Opening, file_of, records_of, shortened, size_of
 
 MODE_WORDS = {"pc-card": 0, "true-ide": 1}
 MODE_NAMES = {number: word for word, number in MODE_WORDS.items()}
@@ -26,13 +26,9 @@ class Bad(Exception):
 
 # ---- from text
 
-def shortened(word):
-    return word if len(word) <= 20 else word[:20] + ".."
-
-
 def decimal(word, what):
     if not re.fullmatch(r"[0-9]+", word):
-        raise Fault(f"{what} is a decimal number, not '{word}'")
+        raise Fault(f"{what} is a decimal number, not '{shortened(word)}'")
     digits = word.lstrip("0") or "0"
     if len(digits) > 5 or int(digits) > 65535:
         raise Fault(f"{what} is {shortened(word)}, and 65535 is the most")
@@ -42,7 +38,7 @@ def decimal(word, what):
 def hexadecimal(word, what, most):
     digits = word[:-1] if word[-1:] in ("H", "h") else word
     if not re.fullmatch(r"[0-9A-Fa-f]+", digits):
-        raise Fault(f"{what} is a hexadecimal number, not '{word}'")
+        raise Fault(f"{what} is a hexadecimal number, not '{shortened(word)}'")
     number = int(digits, 16)
     if number > most:
         raise Fault(f"{what} is {word}, and {most:X} is the most")
@@ -67,7 +63,7 @@ def opening_of(words):
     if mode in MODE_WORDS:
         return Opening(c, h, s, MODE_WORDS[mode])
     if not re.fullmatch(r"[0-9]+", mode):
-        raise Fault(f"the mode is pc-card, true-ide or a decimal number, not '{words[3]}'")
+        raise Fault(f"the mode is pc-card, true-ide or a decimal number, not '{shortened(words[3])}'")
     return Opening(c, h, s, decimal(mode, "the mode"))
 
 
@@ -80,7 +76,7 @@ def accesses_of(verb, words):
     if not words:
         raise Fault(f"{verb} wants a space: {', '.join(SPACES)}")
     if words[0].lower() not in SPACE_WORDS:
-        raise Fault(f"the space is one of {', '.join(SPACES)}, not '{words[0]}'")
+        raise Fault(f"the space is one of {', '.join(SPACES)}, not '{shortened(words[0])}'")
     space = SPACE_WORDS[words[0].lower()]
     if len(words) < 2:
         raise Fault(f"{verb} wants an address after the space")
@@ -99,7 +95,7 @@ def accesses_of(verb, words):
 def bytes_of(words):
     for word in words:
         if not re.fullmatch(r"[0-9A-Fa-f]{2}", word):
-            raise Fault(f"a byte is two hexadecimal digits, not '{word}'")
+            raise Fault(f"a byte is two hexadecimal digits, not '{shortened(word)}'")
     return bytes(int(word, 16) for word in words)
 
 
@@ -133,7 +129,7 @@ class Maker:
                 raise Fault(f"a session begins with open, and this is a {verb}")
             self.add(file_of(accesses))
         else:
-            raise Fault(f"a line begins with open, read, write or bytes, not '{words[0]}'")
+            raise Fault(f"a line begins with open, read, write or bytes, not '{shortened(words[0])}'")
 
     def add(self, record):
         before = len(self.file)

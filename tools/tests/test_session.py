@@ -177,7 +177,8 @@ def test_fold_joins_nothing_in_a_reset():
 def test_output_of_another_session_is_told_with_its_line():
     for printed, part in (("", "line 1"), ("n op\n", "line 1"), (SAMPLE_PRINTED[:40], "line 4"), (SAMPLE_PRINTED + "6 R 0 0000\n", "line 7"),
                           (SAMPLE_PRINTED.replace("3 R", "3 W"), "line 4"), (SAMPLE_PRINTED.replace("2 R 0 0051", "oops"), "line 3"),
-                          ("n op answer value\nopen 1\n", "line 2")):
+                          ("n op answer value\nopen 1\n", "line 2"), ("n op answer value\nopen " + 5000 * "9" + "\n", "line 2"),
+                          ("n op answer value\n" + 5000 * "1" + " W 0 00FF\n", "line 2")):
         fault = fault_of(Mismatch, lines_of, SAMPLE, printed)
         assert part in str(fault), fault
 
