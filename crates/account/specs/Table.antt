@@ -86,5 +86,5 @@ account Diagnoses p bytes = silent (diagnoses (starts p))
 account Recalibrates p bytes = silent (ends Well (starts p))
 account Seeks p bytes = silent (ends (seeks p) (starts p))
 account Senses p bytes = silent (senses p)
--- "others: ABRT, 20H"
+-- "others": "ABRT, 20H"
 account Others p bytes = silent (ends (Aborted 0x20) (starts p))

@@ -34,7 +34,7 @@ chsIndex c h s g = (c * g .heads + h) * g .sectors + s - 1
 unfoldable pub locateLba : ℕ → ℕ → Located
 locateLba i n = pick (ltb i n) (Located.Good (record { index = i })) Located.BadLba
 
--- "with c<C, h<H, s 1..S, all current. Bad head or sector: code 21H. Otherwise bad cylinder: 2FH."
+-- "with c<C, h<H, s 1..S, all current. Bad head or sector: code 21H. Otherwise bad cylinder or LBA: 2FH."
 unfoldable pub locateChs : ℕ → ℕ → ℕ → Geometry → Located
 locateChs c h s g =
     pick (every (ltb h (g .heads) ∷ leb 1 s ∷ leb s (g .sectors) ∷ []))
