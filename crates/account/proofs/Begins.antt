@@ -11,7 +11,7 @@ use Rattle.geometry.proofs.Kept.{Bytes}
 use Rattle.registers.specs.declared.State.{State}
 use Rattle.registers.specs.State.{locatedIn}
 use Rattle.registers.specs.Machine.{Machine, withCore}
-use Rattle.transfers.specs.Before.{addressTest, readTest, storeTest, sectorStored}
+use Rattle.transfers.specs.Before.{addressTest, sectorTest, sectorStored}
 use Rattle.transfers.specs.Steps.{readSector, askSector}
 use Rattle.commands.specs.Runs.{verifyFrom, eraseFrom}
 use Rattle.transfers.specs.declared.Way.the-variants.{In, Out}
@@ -49,7 +49,7 @@ where-first i s h e = e ∙ (rw (lt-ltb i (courseIn s .room) (seat-room s i h e)
 module _ (n : ℕ) (m : Machine) (b : Bytes (m .state .registers .address)) (c : m .state .registers .count ≡ suc n % 256) where
   pub read-begins : (l : Located) (d : List ℕ) → Ground In m → locatedIn (m .state) ≡ l →
       rest (readSector (suc n) m) d ≡ fromFirst l silent (λ i. readSectors (courseOf (plainOf m)) i (suc n) (plainOf m)) (plainOf m)
-  unfolding readSector readTest addressTest restAt
+  unfolding readSector sectorTest addressTest restAt
   read-begins (Located.Good spot) d g e =
       read-rest n (courseIn (m .state)) (spot .index) m d (g .0) (g .1) (seated n (spot .index) (m .state) b c e) (where-first (spot .index) (m .state) (g .0) e)
   read-begins Located.BadHeadOrSector d g e = rw e
@@ -57,7 +57,7 @@ module _ (n : ℕ) (m : Machine) (b : Bytes (m .state .registers .address)) (c :
   read-begins Located.BadLba d g e = rw e
 
   pub read-begins-held : (l : Located) → Ground In m → locatedIn (m .state) ≡ l → Between In (readSector (suc n) m) None
-  unfolding readSector readTest addressTest
+  unfolding readSector sectorTest addressTest
   read-begins-held (Located.Good spot) g e = read-held n (courseIn (m .state)) (spot .index) m g (seated n (spot .index) (m .state) b c e) (where-first (spot .index) (m .state) (g .0) e)
   read-begins-held Located.BadHeadOrSector g e = rw e (g, refl)
   read-begins-held Located.BadCylinder g e = rw e (g, refl)
@@ -83,7 +83,7 @@ module _ (n : ℕ) (m : Machine) (b : Bytes (m .state .registers .address)) (c :
   pub verify-begins : (l : Located) → Ground In m → locatedIn (m .state) ≡ l →
       plainIn (verifyFrom (suc n) (m .state) (m .marks) .state) (m .buffer) (m .store) (m .marks)
       ≡ fromFirst l (λ q. q) (λ i. verifySectors (courseOf (plainOf m)) i (suc n) (plainOf m)) (plainOf m)
-  unfolding verifyFrom readTest addressTest
+  unfolding verifyFrom sectorTest addressTest
   verify-begins (Located.Good spot) g e =
       verify-is n (courseIn (m .state)) (spot .index) (m .state) (m .buffer) (m .store) (m .marks) (g .0) (seated n (spot .index) (m .state) b c e) (where-first (spot .index) (m .state) (g .0) e)
   verify-begins Located.BadHeadOrSector g e = rw e
@@ -93,7 +93,7 @@ module _ (n : ℕ) (m : Machine) (b : Bytes (m .state .registers .address)) (c :
   pub erase-begins : (l : Located) → Ground In m → locatedIn (m .state) ≡ l →
       erasedPlain (eraseFrom (suc n) (m .state) (m .store) (m .marks)) (m .buffer)
       ≡ fromFirst l (λ q. q) (λ i. eraseSectors (courseOf (plainOf m)) i (suc n) (plainOf m)) (plainOf m)
-  unfolding eraseFrom sectorStored storeTest addressTest
+  unfolding eraseFrom sectorStored sectorTest addressTest
   erase-begins (Located.Good spot) g e =
       erase-is n (courseIn (m .state)) (spot .index) (m .state) (m .buffer) (m .store) (m .marks) (g .0) (g .1) (seated n (spot .index) (m .state) b c e) (where-first (spot .index) (m .state) (g .0) e)
   erase-begins Located.BadHeadOrSector g e = rw e

@@ -8,7 +8,7 @@ use Rattle.geometry.specs.Address.{seek}
 use Rattle.geometry.specs.Shape.{reshaped}
 use Rattle.geometry.proofs.Shapes.{after-current}
 use Rattle.identify.specs.Words.{identifyBytes}
-use Rattle.identify.proofs.Made.{identify-length}
+use Rattle.identify.proofs.Bytes.{identify-length}
 use Rattle.registers.specs.State.{totalIn}
 use Rattle.registers.specs.Machine.{Machine, core}
 use Rattle.commands.specs.declared.Command.{Command}

@@ -16,7 +16,8 @@ use Rattle.registers.specs.State.{withCount, withAddress}
 use Rattle.geometry.specs.Next.{nextOf}
 use Rattle.transfers.specs.declared.Tested.{Tested}
 use Rattle.transfers.specs.declared.Tested.the-variants.{Passes, Fails}
-use Rattle.transfers.specs.Before.{storeTest, storedBy, sectorStored}
+use Rattle.transfers.specs.declared.Way.the-variants.{Out}
+use Rattle.transfers.specs.Before.{sectorTest, storedBy, sectorStored}
 use Rattle.transfers.specs.Steps.{sectorDone}
 use Rattle.commands.specs.Runs.{verifyFrom, eraseFrom, Erased, allFF}
 use Rattle.kept.proofs.Runs.{verify-elim, erase-elim}
@@ -65,7 +66,7 @@ pub erase-settled : (r n : ℕ) (s : State) (store marks : List ℕ) → LentFor
 unfolding sectorStored
 erase-settled r n s store marks l =
     erase-elim (λ (x : State) (st mk : List ℕ). Same s x × LentFor n st mk) (λ (k : Erased). Settled s (k .core) × LentFor n (k .store) (k .marks))
-    (λ x st mk h. (h .0, tested-lent (storeTest x mk) n st mk (h .1)))
+    (λ x st mk h. (h .0, tested-lent (sectorTest Out x mk) n st mk (h .1)))
     (λ k x st mk h. (pass s k x (h .0), h .1))
     (λ e x st mk h. let i = h .0 in ((refl, i .0, i .1, i .2, i .3), h .1))
     r s store marks ((refl, refl, refl, refl), l)

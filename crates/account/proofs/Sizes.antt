@@ -15,7 +15,8 @@ use Rattle.registers.specs.declared.State.{State}
 use Rattle.registers.specs.Machine.{Machine}
 use Rattle.transfers.specs.declared.Tested.{Tested}
 use Rattle.transfers.specs.declared.Tested.the-variants.{Passes, Fails}
-use Rattle.transfers.specs.Before.{addressTest, readTest, sectorStored}
+use Rattle.transfers.specs.declared.Way.the-variants.{In}
+use Rattle.transfers.specs.Before.{addressTest, sectorTest, sectorStored}
 use Rattle.transfers.specs.Steps.{idleWith, sectorDone, readTested, readSector, nextRead, loadRead, askTested, askSector, nextAsked, coreWritten, loadWritten, dropped}
 use Rattle.registers.specs.declared.Core.{Core}
 use Rattle.port.specs.Halves.{nextWord}
@@ -49,7 +50,7 @@ read-by (Fails e) n m = omega arith
 next-by : (b : Bool) (n : ℕ) (m : Machine) (s : State) (k : Machine) → size (k .phase) ≡ 0 → size (pick b k (readSector n (idleWith s m)) .phase) ≤ 256 * n
 unfolding readSector
 next-by true n m s k e = omega arith
-next-by false n m s k e = read-by (readTest s (m .marks)) n (idleWith s m)
+next-by false n m s k e = read-by (sectorTest In s (m .marks)) n (idleWith s m)
 
 load-size : (l : Load) (m : Machine) → size (loadRead l m .phase) ≤ 256 * (leftIn l - 1)
 unfolding nextRead

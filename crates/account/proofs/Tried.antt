@@ -14,7 +14,8 @@ use Rattle.transfers.specs.declared.End.{End}
 use Rattle.transfers.specs.declared.Tested.{Tested}
 use Rattle.transfers.specs.declared.Tested.the-variants.{Passes, Fails}
 use Rattle.transfers.specs.Ends.{ended}
-use Rattle.transfers.specs.Before.{addressTest, testedOf, markTested, readTest, storeTest}
+use Rattle.transfers.specs.declared.Way.the-variants.{In, Out}
+use Rattle.transfers.specs.Before.{addressTest, testedOf, markTested, sectorTest}
 use Rattle.kept.proofs.Ends.{bad}
 use Rattle.account.specs.Plain.{Plain, Ending, Well, NotFound, Unreadable, WriteFault, Aborted, ends, withPlace}
 use Rattle.account.specs.Course.{Course, named}
@@ -117,13 +118,13 @@ unwrite-opposite m = go (eqb m 2)
 -- what holds of a sound sector and of each failed test, holds of a sector to be read
 pub read-tested : (c : Course) (i : ℕ) (s : State) (marks : List ℕ) (P : Tested → Ending → Type 0) → Where c i s →
     (i < c .room → P (Passes (record { index = i })) Well) → ((f : End) → bad f ≡ true → P (Fails f) (endingOf f)) →
-    P (readTest s marks) (tests unreadable Unreadable c marks i)
-unfolding readTest
+    P (sectorTest In s marks) (tests unreadable Unreadable c marks i)
+unfolding sectorTest
 read-tested c i s marks P w x f = tested readable unreadable End.Unreadable refl unread-opposite c i s marks P w x f
 
 -- and of a sector to be stored
 pub store-tested : (c : Course) (i : ℕ) (s : State) (marks : List ℕ) (P : Tested → Ending → Type 0) → Where c i s →
     (i < c .room → P (Passes (record { index = i })) Well) → ((f : End) → bad f ≡ true → P (Fails f) (endingOf f)) →
-    P (storeTest s marks) (tests unwritable WriteFault c marks i)
-unfolding storeTest
+    P (sectorTest Out s marks) (tests unwritable WriteFault c marks i)
+unfolding sectorTest
 store-tested c i s marks P w x f = tested writable unwritable End.WriteFault refl unwrite-opposite c i s marks P w x f

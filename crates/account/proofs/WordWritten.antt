@@ -21,7 +21,8 @@ use Rattle.registers.specs.State.{locatedIn}
 use Rattle.registers.specs.Machine.{Machine, withBuffer}
 use Rattle.transfers.specs.declared.End.{End}
 use Rattle.transfers.specs.declared.Tested.the-variants.{Passes, Fails}
-use Rattle.transfers.specs.Before.{addressTest, storeTest, sectorStored}
+use Rattle.transfers.specs.declared.Way.the-variants.{Out}
+use Rattle.transfers.specs.Before.{addressTest, sectorTest, sectorStored}
 use Rattle.transfers.specs.Steps.{loadWritten, dropped}
 use Rattle.port.specs.Halves.{nextWord}
 use Rattle.port.specs.Data.{withPhase}
@@ -37,8 +38,8 @@ use Rattle.account.proofs.Writing.{done-over, marked-rest}
 
 -- the tests at the last byte, of a valid address
 pub store-test : (i : ℕ) (s : State) (marks : List ℕ) → locatedIn s ≡ Located.Good (record { index = i }) →
-    storeTest s marks ≡ pick (writable (getD marks i 0)) (Passes (record { index = i })) (Fails End.WriteFault)
-unfolding storeTest addressTest
+    sectorTest Out s marks ≡ pick (writable (getD marks i 0)) (Passes (record { index = i })) (Fails End.WriteFault)
+unfolding sectorTest addressTest
 store-test i s marks e = rw e
 
 -- a valid address lies in the store

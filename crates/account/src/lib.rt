@@ -14,13 +14,13 @@ fn promised(
     write: bool,
     address: u16,
     value: u16,
-    tuples: &[u8],
     store: &mut [u8],
     marks: &mut [u8],
+    tuples: &[u8],
 ) -> Answer
     ensures { λ r. ⌜ Promised card (now (store .entry)) (now (marks .entry)) (record { space = space; width = width; write = write; address = address; value = value; tuples = now (tuples .entry) }) r (now (store .exit)) (now (marks .exit)) ⌝ }
 {
-    card.access(space, width, write, address, value, tuples, store, marks)
+    card.access(space, width, write, address, value, store, marks, tuples)
 }
 
 // Every card and every lent store are as the theorem asks, by their types: registers of 8 bits, a buffer of 512, and bytes in both. (That a lent

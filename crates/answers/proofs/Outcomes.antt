@@ -1,12 +1,12 @@
--- The numbers of the refusals, and that no outcome is accepted and refused.
+-- The numbers of the refusals; that no outcome is accepted and refused; what equal outcomes say.
 use Prim.Native.Nat.{ℕ, _≤_}
-use mathlib.Core.Bool.{false≢true}
-use mathlib.Core.Path.{_≡_, ap}
+use mathlib.Core.Bool.{false, false≢true}
+use mathlib.Core.Path.{_≡_, refl, sym, ap}
 use native.Mathlib.Omega.{arith}
 use Rattle.answers.specs.declared.Outcome.{Outcome}
 use Rattle.answers.specs.declared.Refusal.{Refusal}
 use Rattle.answers.specs.declared.Refusal.the-variants.{GeometryOrMode, StoreLength, MarksLength, MarkAboveTwo, TupleBufferLength, NoRegister, SpaceSilent, HeldBySreset, WidthOrValue, IndexAboveThree, HalfMoved, NotWellMade, ChainBroken, TuplesTooLong, TupleBad, ListTooShort, SessionBroken}
-use Rattle.answers.specs.Answers.{numberOf, refused}
+use Rattle.answers.specs.Answers.{numberOf, outcomeNumber, outcomeValue, refused, Says}
 
 pub number-range : (r : Refusal) → (1 ≤ numberOf r) × (numberOf r ≤ 17)
 number-range GeometryOrMode = (omega arith, omega arith)
@@ -29,3 +29,10 @@ number-range SessionBroken = (omega arith, omega arith)
 
 pub accepts-not : {P : Type 0} (value : ℕ) (r : Refusal) → Outcome.Accepted value ≡ Outcome.Refused r → P
 accepts-not value r e = absurd (false≢true (ap refused e))
+
+pub accepted : (o : Outcome) → refused o ≡ false → o ≡ Outcome.Accepted (outcomeValue o)
+accepted (Outcome.Accepted value) e = refl
+accepted (Outcome.Refused r) e = absurd (false≢true (sym e))
+
+pub says : (a b : Outcome) → a ≡ b → Says a b
+says a b e = (ap outcomeNumber e, ap outcomeValue e)

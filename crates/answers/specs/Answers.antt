@@ -1,6 +1,7 @@
 -- 01, "Answers": each refusal has the number of its row; an accepted access is 0 with its value; every refusal gives value 0.
 use Prim.Native.Nat.{ℕ}
 use mathlib.Core.Bool.{Bool, true, false}
+use mathlib.Core.Path.{_≡_}
 use Rattle.answers.specs.declared.Refusal.{Refusal}
 use Rattle.answers.specs.declared.Refusal.the-variants.{GeometryOrMode, StoreLength, MarksLength, MarkAboveTwo, TupleBufferLength, NoRegister, SpaceSilent, HeldBySreset, WidthOrValue, IndexAboveThree, HalfMoved, NotWellMade, ChainBroken, TuplesTooLong, TupleBad, ListTooShort, SessionBroken}
 use Rattle.answers.specs.declared.Outcome.{Outcome}
@@ -52,3 +53,7 @@ outcomeValue (Refused refusal) = 0
 abbrev pub refused : Outcome → Bool
 refused (Accepted value) = false
 refused (Refused refusal) = true
+
+-- two outcomes have the same number and value of 01
+abbrev pub Says : Outcome → Outcome → Type 0
+Says a b = (outcomeNumber a ≡ outcomeNumber b) × (outcomeValue a ≡ outcomeValue b)

@@ -14,7 +14,7 @@ use Rattle.card.specs.declared.Verdict.{Verdict}
 use Rattle.card.specs.declared.Verdict.the-variants.{Fit, Refused}
 use Rattle.card.specs.Access.{Access, decided, meaning}
 use Rattle.card.specs.Perform.{perform}
-use Rattle.card.specs.Step.{stepped, step, worked}
+use Rattle.card.specs.Step.{stepped, step, fitStep}
 use Rattle.card.specs.Verdict.{verdictOf, byVerdict}
 
 -- the four tests, each as it came out
@@ -26,7 +26,7 @@ meant w s k t d =
     pick w (pick s (pick k (pick t d (Meaning.Refused TupleBufferLength)) (Meaning.Refused MarksLength)) (Meaning.Refused StoreLength)) (Meaning.Refused NotWellMade)
 
 tested-step : (w s k t : Bool) (m : Machine) (a : Access) → byVerdict (tested w s k t) m a ≡ stepped (perform (meant w s k t (decided (m .state) a)) m)
-unfolding worked perform
+unfolding fitStep perform
 tested-step true true true true m a = refl
 tested-step true true true false m a = refl
 tested-step true true false t m a = refl

@@ -4,7 +4,6 @@ use mathlib.Core.Path.{_≡_}
 use mathlib.Core.List.{List}
 use Rattle.ground.specs.Choice.{pick}
 use Rattle.answers.specs.declared.Outcome.{Outcome}
-use Rattle.answers.specs.Answers.{outcomeNumber, outcomeValue}
 use Rattle.answers.specs.declared.Refusal.{Refusal}
 use Rattle.answers.specs.declared.Refusal.the-variants.{NotWellMade, SpaceSilent, IndexAboveThree, HeldBySreset}
 use Rattle.maps.specs.declared.Mode.{Mode}
@@ -30,10 +29,6 @@ answered a store marks = record { outcome = a .outcome; line = a .line; next = m
 -- a card of its core and its buffer
 abbrev pub cardOf : Core → List ℕ → Card
 cardOf k buffer = record { phase = k .phase; state = k .state; buffer = buffer }
-
--- two outcomes have the same number and value of 01
-abbrev pub Says : Outcome → Outcome → Type 0
-Says a b = (outcomeNumber a ≡ outcomeNumber b) × (outcomeValue a ≡ outcomeValue b)
 
 -- the answer, of a reply and the buffer
 abbrev pub answerOf : Reply → List ℕ → Answer

@@ -24,8 +24,8 @@ unfoldable pub step : Machine → Access → Stepped
 step m a = stepped (perform (meaning m a) m)
 
 -- the same of a card that is known to be well made, with all that is lent of the right length
-unfoldable pub worked : Machine → Access → Stepped
-worked m a = stepped (perform (decided (m .state) a) m)
+unfoldable pub fitStep : Machine → Access → Stepped
+fitStep m a = stepped (perform (decided (m .state) a) m)
 
 -- the inner answer, of an outcome and a core
 abbrev pub replyOf : Done → Reply

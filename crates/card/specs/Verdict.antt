@@ -12,7 +12,7 @@ use Rattle.registers.specs.State.{lineOf, totalIn}
 use Rattle.registers.specs.Machine.{Machine}
 use Rattle.registers.specs.WellMade.{wellMade}
 use Rattle.card.specs.Access.{Access}
-use Rattle.card.specs.Step.{Stepped, worked}
+use Rattle.card.specs.Step.{Stepped, fitStep}
 use Rattle.card.specs.declared.Verdict.{Verdict}
 use Rattle.card.specs.declared.Verdict.the-variants.{Fit, Refused}
 
@@ -29,5 +29,5 @@ verdictOf phase state store marks tuples =
     (Refused NotWellMade)
 
 abbrev pub byVerdict : Verdict → Machine → Access → Stepped
-byVerdict Fit m a = worked m a
+byVerdict Fit m a = fitStep m a
 byVerdict (Refused r) m a = record { outcome = Outcome.Refused r; line = lineOf (m .state); next = m }

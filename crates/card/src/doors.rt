@@ -7,8 +7,9 @@ use answers::Refusal;
 use maps::Mode;
 use registers::Core;
 ghost use mathlib.Core.Path.{_≡_};
+ghost use Rattle.answers.specs.Answers.{Says};
 ghost use Rattle.card.specs.Step.{replyOf, step};
-ghost use Rattle.card.specs.Doors.{machineOf, answered, Says, cardOf, answerOf, optionAnswered, controlAnswered};
+ghost use Rattle.card.specs.Doors.{machineOf, answered, cardOf, answerOf, optionAnswered, controlAnswered};
 
 fn accept(core: Core) -> Reply
     ensures { λ r. ⌜ r ≡ replyOf (record { outcome = Outcome.Accepted 0; core = core }) ⌝ }
@@ -60,9 +61,9 @@ impl Card {
         write: bool,
         address: u16,
         value: u16,
-        tuples: &[u8],
         store: &mut [u8],
         marks: &mut [u8],
+        tuples: &[u8],
     ) -> Answer
         ensures { λ r. ⌜ answered r (now (store .exit)) (now (marks .exit)) ≡ step (machineOf self (now (store .entry)) (now (marks .entry))) (record { space = space; width = width; write = write; address = address; value = value; tuples = now (tuples .entry) }) ⌝ }
         ensures { λ r. ⌜ Says (r .outcome) (step (machineOf self (now (store .entry)) (now (marks .entry))) (record { space = space; width = width; write = write; address = address; value = value; tuples = now (tuples .entry) }) .outcome) ⌝ }
@@ -81,10 +82,10 @@ impl Card {
             write,
             address,
             value,
-            tuples,
             &mut buffer,
             store,
             marks,
+            tuples,
         );
         let outcome = r.outcome;
         let next = r.core;

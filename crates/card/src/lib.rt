@@ -14,7 +14,7 @@ ghost use Rattle.registers.specs.Machine.{machine};
 ghost use Rattle.port.specs.Data.{effect};
 ghost use Rattle.card.specs.Access.{targeted, heldAway, decided};
 ghost use Rattle.card.specs.Perform.{plainCore, registerWritten, registerRead, perform};
-ghost use Rattle.card.specs.Step.{replyOf, replied, worked, step};
+ghost use Rattle.card.specs.Step.{replyOf, replied, fitStep, step};
 ghost use Rattle.card.specs.Verdict.{verdictOf, byVerdict};
 
 pub mod doors;
@@ -246,20 +246,20 @@ fn refuse(core: Core, refusal: Refusal) -> Reply
     reply_of(port::refused(core, refusal))
 }
 
-// An access to a card that is known to be well made, with all that is lent of the right length: rows 8, 7, 6, 9, 10, 11, and the work.
-fn work(
+// An access to a card that is known to be well made, with all that is lent of the right length: rows 8, 7, 6, 9, 10, 11, and what it does.
+fn fit_step(
     core: Core,
     space: u8,
     width: u8,
     write: bool,
     address: u16,
     value: u16,
-    tuples: &[u8],
     buffer: &mut [u8; 512],
     store: &mut [u8],
     marks: &mut [u8],
+    tuples: &[u8],
 ) -> Reply
-    ensures { λ r. ⌜ replied r (now (buffer .exit)) (now (store .exit)) (now (marks .exit)) ≡ worked (machine core (now (buffer .entry)) (now (store .entry)) (now (marks .entry))) (record { space = space; width = width; write = write; address = address; value = value; tuples = now (tuples .entry) }) ⌝ }
+    ensures { λ r. ⌜ replied r (now (buffer .exit)) (now (store .exit)) (now (marks .exit)) ≡ fitStep (machine core (now (buffer .entry)) (now (store .entry)) (now (marks .entry))) (record { space = space; width = width; write = write; address = address; value = value; tuples = now (tuples .entry) }) ⌝ }
 {
     let state = core.state;
     let meaning = decide(state, space, width, write, address, value, tuples);
@@ -287,7 +287,7 @@ pub fn verdict_of(core: Core, store: &[u8], marks: &[u8], tuples: &[u8]) -> Verd
     Verdict::Fit
 }
 
-// An access by the verdict on its card and what is lent: the one place where `work` is called.
+// An access by the verdict on its card and what is lent: the one place where `fit_step` is called.
 pub fn by_verdict(
     verdict: Verdict,
     core: Core,
@@ -296,25 +296,25 @@ pub fn by_verdict(
     write: bool,
     address: u16,
     value: u16,
-    tuples: &[u8],
     buffer: &mut [u8; 512],
     store: &mut [u8],
     marks: &mut [u8],
+    tuples: &[u8],
 ) -> Reply
     ensures { λ r. ⌜ replied r (now (buffer .exit)) (now (store .exit)) (now (marks .exit)) ≡ byVerdict verdict (machine core (now (buffer .entry)) (now (store .entry)) (now (marks .entry))) (record { space = space; width = width; write = write; address = address; value = value; tuples = now (tuples .entry) }) ⌝ }
 {
     match verdict {
-        Verdict::Fit => work(
+        Verdict::Fit => fit_step(
             core,
             space,
             width,
             write,
             address,
             value,
-            tuples,
             buffer,
             store,
             marks,
+            tuples,
         ),
         Verdict::Refused(refusal) => refuse(core, refusal),
     }
@@ -328,10 +328,10 @@ fn step(
     write: bool,
     address: u16,
     value: u16,
-    tuples: &[u8],
     buffer: &mut [u8; 512],
     store: &mut [u8],
     marks: &mut [u8],
+    tuples: &[u8],
 ) -> Reply
     ensures { λ r. ⌜ replied r (now (buffer .exit)) (now (store .exit)) (now (marks .exit)) ≡ step (machine core (now (buffer .entry)) (now (store .entry)) (now (marks .entry))) (record { space = space; width = width; write = write; address = address; value = value; tuples = now (tuples .entry) }) ⌝ }
 {
@@ -344,9 +344,9 @@ fn step(
         write,
         address,
         value,
-        tuples,
         buffer,
         store,
         marks,
+        tuples,
     )
 }

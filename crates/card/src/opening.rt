@@ -14,7 +14,8 @@ use registers::Phase;
 use registers::Registers;
 use registers::State;
 ghost use mathlib.Core.Path.{_≡_};
-ghost use Rattle.card.specs.Doors.{Says, cardOf, answerOf};
+ghost use Rattle.answers.specs.Answers.{Says};
+ghost use Rattle.card.specs.Doors.{cardOf, answerOf};
 ghost use Rattle.card.specs.Opening.{modeOf, zeroState, openRefused, powered, opened};
 ghost use Rattle.registers.specs.PowerOn.{zeros};
 

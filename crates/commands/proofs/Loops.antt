@@ -10,7 +10,8 @@ use Rattle.registers.specs.declared.State.{State}
 use Rattle.transfers.specs.declared.End.{End}
 use Rattle.transfers.specs.declared.Tested.the-variants.{Passes, Fails}
 use Rattle.transfers.specs.Ends.{ended}
-use Rattle.transfers.specs.Before.{readTest, storeTested, sectorStored}
+use Rattle.transfers.specs.declared.Way.the-variants.{In}
+use Rattle.transfers.specs.Before.{sectorTest, storeTested, sectorStored}
 use Rattle.transfers.specs.Steps.{sectorDone}
 use Rattle.commands.specs.Runs.{verifyFrom, erased, allFF, eraseFrom}
 
@@ -19,12 +20,12 @@ unfolding verifyFrom
 verify-end zero s marks h = refl
 verify-end (suc n) s marks h = absurd (not-suc-le-zero h)
 
-pub verify-fails : (n : ℕ) (s : State) (marks : List ℕ) (e : End) → 0 < n → readTest s marks ≡ Fails e → verifyFrom n s marks ≡ ended e true s
+pub verify-fails : (n : ℕ) (s : State) (marks : List ℕ) (e : End) → 0 < n → sectorTest In s marks ≡ Fails e → verifyFrom n s marks ≡ ended e true s
 unfolding verifyFrom
 verify-fails zero s marks e h t = absurd (not-suc-le-zero h)
 verify-fails (suc n) s marks e h t = simp t
 
-pub verify-step : (n : ℕ) (s : State) (marks : List ℕ) (spot : Spot) → 0 < n → readTest s marks ≡ Passes spot → verifyFrom n s marks ≡ verifyFrom (n - 1) (sectorDone (n - 1) s) marks
+pub verify-step : (n : ℕ) (s : State) (marks : List ℕ) (spot : Spot) → 0 < n → sectorTest In s marks ≡ Passes spot → verifyFrom n s marks ≡ verifyFrom (n - 1) (sectorDone (n - 1) s) marks
 unfolding verifyFrom
 verify-step zero s marks spot h t = absurd (not-suc-le-zero h)
 verify-step (suc n) s marks spot h t = simp (t, sub-one)

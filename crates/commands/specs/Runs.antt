@@ -9,7 +9,8 @@ use Rattle.transfers.specs.declared.End.the-variants.{Good}
 use Rattle.transfers.specs.declared.Tested.{Tested}
 use Rattle.transfers.specs.declared.Tested.the-variants.{Passes, Fails}
 use Rattle.transfers.specs.Ends.{ended}
-use Rattle.transfers.specs.Before.{readTest, sectorStored}
+use Rattle.transfers.specs.declared.Way.the-variants.{In}
+use Rattle.transfers.specs.Before.{sectorTest, sectorStored}
 use Rattle.transfers.specs.Steps.{sectorDone}
 
 -- the rest where the sector's tests hold, else the end
@@ -19,7 +20,7 @@ goesOn (Fails e) end s rest = end (ended e true s)
 
 unfoldable pub verifyFrom : ℕ → State → List ℕ → Core
 verifyFrom zero s marks = ended Good true s
-verifyFrom (suc n) s marks = goesOn (readTest s marks) (λ k. k) s (verifyFrom n (sectorDone n s) marks)
+verifyFrom (suc n) s marks = goesOn (sectorTest In s marks) (λ k. k) s (verifyFrom n (sectorDone n s) marks)
 
 pub record Erased : Type 0 where
   pub core : Core

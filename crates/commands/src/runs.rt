@@ -3,6 +3,7 @@ use registers::Core;
 use registers::State;
 use transfers::End;
 use transfers::Tested;
+use transfers::Way;
 ghost use mathlib.Core.Path.{_≡_};
 ghost use Rattle.commands.specs.Runs.{verifyFrom, erased, eraseFrom};
 
@@ -13,7 +14,7 @@ pub(crate) fn verify(state: State, left: u16, marks: &[u8]) -> Core
     let mut s = state;
     let mut n = left;
     while 0 < n {
-        match transfers::read_test(s, marks) {
+        match transfers::sector_test(s, Way::In, marks) {
             Tested::Passes(_) => {
                 n -= 1;
                 s = transfers::sector_done(s, n);

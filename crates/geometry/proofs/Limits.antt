@@ -5,7 +5,7 @@ use mathlib.Core.Path.{_≡_, refl}
 use native.Mathlib.Nat.{mul-assoc, div-mul-le-self}
 use borrow.Author.Tests.{leb-true, eqb-true}
 use Rattle.geometry.specs.declared.Geometry.{Geometry}
-use Rattle.geometry.specs.Limits.{capacityOf, fits, limits, totalOf, currentFor, currentTests, cylindersFor}
+use Rattle.geometry.specs.Limits.{capacityOf, fits, headTests, limits, totalOf, currentFor, currentTests, cylindersFor}
 use Rattle.ground.proofs.Every.{each}
 use Rattle.geometry.proofs.Bounds.{product-positive}
 
@@ -24,7 +24,8 @@ pub fits-facts : (g : Geometry) → fits g ≡ true → Fits g
 unfolding fits
 fits-facts g e =
     let t = each (limits g) e in
-    (leb-true _ _ (t 0), leb-true _ _ (t 1), leb-true _ _ (t 2), leb-true _ _ (t 3), leb-true _ _ (t 4), leb-true _ _ (t 5), leb-true _ _ (t 6))
+    let h = each (headTests g) (t 2) in
+    (leb-true _ _ (t 0), leb-true _ _ (t 1), leb-true _ _ (h 0), leb-true _ _ (h 1), leb-true _ _ (h 2), leb-true _ _ (h 3), leb-true _ _ (t 3))
 
 -- What a current geometry of a card of n sectors is.
 abbrev pub Current : Geometry → ℕ → Type 0
@@ -40,7 +41,8 @@ pub current-facts : (g : Geometry) (n : ℕ) → currentFor g n ≡ true → Cur
 unfolding currentFor
 current-facts g n e =
     let t = each (currentTests g n) e in
-    (leb-true _ _ (t 0), leb-true _ _ (t 1), leb-true _ _ (t 2), leb-true _ _ (t 3), leb-true _ _ (t 4), eqb-true _ _ (t 5))
+    let h = each (headTests g) (t 0) in
+    (leb-true _ _ (h 0), leb-true _ _ (h 1), leb-true _ _ (h 2), leb-true _ _ (h 3), leb-true _ _ (t 1), eqb-true _ _ (t 2))
 
 -- A geometry within the limits has 1..65,535 sectors: C·H·S of them.
 pub total-fits : (g : Geometry) → fits g ≡ true → (totalOf g ≡ capacityOf g) × (1 ≤ totalOf g) × (totalOf g ≤ 65535)

@@ -1,7 +1,7 @@
 // The card's geometry: its limits, a sector's address and the one after it, and the geometry that 91H asks for (document 01, "What is lent" and "Commands").
 ghost use mathlib.Core.Path.{_≡_};
 ghost use Prim.Native.Nat.{_<_};
-ghost use Rattle.geometry.specs.Limits.{capacityOf, fits, totalOf, currentFor};
+ghost use Rattle.geometry.specs.Limits.{capacityOf, headsFit, fits, totalOf, currentFor};
 ghost use Rattle.geometry.specs.Address.{byLba, headOf, cylinderOf, lbaOf, locateLba, locateChs, locate, seek};
 ghost use Rattle.geometry.specs.Next.{atChs, atLba, nextChs, nextOf};
 ghost use Rattle.geometry.specs.Shape.{reshaped};
@@ -52,12 +52,10 @@ impl Geometry {
         (self.cylinders as usize) * (self.heads as usize) * (self.sectors as usize)
     }
 
-    pub fn fits(self) -> bool
-        ensures { λ r. ⌜ r ≡ fits self ⌝ }
+    // H 1..16 and S 1..255.
+    fn heads_fit(self) -> bool
+        ensures { λ r. ⌜ r ≡ headsFit self ⌝ }
     {
-        if self.cylinders < 1 {
-            return false;
-        }
         if self.heads < 1 {
             return false;
         }
@@ -68,6 +66,18 @@ impl Geometry {
             return false;
         }
         if 255 < self.sectors {
+            return false;
+        }
+        true
+    }
+
+    pub fn fits(self) -> bool
+        ensures { λ r. ⌜ r ≡ fits self ⌝ }
+    {
+        if self.cylinders < 1 {
+            return false;
+        }
+        if !self.heads_fit() {
             return false;
         }
         let capacity = self.capacity();
@@ -90,16 +100,7 @@ impl Geometry {
     pub fn current_for(self, total: u16) -> bool
         ensures { λ r. ⌜ r ≡ currentFor self total ⌝ }
     {
-        if self.heads < 1 {
-            return false;
-        }
-        if 16 < self.heads {
-            return false;
-        }
-        if self.sectors < 1 {
-            return false;
-        }
-        if 255 < self.sectors {
+        if !self.heads_fit() {
             return false;
         }
         if self.cylinders < 1 {

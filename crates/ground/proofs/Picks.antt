@@ -11,6 +11,11 @@ pub pick-same {ℓ} : {A : Type ℓ} (b : Bool) (x : A) → pick b x x ≡ x
 pick-same true x = refl
 pick-same false x = refl
 
+-- what is done to a choice is done to both
+pub pick-of {ℓ κ} : {A : Type ℓ} {B : Type κ} (f : A → B) (b : Bool) (x y : A) → f (pick b x y) ≡ pick b (f x) (f y)
+pick-of f true x y = refl
+pick-of f false x y = refl
+
 -- a test of a negation tells of what is negated
 pub un-not : (b t : Bool) → not b ≡ t → b ≡ not t
 un-not true t p = ap not p

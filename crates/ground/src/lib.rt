@@ -1,6 +1,6 @@
-// What every crate stands on: the choice by a test, the laws about tests and lists that the proofs cite, and three small functions.
+// What every crate stands on: the choice by a test, the laws about tests and lists that the proofs cite, and small functions.
 ghost use mathlib.Core.Path.{_≡_};
-ghost use Prim.Native.Nat.{_<_};
+ghost use Prim.Native.Nat.{_<_, _≤_, min};
 ghost use lib.ListN.{length, getD};
 
 // A byte as a wider number, with its bound.
@@ -29,4 +29,14 @@ pub fn byte_or_zero(bytes: &[u8], i: usize) -> u8
         return bytes[i];
     }
     0
+}
+
+// The smaller of two numbers.
+pub fn at_most(n: usize, most: usize) -> usize
+    ensures { λ r. ⌜ (r ≡ min n most) × (r ≤ most) ⌝ }
+{
+    if n < most {
+        return n;
+    }
+    most
 }

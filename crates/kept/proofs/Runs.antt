@@ -11,7 +11,8 @@ use Rattle.transfers.specs.declared.End.{End}
 use Rattle.transfers.specs.declared.Tested.{Tested}
 use Rattle.transfers.specs.declared.Tested.the-variants.{Passes, Fails}
 use Rattle.transfers.specs.Ends.{ended}
-use Rattle.transfers.specs.Before.{readTest, sectorStored, storedBy}
+use Rattle.transfers.specs.declared.Way.the-variants.{In}
+use Rattle.transfers.specs.Before.{sectorTest, sectorStored, storedBy}
 use Rattle.transfers.specs.Steps.{sectorDone}
 use Rattle.commands.specs.Runs.{goesOn, verifyFrom, Erased, erased, allFF, eraseFrom}
 use Rattle.kept.proofs.Registers.{CoreFits}
@@ -33,7 +34,7 @@ pub verify-elim : (I : State → Type 0) (P : Core → Type 0) → ((n : ℕ) (s
 unfolding verifyFrom
 verify-elim I P f g zero s marks h = g End.Good s h
 verify-elim I P f g (suc n) s marks h =
-    goes-elim P (readTest s marks) (λ k. k) s (verifyFrom n (sectorDone n s) marks) (λ e. g e s h) (verify-elim I P f g n (sectorDone n s) marks (f n s h))
+    goes-elim P (sectorTest In s marks) (λ k. k) s (verifyFrom n (sectorDone n s) marks) (λ e. g e s h) (verify-elim I P f g n (sectorDone n s) marks (f n s h))
 
 -- … and Erase, with the store and the marks
 pub erase-elim : (I : State → List ℕ → List ℕ → Type 0) (P : Erased → Type 0) →

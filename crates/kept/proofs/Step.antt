@@ -13,7 +13,7 @@ use Rattle.registers.specs.Machine.{Machine, coreOf}
 use Rattle.registers.specs.WellMade.{wellMade}
 use Rattle.card.specs.Access.{Access, decided, meaning}
 use Rattle.card.specs.Perform.{perform}
-use Rattle.card.specs.Step.{Stepped, step, worked, play}
+use Rattle.card.specs.Step.{Stepped, step, fitStep, play}
 use Rattle.kept.specs.Sound.{CountFits, Sound}
 use Rattle.kept.proofs.Registers.{CoreFits, apart, together}
 use Rattle.kept.proofs.Lent.{LengthsKept, lent-same}
@@ -31,15 +31,15 @@ step-next : (m : Machine) (a : Access) → CountFits (m .state) → wellMade (m 
 unfolding step
 step-next m a b e = perform-next (meaning m a) (m .state .made) m (meaning-allowed m a) (left-of m b e)
 
-work-next : (m : Machine) (a : Access) → CountFits (m .state) → wellMade (m .phase) (m .state) ≡ true → Next (m .state .made) m (worked m a .next)
-unfolding worked
-work-next m a b e = perform-next (decided (m .state) a) (m .state .made) m (decided-allowed (m .state) a) (left-of m b e)
+fit-step-next : (m : Machine) (a : Access) → CountFits (m .state) → wellMade (m .phase) (m .state) ≡ true → Next (m .state .made) m (fitStep m a .next)
+unfolding fitStep
+fit-step-next m a b e = perform-next (decided (m .state) a) (m .state .made) m (decided-allowed (m .state) a) (left-of m b e)
 
 pub well-kept : (m : Machine) (a : Access) → CountFits (m .state) → wellMade (m .phase) (m .state) ≡ true → wellMade (step m a .next .phase) (step m a .next .state) ≡ true
 well-kept m a b e = made-of (m .state .made) m (step m a .next) (step-next m a b e)
 
-pub worked-kept : (m : Machine) (a : Access) → CountFits (m .state) → wellMade (m .phase) (m .state) ≡ true → wellMade (worked m a .next .phase) (worked m a .next .state) ≡ true
-worked-kept m a b e = made-of (m .state .made) m (worked m a .next) (work-next m a b e)
+pub fit-step-kept : (m : Machine) (a : Access) → CountFits (m .state) → wellMade (m .phase) (m .state) ≡ true → wellMade (fitStep m a .next .phase) (fitStep m a .next .state) ≡ true
+fit-step-kept m a b e = made-of (m .state .made) m (fitStep m a .next) (fit-step-next m a b e)
 
 -- Row 12: a card that is not well made is refused, and nothing changes.
 pub not-well-refused : (m : Machine) (a : Access) → wellMade (m .phase) (m .state) ≡ false → step m a ≡ record { outcome = Outcome.Refused NotWellMade; line = lineOf (m .state); next = m }
@@ -77,16 +77,16 @@ sound-next m n s x =
       bytes = x .0 .2;
     }
 
-pub worked-sound : (m : Machine) (a : Access) → Sound m → Sound (worked m a .next)
-worked-sound m a s = sound-next m (worked m a .next) s (work-next m a (s .bytes) (s .made))
+pub fit-step-sound : (m : Machine) (a : Access) → Sound m → Sound (fitStep m a .next)
+fit-step-sound m a s = sound-next m (fitStep m a .next) s (fit-step-next m a (s .bytes) (s .made))
 
 pub sound-kept : (m : Machine) (a : Access) → Sound m → Sound (step m a .next)
 sound-kept m a s = sound-next m (step m a .next) s (step-next m a (s .bytes) (s .made))
 
 -- Of such a machine, and a tuple buffer of 256 bytes, rows 12, 2, 3 and 5 do not apply.
-pub sound-worked : (m : Machine) (a : Access) → Sound m → length (a .tuples) ≡ 256 → worked m a ≡ step m a
-unfolding worked step
-sound-worked m a s t = rw (meaning-decided m a (s .made) (s .store) (s .marks) t)
+pub sound-fit-step : (m : Machine) (a : Access) → Sound m → length (a .tuples) ≡ 256 → fitStep m a ≡ step m a
+unfolding fitStep step
+sound-fit-step m a s t = rw (meaning-decided m a (s .made) (s .store) (s .marks) t)
 
 -- … after any list of accesses.
 pub sound-played : (l : List Access) (m : Machine) → Sound m → Sound (play m l .last)

@@ -21,7 +21,7 @@ use Rattle.transfers.specs.declared.End.{End}
 use Rattle.transfers.specs.declared.Tested.{Tested}
 use Rattle.transfers.specs.declared.Tested.the-variants.{Passes, Fails}
 use Rattle.transfers.specs.declared.Way.the-variants.{In, Out}
-use Rattle.transfers.specs.Before.{addressTest, readTest, storeTest, storedBy, sectorStored}
+use Rattle.transfers.specs.Before.{addressTest, sectorTest, storedBy, sectorStored}
 use Rattle.transfers.specs.Steps.{idleWith, sectorDone, readTested, readSector, nextRead, loadRead, askTested, askSector, nextAsked, coreWritten, loadWritten}
 use Rattle.kept.proofs.Registers.{CoreFits}
 use Rattle.kept.proofs.Lent.{lent-same, buffer-read, stored-lengths}
@@ -30,7 +30,7 @@ use Rattle.kept.proofs.Ends.{Ready, CountAgrees, Next, ended-left, begu
 -- ---- reading
 
 pub read-next : (left : ℕ) (d : Made) (m : Machine) → Ready d (m .state) → CountAgrees left (m .state) → Next d m (readSector left m)
-unfolding readSector readTest addressTest
+unfolding readSector sectorTest addressTest
 read-next left d m r a =
     mark-elim (λ (t : Tested). Next d m (readTested t left m)) _ _ (m .marks) (locatedIn (m .state)) refl
     (λ spot g. (begun-left In (Sectors left) true d (m .state) r (sectors-fit left (m .state) g a), λ b. (refl, refl, buffer-read (m .store) (spot .index) (m .buffer) b)))
@@ -82,7 +82,7 @@ stored-by (Fails e) bytes store marks b = (refl, refl)
 pub sector-stored : (s : State) (bytes store marks : List ℕ) → length bytes ≡ 512 →
     (length (sectorStored s bytes store marks .store) ≡ length store) × (length (sectorStored s bytes store marks .marks) ≡ length marks)
 unfolding sectorStored
-sector-stored s bytes store marks b = stored-by (storeTest s marks) bytes store marks b
+sector-stored s bytes store marks b = stored-by (sectorTest Out s marks) bytes store marks b
 
 pub load-written : (load : Load) (d : Made) (m : Machine) → Ready d (m .state) → loadFits load (m .state) ≡ true → Next d m (loadWritten load m)
 load-written Buffer d m r e = (ended-left End.Good true d (m .state) (r .0), lent-same m)

@@ -10,7 +10,7 @@ use Rattle.geometry.specs.declared.Reshaped.{Reshaped}
 use Rattle.geometry.specs.Address.{seek}
 use Rattle.geometry.specs.Shape.{reshaped}
 use Rattle.geometry.proofs.Shapes.{reshaped-current}
-use Rattle.identify.proofs.Made.{identify-length}
+use Rattle.identify.proofs.Bytes.{identify-length}
 use Rattle.registers.specs.declared.Load.the-variants.{Buffer}
 use Rattle.registers.specs.declared.Made.{Made}
 use Rattle.registers.specs.declared.State.{State}

@@ -16,7 +16,8 @@ use Rattle.transfers.specs.declared.Tested.{Tested}
 use Rattle.transfers.specs.declared.Tested.the-variants.{Passes, Fails}
 use Rattle.commands.specs.declared.Command.{Command}
 use Rattle.commands.specs.declared.Command.the-variants.{Read, Write, Verify, Erase, Identify, ReadBuffer, WriteBuffer, SetGeometry, Diagnose, Recalibrate, Seek, Sense, Other}
-use Rattle.transfers.specs.Before.{readTest}
+use Rattle.transfers.specs.declared.Way.the-variants.{In}
+use Rattle.transfers.specs.Before.{sectorTest}
 use Rattle.transfers.specs.Steps.{idleWith, sectorDone, readTested, readSector, nextRead, loadRead, dropped}
 use Rattle.port.specs.Data.{Effect, accepted, phaseWritten, dataWritten}
 use Rattle.commands.specs.Table.{countOf, commandOf, started, quiet, obeyed, commandGiven}
@@ -44,7 +45,7 @@ unfolding nextRead readSector
 load-read Buffer m = refl
 load-read (Sectors left) m =
     pick-elim (Left (storeMarksIn m)) (eqb (left - 1) 0) _ _ (λ e. refl)
-    (λ e. read-tested (readTest (sectorDone (left - 1) (m .state)) (m .marks)) (left - 1) (idleWith (sectorDone (left - 1) (m .state)) m))
+    (λ e. read-tested (sectorTest In (sectorDone (left - 1) (m .state)) (m .marks)) (left - 1) (idleWith (sectorDone (left - 1) (m .state)) m))
 
 -- ---- writing
 
@@ -58,7 +59,7 @@ by-hold false x l m v e = e
 -- Error, code and the interrupt mark, with which a command starts afresh, do not matter to what is erased
 obeys : (c : Command) (m : Machine) → storeMarksIn (obeyed c (started (quiet m .state)) (quiet m)) ≡ changed (commandChanges c (m .state) (m .marks)) (storeMarksIn m)
 unfolding changed readSector countOf
-obeys Read m = read-tested (readTest (started (quiet m .state)) (m .marks)) (countOf (started (quiet m .state))) (idleWith (started (quiet m .state)) m)
+obeys Read m = read-tested (sectorTest In (started (quiet m .state)) (m .marks)) (countOf (started (quiet m .state))) (idleWith (started (quiet m .state)) m)
 obeys Write m = refl
 obeys Verify m = refl
 obeys Erase m = erase-kept (countOf (started (quiet m .state))) (started (quiet m .state)) (m .store) (m .marks)

@@ -22,7 +22,8 @@ use Rattle.transfers.specs.declared.Tested.the-variants.{Passes, Fails}
 use Rattle.commands.specs.declared.Command.{Command}
 use Rattle.commands.specs.declared.Command.the-variants.{Read, Write, Verify, Erase, Identify, ReadBuffer, WriteBuffer, SetGeometry, Diagnose, Recalibrate, Seek, Sense, Other}
 use Rattle.transfers.specs.Ends.{endStatus, endCode}
-use Rattle.transfers.specs.Before.{readTest, addressTest, sectorStored}
+use Rattle.transfers.specs.declared.Way.the-variants.{In}
+use Rattle.transfers.specs.Before.{sectorTest, addressTest, sectorStored}
 use Rattle.transfers.specs.Steps.{readTested, readSector, nextRead, loadRead, askTested, askSector, nextAsked, coreWritten, loadWritten}
 use Rattle.commands.specs.Runs.{verifyFrom, Erased, eraseFrom}
 use Rattle.commands.specs.Table.{obeyed, geometrySet, soughtEnd, commandOf, started, quiet, commandGiven}
@@ -52,7 +53,7 @@ read-tested (Fails e) left m = end-coded e _
 
 read-sector : (left : ℕ) (m : Machine) → Coded (readSector left m .state)
 unfolding readSector
-read-sector left m = read-tested (readTest (m .state) (m .marks)) left m
+read-sector left m = read-tested (sectorTest In (m .state) (m .marks)) left m
 
 next-read : (left : ℕ) (m : Machine) → Coded (nextRead left m .state)
 unfolding nextRead

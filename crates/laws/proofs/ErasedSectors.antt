@@ -19,7 +19,7 @@ use Rattle.registers.specs.declared.State.{State}
 use Rattle.registers.specs.State.{totalIn, locatedIn}
 use Rattle.transfers.specs.declared.End.the-variants.{WriteFault}
 use Rattle.transfers.specs.declared.Tested.the-variants.{Passes, Fails}
-use Rattle.transfers.specs.Before.{testedOf, addressTest, markTested, storeTest, sectorStored}
+use Rattle.transfers.specs.Before.{testedOf, addressTest, markTested, sectorTest, sectorStored}
 use Rattle.transfers.specs.Steps.{sectorDone}
 use Rattle.commands.specs.Runs.{allFF, Erased, eraseFrom}
 use Rattle.laws.specs.Changes.{Change, changed, writes, erasures}
@@ -82,7 +82,7 @@ next-address zero s marks = refl
 next-address (suc n) s marks = rw (ne-eqb (suc n) 0 (λ e. omega arith))
 
 erased-sectors : (n : ℕ) (s : State) (store marks marks0 : List ℕ) → Same marks marks0 → Rest n s (erasuresIn n s marks0) store marks
-unfolding eraseFrom erasures changed sectorStored storeTest addressTest
+unfolding eraseFrom erasures changed sectorStored sectorTest addressTest
 erased-sectors zero s store marks marks0 h = refl
 erased-sectors (suc n) s store marks marks0 h =
     by-address (locatedIn s) n s store marks marks0 (erasures n (nextOf (s .registers .address) (s .current)) (s .current) (totalIn s) marks0) h

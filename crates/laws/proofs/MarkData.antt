@@ -25,7 +25,7 @@ use Rattle.transfers.specs.declared.Tested.{Tested}
 use Rattle.transfers.specs.declared.Tested.the-variants.{Passes, Fails}
 use Rattle.transfers.specs.declared.Way.{Way}
 use Rattle.transfers.specs.declared.Way.the-variants.{In, Out}
-use Rattle.transfers.specs.Before.{addressTest, readTest, sectorStored}
+use Rattle.transfers.specs.Before.{addressTest, sectorTest, sectorStored}
 use Rattle.transfers.specs.Steps.{phaseOf, idleWith, sectorDone, readTested, readSector, nextRead, loadRead, askTested, askSector, nextAsked, coreWritten, loadWritten, dropped}
 use Rattle.port.specs.Data.{Effect, dataRead, dataWritten}
 use Rattle.kept.proofs.Ends.{bad, mark-elim, passed-count}
@@ -41,8 +41,8 @@ abbrev proper : Tested → Bool
 proper (Passes spot) = true
 proper (Fails e) = bad e
 
-read-proper : (s : State) (marks : List ℕ) → proper (readTest s marks) ≡ true
-unfolding readTest addressTest
+read-proper : (s : State) (marks : List ℕ) → proper (sectorTest In s marks) ≡ true
+unfolding sectorTest addressTest
 read-proper s marks = mark-elim (λ (t : Tested). proper t ≡ true) readable Unreadable marks (locatedIn s) refl (λ spot f. refl) (λ e b. b)
 
 -- ---- Sector Count goes down by one
@@ -69,7 +69,7 @@ load-read Buffer m a f = read-well (m .state) (loadRead Buffer (dropped m) .stat
 load-read (Sectors left) m a f =
     pick-elim (λ (n : Machine). MarkRule DataRead (m .state) (n .state)) (eqb (left - 1) 0) _ _
     (λ e. read-well (m .state) _ a refl refl refl)
-    (λ e. read-tested (readTest (sectorDone (left - 1) (m .state)) (m .marks)) (left - 1) (m .state) _ (read-proper _ (m .marks)) a (left-facts left (m .state) f e))
+    (λ e. read-tested (sectorTest In (sectorDone (left - 1) (m .state)) (m .marks)) (left - 1) (m .state) _ (read-proper _ (m .marks)) a (left-facts left (m .state) f e))
 
 -- a well-made card that runs a transfer asks for data, and its load fits
 abbrev pub Runs : Phase → State → Type 0

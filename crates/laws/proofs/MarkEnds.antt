@@ -18,7 +18,8 @@ use Rattle.transfers.specs.declared.Tested.the-variants.{Passes, Fails}
 use Rattle.commands.specs.declared.Command.{Command}
 use Rattle.commands.specs.declared.Command.the-variants.{Read, Write, Verify, Erase, Identify, ReadBuffer, WriteBuffer, SetGeometry, Diagnose, Recalibrate, Seek, Sense, Other}
 use Rattle.transfers.specs.Ends.{endStatus}
-use Rattle.transfers.specs.Before.{readTest, addressTest}
+use Rattle.transfers.specs.declared.Way.the-variants.{In}
+use Rattle.transfers.specs.Before.{sectorTest, addressTest}
 use Rattle.transfers.specs.Steps.{readTested, readSector, askTested, askSector}
 use Rattle.commands.specs.Runs.{verifyFrom, Erased, eraseFrom}
 use Rattle.commands.specs.Table.{countOf, soughtEnd, geometrySet, started, quiet, commandOf, obeyed, commandGiven}
@@ -68,7 +69,7 @@ ask-first (Fails f) left s n e = over Write s (askTested (Fails f) left true n .
 -- s is the state before the Command write, n the state that the command starts with
 obeys : (c : Command) (s n : State) (m : Machine) → n .mark ≡ false → MarkRule (CommandWrite c) s (obeyed c n m .state)
 unfolding readSector askSector
-obeys Read s n m e = read-first (readTest n (m .marks)) (countOf n) s _
+obeys Read s n m e = read-first (sectorTest In n (m .marks)) (countOf n) s _
 obeys Write s n m e = ask-first (addressTest n) (countOf n) s n e
 obeys Verify s n m e = done Verify s _ (verified (countOf n) n (m .marks))
 obeys Erase s n m e = done Erase s _ (erases (countOf n) n (m .store) (m .marks))

@@ -17,10 +17,6 @@ use Rattle.card.specs.Step.{Stepped, replied}
 use Rattle.card.specs.Doors.{answered}
 use Rattle.laws.specs.Lent.{SameLent}
 
--- two promises at once
-pub only-both {ℓ κ} : {A : Type ℓ} {B : Type κ} (d r r′ : A) (e s s′ : B) → (r ≡ d) × (s ≡ e) → (r′ ≡ d) × (s′ ≡ e) → (r ≡ r′) × (s ≡ s′)
-only-both d r r′ e s s′ p q = (only-one d r r′ (p .0) (q .0), only-one e s s′ (p .1) (q .1))
-
 pub only-store-marks : (d : StoreMarks) (s s′ m m′ : List ℕ) → storeMarks s m ≡ d → storeMarks s′ m′ ≡ d → (s ≡ s′) × (m ≡ m′)
 only-store-marks d s s′ m m′ p q =
     let e = only-one d (storeMarks s m) (storeMarks s′ m′) p q in

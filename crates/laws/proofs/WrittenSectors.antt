@@ -21,7 +21,7 @@ use Rattle.registers.specs.Machine.{Machine, withBuffer}
 use Rattle.transfers.specs.declared.End.the-variants.{WriteFault}
 use Rattle.transfers.specs.declared.Tested.the-variants.{Passes, Fails}
 use Rattle.port.specs.declared.Take.{Take}
-use Rattle.transfers.specs.Before.{testedOf, addressTest, markTested, storeTest, storedBy, sectorStored, StoreTested}
+use Rattle.transfers.specs.Before.{testedOf, addressTest, markTested, sectorTest, storedBy, sectorStored, StoreTested}
 use Rattle.transfers.specs.Steps.{loadWritten, dropped}
 use Rattle.port.specs.Halves.{takeOf, withPart}
 use Rattle.port.specs.Data.{wordWritten, takenWritten, phaseWritten}
@@ -43,7 +43,7 @@ by-address Located.BadCylinder bytes store marks = refl
 by-address Located.BadLba bytes store marks = refl
 
 load-written : (l : Load) (bytes : List ℕ) (m : Machine) → storeMarksIn (loadWritten l (dropped (withBuffer bytes m))) ≡ changed (loadChanges l bytes m) (storeMarksIn m)
-unfolding changed sectorStored storeTest addressTest
+unfolding changed sectorStored sectorTest addressTest
 load-written Buffer bytes m = refl
 load-written (Sectors left) bytes m = by-address (locatedIn (m .state)) bytes (m .store) (m .marks)
 

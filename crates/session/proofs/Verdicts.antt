@@ -13,10 +13,10 @@ use Rattle.registers.specs.State.{totalIn}
 use Rattle.registers.specs.Machine.{Machine}
 use Rattle.registers.specs.WellMade.{wellMade}
 use Rattle.card.specs.Access.{Access}
-use Rattle.card.specs.Step.{Stepped, step, worked}
+use Rattle.card.specs.Step.{Stepped, step, fitStep}
 use Rattle.card.proofs.Verdicts.{tested, verdict-step}
 use Rattle.kept.specs.Sound.{CountFits, Sound}
-use Rattle.kept.proofs.Step.{worked-sound}
+use Rattle.kept.proofs.Step.{fit-step-sound}
 use Rattle.card.specs.declared.Verdict.{Verdict}
 use Rattle.card.specs.declared.Verdict.the-variants.{Fit, Refused}
 use Rattle.card.specs.Verdict.{verdictOf, byVerdict}
@@ -47,7 +47,7 @@ sound-fit m tuples s t = sym (rw (s .made, eq-eqb _ _ (s .store), eq-eqb _ _ (s 
 verdict-kept : (v : Verdict) (m : Machine) (a : Access) → VerdictIs v m (a .tuples) → CountFits (m .state) → length (m .buffer) ≡ 512 → VerdictIs v (byVerdict v m a .next) (a .tuples)
 verdict-kept Fit m a e b l =
     let h = fit-sound m (a .tuples) e b l in
-    sound-fit (worked m a .next) (a .tuples) (worked-sound m a (h .0)) (h .1)
+    sound-fit (fitStep m a .next) (a .tuples) (fit-step-sound m a (h .0)) (h .1)
 verdict-kept (Refused r) m a e b l = e
 
 -- what an access of a run leaves is the card's step, and the verdict stands

@@ -42,9 +42,9 @@ fn unopened(out: &mut [u8], at: usize, refusal: Refusal) -> Told
 fn opened_on(
     sizes: Sizes,
     file: &[u8],
-    tuples: &[u8],
     store: &mut [u8],
     marks: &mut [u8],
+    tuples: &[u8],
     out: &mut [u8],
     at: usize,
 ) -> Told
@@ -63,7 +63,7 @@ fn opened_on(
     let card = answer.card;
     match outcome {
         Outcome::Accepted(_) => {
-            let ran = run::run_from(card, file, 12, 0, 1, tuples, store, marks, out, at);
+            let ran = run::run_from(card, file, 12, 0, 1, store, marks, tuples, out, at);
             let end = ran.end;
             Told {
                 place: ran.place,
@@ -114,9 +114,9 @@ fn opening(sizes: Sizes, file: &[u8], out: &mut [u8], at: usize) -> Told
     opened_on(
         sizes,
         file,
-        &tuples,
         &mut store[..size],
         &mut marks[..total],
+        &tuples,
         out,
         at,
     )

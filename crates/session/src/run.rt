@@ -93,9 +93,9 @@ fn lines(
     from: usize,
     first: u64,
     number: u64,
-    tuples: &[u8],
     store: &mut [u8],
     marks: &mut [u8],
+    tuples: &[u8],
     out: &mut [u8],
     start: usize,
 ) -> Ran
@@ -136,10 +136,10 @@ fn lines(
                     write,
                     asked.address,
                     asked.value,
-                    tuples,
                     &mut buffer,
                     store,
                     marks,
+                    tuples,
                 );
                 let outcome = reply.outcome;
                 let after = reply.core;
@@ -162,9 +162,9 @@ pub fn run_from(
     from: usize,
     first: u64,
     number: u64,
-    tuples: &[u8],
     store: &mut [u8],
     marks: &mut [u8],
+    tuples: &[u8],
     out: &mut [u8],
     start: usize,
 ) -> Ran
@@ -184,9 +184,9 @@ pub fn run_from(
         from,
         first,
         number,
-        tuples,
         store,
         marks,
+        tuples,
         out,
         start,
     )
@@ -198,12 +198,12 @@ pub fn run(
     part: &[u8],
     first: u64,
     number: u64,
-    tuples: &[u8],
     store: &mut [u8],
     marks: &mut [u8],
+    tuples: &[u8],
     out: &mut [u8],
 ) -> Ran
     ensures { λ r. ⌜ ranAs r (now (store .exit)) (now (marks .exit)) (now (out .exit)) ≡ held (now (out .entry)) (resultOf first number 0 (machineOf card (now (store .entry)) (now (marks .entry))) (scriptFrom (length (now (part .entry))) (now (part .entry)) (now (tuples .entry)) 0)) ⌝ }
 {
-    run_from(card, part, 0, first, number, tuples, store, marks, out, 0)
+    run_from(card, part, 0, first, number, store, marks, tuples, out, 0)
 }

@@ -12,6 +12,8 @@ use Rattle.registers.specs.State.{locatedIn}
 use Rattle.transfers.specs.declared.End.{End}
 use Rattle.transfers.specs.declared.Tested.{Tested}
 use Rattle.transfers.specs.declared.Tested.the-variants.{Passes, Fails}
+use Rattle.transfers.specs.declared.Way.{Way}
+use Rattle.transfers.specs.declared.Way.the-variants.{In, Out}
 
 abbrev pub testedOf : Located → Tested
 testedOf (Located.Good spot) = Passes spot
@@ -28,13 +30,17 @@ abbrev pub markTested : (ℕ → Bool) → End → Tested → List ℕ → Teste
 markTested allows e (Passes spot) marks = pick (allows (getD marks (spot .index) 0)) (Passes spot) (Fails e)
 markTested allows e (Fails f) marks = Fails f
 
--- of a sector to be read or verified: "mark 1: UNC, 11H"
-unfoldable pub readTest : State → List ℕ → Tested
-readTest s marks = markTested readable End.Unreadable (addressTest s) marks
+-- of a sector to be read or verified: "mark 1: UNC, 11H"; of a sector to be stored: "mark 2: ABRT and DWF, 03H"
+abbrev pub allows : Way → ℕ → Bool
+allows In mark = readable mark
+allows Out mark = writable mark
 
--- of a sector to be stored: "mark 2: ABRT and DWF, 03H"
-unfoldable pub storeTest : State → List ℕ → Tested
-storeTest s marks = markTested writable End.WriteFault (addressTest s) marks
+abbrev pub markEnd : Way → End
+markEnd In = End.Unreadable
+markEnd Out = End.WriteFault
+
+unfoldable pub sectorTest : Way → State → List ℕ → Tested
+sectorTest way s marks = markTested (allows way) (markEnd way) (addressTest s) marks
 
 -- a sector is stored, and its mark set to 0, unless a test fails
 pub record StoreTested : Type 0 where
@@ -50,4 +56,4 @@ storedBy (Passes spot) bytes store marks = storeTested (Passes spot) (stored sto
 storedBy (Fails e) bytes store marks = storeTested (Fails e) store marks
 
 unfoldable pub sectorStored : State → List ℕ → List ℕ → List ℕ → StoreTested
-sectorStored s bytes store marks = storedBy (storeTest s marks) bytes store marks
+sectorStored s bytes store marks = storedBy (sectorTest Out s marks) bytes store marks

@@ -22,7 +22,7 @@ use Rattle.transfers.specs.declared.Tested.the-variants.{Passes, Fails}
 use Rattle.transfers.specs.declared.Way.{Way}
 use Rattle.transfers.specs.declared.Way.the-variants.{In, Out}
 use Rattle.transfers.specs.Ends.{ended}
-use Rattle.transfers.specs.Before.{addressTest, readTest, StoreTested, sectorStored}
+use Rattle.transfers.specs.Before.{addressTest, sectorTest, StoreTested, sectorStored}
 
 -- a machine that runs no transfer
 abbrev pub idle : State → List ℕ → List ℕ → List ℕ → Machine
@@ -66,7 +66,7 @@ readTested (Passes spot) left m = machine (begun In (Sectors left) true (m .stat
 readTested (Fails e) left m = withCore (ended e true (m .state)) m
 
 unfoldable pub readSector : ℕ → Machine → Machine
-readSector left m = readTested (readTest (m .state) (m .marks)) left m
+readSector left m = readTested (sectorTest In (m .state) (m .marks)) left m
 
 -- the last byte has gone, and `left` sectors are still to do; a good end of reading data leaves the mark
 unfoldable pub nextRead : ℕ → Machine → Machine

@@ -11,7 +11,7 @@ ghost use mathlib.Core.Path.{_≡_};
 ghost use Prim.Native.Nat.{_-_};
 ghost use Rattle.registers.specs.Machine.{machine};
 ghost use Rattle.transfers.specs.Ends.{endStatus, endError, endCode, ended};
-ghost use Rattle.transfers.specs.Before.{addressTest, readTest, storeTest, storeTested, sectorStored};
+ghost use Rattle.transfers.specs.Before.{addressTest, allows, markEnd, sectorTest, storeTested, sectorStored};
 ghost use Rattle.transfers.specs.Steps.{idle, markBegun, phaseOf, begun, sectorDone, readSector, nextRead, loadRead, askSector, nextAsked, loadWritten};
 
 // How a command ends: well, or by the test of the command table that failed.
@@ -32,7 +32,7 @@ pub enum Tested {
     Fails(End),
 }
 
-// Which way data moves, as the host sees it.
+// Which way a sector goes, as the host sees it: it is read or verified, or it is stored.
 pub enum Way {
     In,
     Out,
@@ -117,33 +117,36 @@ fn address_test(state: State) -> Tested
     }
 }
 
-// Of a sector to be read or verified.
-pub fn read_test(state: State, marks: &[u8]) -> Tested
-    ensures { λ r. ⌜ r ≡ readTest state (now (marks .entry)) ⌝ }
+// Whether the mark lets the sector be read or verified, or be stored.
+fn allows(way: Way, mark: u8) -> bool
+    ensures { λ r. ⌜ r ≡ allows way mark ⌝ }
 {
-    match address_test(state) {
-        Tested::Passes(spot) => {
-            let i = spot.index;
-            if sectors::readable(ground::byte_or_zero(marks, i)) {
-                return Tested::Passes(spot);
-            }
-            Tested::Fails(End::Unreadable)
-        }
-        Tested::Fails(end) => Tested::Fails(end),
+    match way {
+        Way::In => sectors::readable(mark),
+        Way::Out => sectors::writable(mark),
     }
 }
 
-// Of a sector to be stored.
-fn store_test(state: State, marks: &[u8]) -> Tested
-    ensures { λ r. ⌜ r ≡ storeTest state (now (marks .entry)) ⌝ }
+fn mark_end(way: Way) -> End
+    ensures { λ r. ⌜ r ≡ markEnd way ⌝ }
+{
+    match way {
+        Way::In => End::Unreadable,
+        Way::Out => End::WriteFault,
+    }
+}
+
+// Of a sector to be read or verified, or to be stored.
+pub fn sector_test(state: State, way: Way, marks: &[u8]) -> Tested
+    ensures { λ r. ⌜ r ≡ sectorTest way state (now (marks .entry)) ⌝ }
 {
     match address_test(state) {
         Tested::Passes(spot) => {
             let i = spot.index;
-            if sectors::writable(ground::byte_or_zero(marks, i)) {
+            if allows(way, ground::byte_or_zero(marks, i)) {
                 return Tested::Passes(spot);
             }
-            Tested::Fails(End::WriteFault)
+            Tested::Fails(mark_end(way))
         }
         Tested::Fails(end) => Tested::Fails(end),
     }
@@ -153,7 +156,7 @@ fn store_test(state: State, marks: &[u8]) -> Tested
 pub fn sector_stored(state: State, bytes: &[u8; 512], store: &mut [u8], marks: &mut [u8]) -> Tested
     ensures { λ r. ⌜ storeTested r (now (store .exit)) (now (marks .exit)) ≡ sectorStored state (now (bytes .entry)) (now (store .entry)) (now (marks .entry)) ⌝ }
 {
-    match store_test(state, marks) {
+    match sector_test(state, Way::Out, marks) {
         Tested::Passes(spot) => {
             let i = spot.index;
             sectors::store_sector(store, marks, i, bytes);
@@ -251,7 +254,7 @@ pub fn read_sector(
 ) -> Core
     ensures { λ r. ⌜ machine r (now (buffer .exit)) (now (store .entry)) (now (marks .entry)) ≡ readSector left (idle state (now (buffer .entry)) (now (store .entry)) (now (marks .entry))) ⌝ }
 {
-    match read_test(state, marks) {
+    match sector_test(state, Way::In, marks) {
         Tested::Passes(spot) => {
             let i = spot.index;
             sectors::read_sector(store, i, buffer);

@@ -1,5 +1,4 @@
 // The bytes of a row: how they are set, and their sum.
-use crate::lines;
 use crate::words::Words;
 use crate::words::low;
 
@@ -43,7 +42,7 @@ fn byte(w: Words, k: usize) -> u8 {
 // Kinds 9, 10 and 13.
 pub(crate) fn put(row: &mut [u8], w: Words) {
     let start = w.w1 as usize;
-    let n = lines::at_most(w.w2 as usize, 8);
+    let n = ground::at_most(w.w2 as usize, 8);
     let mut k: usize = 0;
     while k < n {
         set(row, start + k, byte(w, k));

@@ -19,7 +19,7 @@ fn answer_line(answer: Answer) {
     );
 }
 
-fn open(w: Words, tuples: &[u8], store: &[u8], marks: &[u8]) -> Card {
+fn open(w: Words, store: &[u8], marks: &[u8], tuples: &[u8]) -> Card {
     let answer = Card::open(w.w1, w.w2, w.w3, w.w4, store, marks, tuples);
     answer_line(answer);
     answer.card
@@ -32,11 +32,11 @@ fn access(
     write: bool,
     address: u16,
     value: u16,
-    tuples: &[u8],
     store: &mut [u8],
     marks: &mut [u8],
+    tuples: &[u8],
 ) -> Card {
-    let answer = card.access(space, width, write, address, value, tuples, store, marks);
+    let answer = card.access(space, width, write, address, value, store, marks, tuples);
     answer_line(answer);
     answer.card
 }
@@ -60,7 +60,7 @@ fn next_value(value: u16, width: u8, step: u16) -> u16 {
     next % 256
 }
 
-fn accesses(card: Card, w: Words, tuples: &[u8], store: &mut [u8], marks: &mut [u8]) -> Card {
+fn accesses(card: Card, w: Words, store: &mut [u8], marks: &mut [u8], tuples: &[u8]) -> Card {
     let space = low(w.w1);
     let width = low(w.w2);
     let n = times(w.w6);
@@ -75,9 +75,9 @@ fn accesses(card: Card, w: Words, tuples: &[u8], store: &mut [u8], marks: &mut [
             w.w3 != 0,
             w.w4,
             value,
-            tuples,
             store,
             marks,
+            tuples,
         );
         value = next_value(value, width, w.w7);
         i += 1;
@@ -91,31 +91,31 @@ fn sum_of(buffer: [u8; 512]) -> u16 {
 }
 
 // The S line and the M line.
-fn show(buffer: [u8; 512], tuples: &[u8], store: &[u8], marks: &[u8]) {
+fn show(buffer: [u8; 512], store: &[u8], marks: &[u8], tuples: &[u8]) {
     let numbers = [bytes::sum(store), sum_of(buffer), bytes::sum(tuples)];
     lines::line(b"S 3210 3210 3210\n", &numbers);
     lines::bytes_line(b"M ", marks);
 }
 
 // Kinds 1 and 12, which change no row.
-fn opened(card: Card, w: Words, tuples: &[u8], store: &[u8], marks: &[u8]) -> Card {
+fn opened(card: Card, w: Words, store: &[u8], marks: &[u8], tuples: &[u8]) -> Card {
     if w.w0 == 1 {
-        return open(w, tuples, store, marks);
+        return open(w, store, marks, tuples);
     }
     let buffer = card.buffer;
-    show(buffer, tuples, store, marks);
+    show(buffer, store, marks, tuples);
     card
 }
 
 pub(crate) fn record(
     card: Card,
     w: Words,
-    tuples: &[u8],
     store: &mut [u8],
     marks: &mut [u8],
+    tuples: &[u8],
 ) -> Card {
     if w.w0 == 3 {
-        return accesses(card, w, tuples, store, marks);
+        return accesses(card, w, store, marks, tuples);
     }
-    opened(card, w, tuples, store, marks)
+    opened(card, w, store, marks, tuples)
 }

@@ -1,16 +1,4 @@
 // Lines of text, each written at once.
-ghost use Prim.Native.Nat.{_≤_, min};
-ghost use mathlib.Core.Path.{_≡_};
-
-// The smaller of two numbers.
-pub(crate) fn at_most(n: usize, most: usize) -> usize
-    ensures { λ r. ⌜ (r ≡ min n most) × (r ≤ most) ⌝ }
-{
-    if n < most {
-        return n;
-    }
-    most
-}
 
 fn digit(n: u16) -> u8 {
     let d = (n % 16) as u8;
@@ -49,7 +37,7 @@ fn number_or_zero(numbers: &[u16], number: u8) -> u16 {
 
 // A pattern of at most 128 bytes, with the numbers in turn.
 pub(crate) fn line(pattern: &[u8], numbers: &[u16]) {
-    let n = at_most(pattern.len(), 128);
+    let n = ground::at_most(pattern.len(), 128);
     let mut out = [0u8; 128];
     let mut number: u8 = 0;
     let mut i: usize = 0;
@@ -72,7 +60,7 @@ fn half(byte: u8, i: usize) -> u8 {
 
 // A start, at most 1,024 bytes, a newline.
 pub(crate) fn bytes_line(start: &[u8], bytes: &[u8]) {
-    let n = 2 * at_most(bytes.len(), 1024);
+    let n = 2 * ground::at_most(bytes.len(), 1024);
     let mut out = [0u8; 2048];
     let mut i: usize = 0;
     while i < n {

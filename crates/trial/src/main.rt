@@ -6,7 +6,6 @@ mod lists;
 mod words;
 
 use card::Card;
-use lines::at_most;
 use tuples::Entry;
 use words::Words;
 use words::low;
@@ -161,7 +160,7 @@ fn door_record(card: Card, rows: Rows, lent: Lengths, w: Words, store: &mut [u8]
     let t = io::count(lent.tuples as isize, &tuples);
     let m = io::count(lent.marks as isize, &marks);
     let s = io::count(lent.store as isize, store);
-    let next = doors::record(card, w, &tuples[..t], &mut store[..s], &mut marks[..m]);
+    let next = doors::record(card, w, &mut store[..s], &mut marks[..m], &tuples[..t]);
     Held {
         card: next,
         rows: Rows {
@@ -199,7 +198,7 @@ fn turn(held: Held, side: Side, w: Words, store: &mut [u8]) -> Held {
 fn read(input: &mut [u8]) -> u32
     ensures { λ r. ⌜ r ≤ 65536 ⌝ }
 {
-    let n = at_most(io::read_full(0, input), 65536);
+    let n = ground::at_most(io::read_full(0, input), 65536);
     (n - n % 16) as u32
 }
 

@@ -5,18 +5,18 @@
 use mathlib.Core.Path.{_≡_, refl, sym, _∙_, ap}
 use mathlib.Core.Bool.{Bool, true, false}
 use mathlib.Core.List.{List, _∷_, _++_, []}
-use Prim.Native.Nat.{ℕ, zero, suc, _<_, _≤_, _-_}
+use Prim.Native.Nat.{ℕ, zero, suc, _<_, _≤_, _-_, min}
 use native.Mathlib.Omega.{arith}
 use lib.ListN.{length, getD, take, drop, set, replicate, length-replicate}
 use lib.Seq.{take-at, take-suc-set}
 use lib.Dec.{ltb}
-use borrow.Author.Tests.{ltb-false, ne-eqb}
+use borrow.Author.Tests.{ltb-true, ltb-false, ne-eqb}
 use Rattle.ground.specs.Choice.{pick}
 use Rattle.answers.specs.Answers.{outcomeValue, refused}
 use Rattle.answers.specs.declared.Outcome.{Outcome}
 use Rattle.answers.specs.declared.Outcome.the-variants.{Accepted, Refused}
 use Rattle.tuples.specs.Chain.{noEntry}
-use Rattle.tuples.specs.Read.{readOutcome, readList, filled, unlessRefused, handed, heldAfter, atMost}
+use Rattle.tuples.specs.Read.{readOutcome, readList, filled, unlessRefused, handed, heldAfter}
 use Rattle.tuples.specs.Write.{made, lastPlace, Writes, WritesBack, writeOutcome, backOutcome, filledUp, tupleBytes}
 use Rattle.tuples.specs.declared.Entry.{Entry}
 use Rattle.tuples.proofs.Chains.{yes-no}
@@ -56,40 +56,38 @@ few : (s : List ℕ) (m : ℕ) (x : Entry) (o : Outcome) → readOutcome s m ≡
 few s m x (Accepted n) e = bounds s (replicate m x) .few n (ap (readOutcome s) (length-replicate m x) ∙ e) .1
 few s m x (Refused y) e = omega arith
 
-by-number : (es : List Entry) (i : ℕ) (x : Entry) → length es ≤ 127 → (t : Bool) → ltb i 255 ≡ t → getD es (pick t i 255) x ≡ getD es i x
-by-number es i x h true e = refl
+by-number : (es : List Entry) (i : ℕ) (x : Entry) → length es ≤ 127 → (t : Bool) → ltb i 255 ≡ t → getD es (min i 255) x ≡ getD es i x
+by-number es i x h true e = ap (λ (j : ℕ). getD es j x) (omega (arith, ltb-true i 255 e))
 by-number es i x h false e =
     let far : length es ≤ i = omega (arith, ltb-false i 255 e) in
-    let near : length es ≤ 255 = omega arith in
-    beyond es 255 x near ∙ sym (beyond es i x far)
+    let last : length es ≤ min i 255 = omega (arith, ltb-false i 255 e) in
+    beyond es (min i 255) x last ∙ sym (beyond es i x far)
 
 -- in an array of 256, of which the first m places were lent, all numbers from 255 on name the last place
-held-place : (s : List ℕ) (m i : ℕ) (x : Entry) → getD (readList s (replicate m x) ++ replicate (256 - m) x) (atMost i 255) x ≡ getD (readList s (replicate m x)) i x
-unfolding atMost
+held-place : (s : List ℕ) (m i : ℕ) (x : Entry) → getD (readList s (replicate m x) ++ replicate (256 - m) x) (min i 255) x ≡ getD (readList s (replicate m x)) i x
 held-place s m i x =
-    getD-rep (readList s (replicate m x)) (256 - m) (atMost i 255) x
-    ∙ place-holds s m (atMost i 255) x
+    getD-rep (readList s (replicate m x)) (256 - m) (min i 255) x
+    ∙ place-holds s m (min i 255) x
     ∙ by-number (unlessRefused (readOutcome s m) (all s) []) i x (few s m x (readOutcome s m) refl) (ltb i 255) refl
     ∙ sym (place-holds s m i x)
 
 -- an array of 256 places of x, of which the first m were lent
-module _ (s : List ℕ) (places i m p : ℕ) (x : Entry) (ls zs : List Entry) (em : m ≡ atMost places 256) (most : m ≤ 256) (all-x : ls ≡ replicate 256 x) where
+module _ (s : List ℕ) (places i m p : ℕ) (x : Entry) (ls zs : List Entry) (em : m ≡ min places 256) (most : m ≤ 256) (all-x : ls ≡ replicate 256 x) where
   pub lent : take m ls ≡ replicate m x
   lent = ap (take m) all-x ∙ take-replicate m 256 x most
 
-  pub held-outcome : (r : Outcome) → r ≡ readOutcome s (length (take m ls)) → r ≡ readOutcome s (atMost places 256)
+  pub held-outcome : (r : Outcome) → r ≡ readOutcome s (length (take m ls)) → r ≡ readOutcome s (min places 256)
   held-outcome r e = e ∙ ap (λ (l : List Entry). readOutcome s (length l)) lent ∙ ap (readOutcome s) (length-replicate m x ∙ em)
 
-  pub held-entry : p ≡ atMost i 255 → zs ≡ readList s (take m ls) → getD (zs ++ drop m ls) p x ≡ heldAfter s places x i .entry
+  pub held-entry : p ≡ min i 255 → zs ≡ readList s (take m ls) → getD (zs ++ drop m ls) p x ≡ heldAfter s places x i .entry
   held-entry ep e =
       ap (λ (j : ℕ). getD (zs ++ drop m ls) j x) ep
-      ∙ ap (λ (l : List Entry). getD (l ++ drop m ls) (atMost i 255) x) (e ∙ ap (readList s) lent)
-      ∙ ap (λ (l : List Entry). getD (readList s (replicate m x) ++ l) (atMost i 255) x) (ap (drop m) all-x ∙ drop-rep m 256 x)
+      ∙ ap (λ (l : List Entry). getD (l ++ drop m ls) (min i 255) x) (e ∙ ap (readList s) lent)
+      ∙ ap (λ (l : List Entry). getD (readList s (replicate m x) ++ l) (min i 255) x) (ap (drop m) all-x ∙ drop-rep m 256 x)
       ∙ held-place s m i x
       ∙ ap (λ (j : ℕ). getD (readList s (replicate j x)) i x) em
 
 pub handed-held : (s : List ℕ) (i : ℕ) → heldAfter s 127 noEntry i ≡ handed s i
-unfolding atMost
 handed-held s i = λ j. record { outcome = readOutcome s 127; entry = place-holds s 127 i noEntry j }
 
 -- ---- a list that was made

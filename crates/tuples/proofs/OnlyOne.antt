@@ -3,7 +3,7 @@
 --     only-one-…      two answers, with what they leave, that satisfy the same promise are the same
 use mathlib.Core.Path.{_≡_, _∙_, sym, ap}
 use mathlib.Core.List.{List}
-use Prim.Native.Nat.{ℕ}
+use Prim.Native.Nat.{ℕ, min}
 use lib.ListN.{length}
 use Rattle.ground.proofs.OnlyOne.{only-one}
 use Rattle.answers.specs.Answers.{outcomeValue}
@@ -11,7 +11,7 @@ use Rattle.answers.specs.declared.Outcome.{Outcome}
 use Rattle.answers.specs.declared.Outcome.the-variants.{Refused}
 use Rattle.answers.specs.declared.Refusal.{Refusal}
 use Rattle.tuples.specs.Chain.{chainAt}
-use Rattle.tuples.specs.Read.{readOutcome, filled, unlessRefused, Reads, handed, heldAfter, atMost}
+use Rattle.tuples.specs.Read.{readOutcome, filled, unlessRefused, Reads, handed, heldAfter}
 use Rattle.tuples.specs.Write.{made, tupleBytes, filledUp, writeOutcome, backOutcome, Writes, WritesBack}
 use Rattle.tuples.specs.declared.Entry.{Entry}
 use Rattle.tuples.specs.declared.Handed.{Handed}
@@ -39,8 +39,8 @@ only-one-read s ls r r′ z z′ p q = only-one-pair _ _ r r′ z z′ p q
 pub only-one-write : (bs : List ℕ) (es : List Entry) (out : List ℕ) (r r′ : Outcome) (z z′ : List ℕ) → Writes bs es out r z → Writes bs es out r′ z′ → (r ≡ r′) × (z ≡ z′)
 only-one-write bs es out r r′ z z′ p q = only-one-pair _ _ r r′ z z′ p q
 
-pub only-one-made : (bs : List ℕ) (e f : Entry) (n : ℕ) (out : List ℕ) (r r′ : Outcome) (z z′ : List ℕ) → Writes bs (made (atMost n 256) e f) out r z → Writes bs (made (atMost n 256) e f) out r′ z′ → (r ≡ r′) × (z ≡ z′)
-only-one-made bs e f n out r r′ z z′ p q = only-one-write bs (made (atMost n 256) e f) out r r′ z z′ p q
+pub only-one-made : (bs : List ℕ) (e f : Entry) (n : ℕ) (out : List ℕ) (r r′ : Outcome) (z z′ : List ℕ) → Writes bs (made (min n 256) e f) out r z → Writes bs (made (min n 256) e f) out r′ z′ → (r ≡ r′) × (z ≡ z′)
+only-one-made bs e f n out r r′ z z′ p q = only-one-write bs (made (min n 256) e f) out r r′ z z′ p q
 
 pub only-one-at : (s : List ℕ) (i : ℕ) (r r′ : Handed) → r ≡ handed s i → r′ ≡ handed s i → r ≡ r′
 only-one-at s i r r′ p q = only-one (handed s i) r r′ p q

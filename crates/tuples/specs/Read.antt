@@ -1,9 +1,9 @@
 -- 01, "Tuples" and "Answers": what the reader answers and what it leaves in the lent list.
-use Prim.Native.Nat.{ℕ}
+use Prim.Native.Nat.{ℕ, min}
 use mathlib.Core.Path.{_≡_}
 use mathlib.Core.List.{List, _++_, []}
 use lib.ListN.{length, getD, drop, replicate}
-use lib.Dec.{leb, ltb, eqb}
+use lib.Dec.{leb, eqb}
 use Rattle.ground.specs.Choice.{pick}
 use Rattle.answers.specs.Answers.{outcomeValue}
 use Rattle.answers.specs.declared.Outcome.{Outcome}
@@ -49,10 +49,7 @@ entryAt s i = getD (unlessRefused (readOutcome s 127) (chainAt s 0 .entries) [])
 abbrev pub handed : List ℕ → ℕ → Handed
 handed s i = record { outcome = readOutcome s 127; entry = entryAt s i }
 
-unfoldable pub atMost : ℕ → ℕ → ℕ
-atMost n most = pick (ltb n most) n most
-
 -- what the place of a number holds after a list of so many places, at most 256, that all held one entry was read into
 abbrev pub heldAfter : List ℕ → ℕ → Entry → ℕ → Handed
 heldAfter s places held i =
-    record { outcome = readOutcome s (atMost places 256); entry = getD (readList s (replicate (atMost places 256) held)) i held }
+    record { outcome = readOutcome s (min places 256); entry = getD (readList s (replicate (min places 256) held)) i held }

@@ -1,12 +1,12 @@
 // 01, "Tuples": the reader and the writer of a tuple chain, over a lent buffer and a lent list of entries.
 ghost use mathlib.Core.Path.{_≡_};
-ghost use Prim.Native.Nat.{_≤_, _+_};
+ghost use Prim.Native.Nat.{_≤_, _+_, min};
 ghost use mathlib.Core.List.{[]};
 ghost use lib.ListN.{length, drop};
 ghost use lib.Seq.{paste};
 ghost use Rattle.answers.specs.Answers.{outcomeValue, refused};
 ghost use Rattle.tuples.specs.Chain.{endOf, stepAt, chainAt, nextAt, firstFound, found};
-ghost use Rattle.tuples.specs.Read.{counted, readOutcome, checked, atMost, heldAfter, Reads, handed};
+ghost use Rattle.tuples.specs.Read.{counted, readOutcome, checked, heldAfter, Reads, handed};
 ghost use Rattle.tuples.specs.Write.{good, Writes, WritesBack, made, lastPlace};
 ghost use Rattle.tuples.specs.Page.{newPage, addedTo, Puts};
 use answers::Outcome;
@@ -18,6 +18,13 @@ pub struct Entry {
     pub start: u16,
     pub length: u16,
 }
+
+// No tuple: 00H is no tuple's code.
+const NO_ENTRY: Entry = Entry {
+    code: 0,
+    start: 0,
+    length: 0,
+};
 
 impl Entry {
     // The place after the body.
@@ -140,11 +147,7 @@ fn nothing(place: usize) -> Found
     ensures { λ r. ⌜ r ≡ firstFound [] place ⌝ }
 {
     Found {
-        entry: Entry {
-            code: 0,
-            start: 0,
-            length: 0,
-        },
+        entry: NO_ENTRY,
         next: place,
     }
 }
@@ -330,22 +333,12 @@ pub struct Handed {
     pub entry: Entry,
 }
 
-// The smaller of two numbers.
-fn at_most(n: usize, most: usize) -> usize
-    ensures { λ r. ⌜ (r ≡ atMost n most) × (r ≤ most) ⌝ }
-{
-    if n < most {
-        return n;
-    }
-    most
-}
-
 // A chain is read into a list of so many places, at most 256, that all held one entry; what the place of this number holds then is handed out.
 pub fn read_held(buffer: &[u8], places: usize, held: Entry, number: usize) -> Handed
     ensures { λ r. ⌜ r ≡ heldAfter (now (buffer .entry)) places held number ⌝ }
 {
-    let n = at_most(places, 256);
-    let place = at_most(number, 255);
+    let n = ground::at_most(places, 256);
+    let place = ground::at_most(number, 255);
     let mut list = [held; 256];
     let outcome = read_tuples(buffer, &mut list[..n]);
     let entry = list[place];
@@ -359,12 +352,7 @@ pub fn read_held(buffer: &[u8], places: usize, held: Entry, number: usize) -> Ha
 pub fn tuple_at(buffer: &[u8], number: usize) -> Handed
     ensures { λ r. ⌜ r ≡ handed (now (buffer .entry)) number ⌝ }
 {
-    let none = Entry {
-        code: 0,
-        start: 0,
-        length: 0,
-    };
-    read_held(buffer, 127, none, number)
+    read_held(buffer, 127, NO_ENTRY, number)
 }
 
 // Whether an answer is a refusal.
@@ -381,11 +369,7 @@ fn is_refused(outcome: Outcome) -> bool
 pub fn write_back(buffer: &[u8], out: &mut [u8]) -> Outcome
     ensures { λ r. ⌜ WritesBack (now (buffer .entry)) (now (out .entry)) r (now (out .exit)) ⌝ }
 {
-    let none = Entry {
-        code: 0,
-        start: 0,
-        length: 0,
-    };
+    let none = NO_ENTRY;
     let mut list = [none; 127];
     let read = read_tuples(buffer, &mut list);
     if is_refused(read) {
@@ -397,9 +381,9 @@ pub fn write_back(buffer: &[u8], out: &mut [u8]) -> Outcome
 
 // The last place of a list of so many, at most 256; of none, a place outside it.
 fn last_place(count: usize) -> usize
-    ensures { λ r. ⌜ (r ≡ lastPlace (atMost count 256)) × (r ≤ 255) ⌝ }
+    ensures { λ r. ⌜ (r ≡ lastPlace (min count 256)) × (r ≤ 255) ⌝ }
 {
-    let n = at_most(count, 256);
+    let n = ground::at_most(count, 256);
     if n == 0 {
         return 255;
     }
@@ -408,9 +392,9 @@ fn last_place(count: usize) -> usize
 
 // A list of so many tuples, at most 256, is written: all are `first`, and the last is `last`.
 pub fn write_made(first: Entry, last: Entry, count: usize, bodies: &[u8], out: &mut [u8]) -> Outcome
-    ensures { λ r. ⌜ Writes (now (bodies .entry)) (made (atMost count 256) first last) (now (out .entry)) r (now (out .exit)) ⌝ }
+    ensures { λ r. ⌜ Writes (now (bodies .entry)) (made (min count 256) first last) (now (out .entry)) r (now (out .exit)) ⌝ }
 {
-    let n = at_most(count, 256);
+    let n = ground::at_most(count, 256);
     let k = last_place(count);
     let mut list = [first; 256];
     list[k] = last;

@@ -4,40 +4,31 @@ use borrow.Author.Needs.{needs}
 use Rattle.card.proofs.decide.Statement.{statement}
 use Rattle.card.proofs.decide.Tie as tie
 
--- src/lib.rt
 held-away-requires : tie.Need-held-away-requires
 held-away-requires c κs = search needs
 
--- src/lib.rt
 returns : tie.Need-returns
 unfolding decided
 returns c = let w = sym (c .before .held-away .ensures) ∙ c .if1 .taken in simp w
 
--- src/lib.rt
 index-in-requires : tie.Need-index-in-requires
 index-in-requires c κs = search needs
 
--- src/lib.rt
 answers-at-requires : tie.Need-answers-at-requires
 answers-at-requires c κs = search needs
 
--- src/lib.rt
 stands-at-requires : tie.Need-stands-at-requires
 stands-at-requires c κs = search needs
 
--- src/lib.rt
 enum-known-target : tie.Need-enum-known-target
 enum-known-target c = search needs
 
--- src/lib.rt
 targeted-requires : tie.Need-targeted-requires
 targeted-requires c κs = search needs
 
--- src/lib.rt
 enum-known-refusal : tie.Need-enum-known-refusal
 enum-known-refusal c = search needs
 
--- src/lib.rt
 returns-2 : tie.Need-returns-2
 unfolding decided
 returns-2 c =
@@ -46,7 +37,6 @@ returns-2 c =
     let t = simp (c .before .before .before .before .before .before .before .index-in .ensures) at (sym (c .before .before .before .before .stands-at .ensures) ∙ c .before .before .target .given .1) in
     simp (w, v, t, c .targeted .ensures)
 
--- src/lib.rt
 returns-3 : tie.Need-returns-3
 unfolding decided
 returns-3 c =
@@ -55,7 +45,6 @@ returns-3 c =
     let t = simp (c .before .before .before .before .before .before .index-in .ensures) at (sym (c .before .before .before .stands-at .ensures) ∙ c .before .refusal .given .1) in
     simp (w, v, t)
 
--- src/lib.rt
 returns-4 : tie.Need-returns-4
 unfolding decided
 returns-4 c =

@@ -6,21 +6,17 @@ use borrow.Author.Needs.{needs}
 use Rattle.card.proofs.held_away.Statement.{statement}
 use Rattle.card.proofs.held_away.Tie as tie
 
--- src/lib.rt
 sreset-in-requires : tie.Need-sreset-in-requires
 sreset-in-requires c κs = search needs
 
--- src/lib.rt
 returns : tie.Need-returns
 unfolding heldAway
 returns c = let w = sym (c .before .sreset-in .ensures) ∙ un-not _ _ (c .if1 .taken) in simp w
 
--- src/lib.rt
 returns-2 : tie.Need-returns-2
 unfolding heldAway
 returns-2 c = let w = sym (c .before .before .sreset-in .ensures) ∙ un-not _ _ (c .before .if1 .left) in simp (w, eq-eqb _ _ (c .if2 .taken))
 
--- src/lib.rt
 returns-3 : tie.Need-returns-3
 unfolding heldAway
 returns-3 c = let w = sym (c .before .before .sreset-in .ensures) ∙ un-not _ _ (c .before .if1 .left) in simp (w, ne-eqb _ _ (c .if2 .left))

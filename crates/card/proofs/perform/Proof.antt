@@ -6,146 +6,112 @@ use borrow.Author.Needs.{needs}
 use Rattle.card.proofs.perform.Statement.{statement}
 use Rattle.card.proofs.perform.Tie as tie
 
--- src/lib.rt
 enum-known-meaning : tie.Need-enum-known-meaning
 enum-known-meaning c = search needs
 
--- src/lib.rt
 refused-requires : tie.Need-refused-requires
 refused-requires c κs = search needs
 
--- src/lib.rt
 enum-known-meaning-2 : tie.Need-enum-known-meaning-2
 enum-known-meaning-2 c = search needs
 
--- src/lib.rt
 wide-requires : tie.Need-wide-requires
 wide-requires c κs = search needs
 
--- src/lib.rt
 accepted-requires : tie.Need-accepted-requires
 accepted-requires c κs = search needs
 
--- src/lib.rt
 enum-told : tie.Need-enum-told
 enum-told c = search needs
 
--- src/lib.rt
 wide-requires-2 : tie.Need-wide-requires-2
 wide-requires-2 c κs = search needs
 
--- src/lib.rt
 accepted-requires-2 : tie.Need-accepted-requires-2
 accepted-requires-2 c κs = search needs
 
--- src/lib.rt
 enum-known-meaning-3 : tie.Need-enum-known-meaning-3
 enum-known-meaning-3 c = search needs
 
--- src/lib.rt
 write-option-requires : tie.Need-write-option-requires
 write-option-requires c κs = search needs
 
--- src/lib.rt
 accepted-requires-3 : tie.Need-accepted-requires-3
 accepted-requires-3 c κs = search needs
 
--- src/lib.rt
 enum-known-meaning-4 : tie.Need-enum-known-meaning-4
 enum-known-meaning-4 c = search needs
 
--- src/lib.rt
 read-register-requires : tie.Need-read-register-requires
 read-register-requires c κs = search needs
 
--- src/lib.rt
 enum-known-meaning-5 : tie.Need-enum-known-meaning-5
 enum-known-meaning-5 c = search needs
 
--- src/lib.rt
 write-register-requires : tie.Need-write-register-requires
 write-register-requires c κs = search needs
 
--- src/lib.rt
 accepted-requires-4 : tie.Need-accepted-requires-4
 accepted-requires-4 c κs = search needs
 
--- src/lib.rt
 enum-known-meaning-6 : tie.Need-enum-known-meaning-6
 enum-known-meaning-6 c = search needs
 
--- src/lib.rt
 read-data-requires : tie.Need-read-data-requires
 read-data-requires c κs = search needs
 
--- src/lib.rt
 enum-known-meaning-7 : tie.Need-enum-known-meaning-7
 enum-known-meaning-7 c = search needs
 
--- src/lib.rt
 write-data-requires : tie.Need-write-data-requires
 write-data-requires c κs = search needs
 
--- src/lib.rt
 returns : tie.Need-returns
 unfolding perform
 returns c = simp (c .before .before .meaning .given .1, c .refused .ensures)
 
--- src/lib.rt
 returns-2 : tie.Need-returns-2
 unfolding perform
 returns-2 c = simp (c .before .before .before .meaning2 .given .1, c .accepted .ensures, c .before .wide .ensures .0)
 
--- src/lib.rt
 returns-3 : tie.Need-returns-3
 unfolding perform
 returns-3 c = simp (c .before .before .enum-told .given .1, c .accepted2 .ensures, c .before .wide2 .ensures .0)
 
--- src/lib.rt
 returns-4 : tie.Need-returns-4
 unfolding perform optionWritten
 returns-4 c = simp (c .before .before .before .before .meaning3 .given .1, c .accepted3 .ensures, c .before .write-option .ensures .0, c .before .write-option .ensures .1)
 
--- src/lib.rt
 returns-5 : tie.Need-returns-5
 unfolding perform
 returns-5 c = simp (c .before .before .meaning4 .given .1, c .read-register .ensures)
 
--- src/lib.rt
 same-length : tie.Need-same-length
 same-length c = search needs
 
--- src/lib.rt
 same-length-2 : tie.Need-same-length-2
 same-length-2 c = search needs
 
--- src/lib.rt
 returns-6 : tie.Need-returns-6
 unfolding perform
 returns-6 c = simp (c .before .before .before .before .before .before .before .before .before .before .meaning5 .given .1, c .accepted4 .ensures) (ap (λ (x : Machine). accepted 0 x) (c .before .before .before .before .before .write-register .ensures))
 
--- src/lib.rt
 same-length-3 : tie.Need-same-length-3
 same-length-3 c = search needs
 
--- src/lib.rt
 same-length-4 : tie.Need-same-length-4
 same-length-4 c = search needs
 
--- src/lib.rt
 returns-7 : tie.Need-returns-7
 unfolding perform
 returns-7 c = simp (c .before .before .before .before .before .meaning6 .given .1) (c .read-data .ensures)
 
--- src/lib.rt
 same-length-5 : tie.Need-same-length-5
 same-length-5 c = search needs
 
--- src/lib.rt
 same-length-6 : tie.Need-same-length-6
 same-length-6 c = search needs
 
--- src/lib.rt
 returns-8 : tie.Need-returns-8
 unfolding perform
 returns-8 c = simp (c .before .before .before .before .before .before .before .before .before .meaning7 .given .1) (c .before .before .before .before .write-data .ensures)

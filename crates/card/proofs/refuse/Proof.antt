@@ -2,15 +2,12 @@ use borrow.Author.Needs.{needs}
 use Rattle.card.proofs.refuse.Statement.{statement}
 use Rattle.card.proofs.refuse.Tie as tie
 
--- src/lib.rt
 refused-requires : tie.Need-refused-requires
 refused-requires c κs = search needs
 
--- src/lib.rt
 reply-of-requires : tie.Need-reply-of-requires
 reply-of-requires c κs = search needs
 
--- src/lib.rt
 returns : tie.Need-returns
 returns c = simp (c .reply-of .ensures, c .before .refused .ensures)
 

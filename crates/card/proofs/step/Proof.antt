@@ -5,23 +5,18 @@ use borrow.Author.Needs.{needs}
 use Rattle.card.proofs.step.Statement.{statement}
 use Rattle.card.proofs.step.Tie as tie
 
--- src/lib.rt
 verdict-of-requires : tie.Need-verdict-of-requires
 verdict-of-requires c κs = search needs
 
--- src/lib.rt
 by-verdict-requires : tie.Need-by-verdict-requires
 by-verdict-requires c κs = search needs
 
--- src/lib.rt
 same-length : tie.Need-same-length
 same-length c = search needs
 
--- src/lib.rt
 same-length-2 : tie.Need-same-length-2
 same-length-2 c = search needs
 
--- src/lib.rt
 returns : tie.Need-returns
 returns c =
     let m = machine (c .before .before .before .before .before .before .before .before .before .before .before .before .before .before .args .core) (c .before .before .before .before .before .before .before .before .before .before .before .before .before .before .args .buffer .now) (c .before .before .before .before .before .before .before .before .before .before .before .before .before .before .args .store .now) (c .before .before .before .before .before .before .before .before .before .before .before .before .before .before .args .marks .now) in

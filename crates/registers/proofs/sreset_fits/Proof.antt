@@ -3,24 +3,19 @@ use borrow.Author.Needs.{needs}
 use Rattle.registers.proofs.sreset_fits.Statement.{statement}
 use Rattle.registers.proofs.sreset_fits.Tie as tie
 
--- src/lib.rt
 enum-told : tie.Need-enum-told
 enum-told c = search needs
 
--- src/lib.rt
 enum-told-2 : tie.Need-enum-told-2
 enum-told-2 c = search needs
 
--- src/lib.rt
 sreset-in-requires : tie.Need-sreset-in-requires
 sreset-in-requires c κs = search needs
 
--- src/lib.rt
 returns : tie.Need-returns
 unfolding sresetFits
 returns c = simp (c .enum-told .given .1)
 
--- src/lib.rt
 returns-2 : tie.Need-returns-2
 unfolding sresetFits
 returns-2 c = simp (c .before .enum-told2 .given .1, c .sreset-in .ensures)

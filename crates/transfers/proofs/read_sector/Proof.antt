@@ -4,8 +4,8 @@ use borrow.Author.Needs.{needs}
 use Rattle.transfers.proofs.read_sector.Statement.{statement}
 use Rattle.transfers.proofs.read_sector.Tie as tie
 
-read-test-requires : tie.Need-read-test-requires
-read-test-requires c κs = search needs
+sector-test-requires : tie.Need-sector-test-requires
+sector-test-requires c κs = search needs
 
 enum-known-spot : tie.Need-enum-known-spot
 enum-known-spot c = search needs
@@ -25,18 +25,18 @@ ended-requires c κs = search needs
 returns : tie.Need-returns
 unfolding readSector
 returns c =
-    let e = sym (c .before .before .before .before .before .before .read-test .ensures) ∙ c .before .before .before .before .spot .given .1 in
+    let e = sym (c .before .before .before .before .before .before .sector-test .ensures) ∙ c .before .before .before .before .spot .given .1 in
     simp (e, c .begun .ensures, c .before .read-sector .ensures)
 
 returns-2 : tie.Need-returns-2
 unfolding readSector
-returns-2 c = let e = sym (c .before .before .before .before .read-test .ensures) ∙ c .before .before .end .given .1 in simp (e, c .ended .ensures)
+returns-2 c = let e = sym (c .before .before .before .before .sector-test .ensures) ∙ c .before .before .end .given .1 in simp (e, c .ended .ensures)
 
 pub read-sector-spec : {M : Type 1} → statement M
 read-sector-spec =
     tie.close
     (tie.spec
-    read-test-requires
+    sector-test-requires
     enum-known-spot
     read-sector-requires
     begun-requires

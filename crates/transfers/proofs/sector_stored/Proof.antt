@@ -4,8 +4,8 @@ use borrow.Author.Needs.{needs}
 use Rattle.transfers.proofs.sector_stored.Statement.{statement}
 use Rattle.transfers.proofs.sector_stored.Tie as tie
 
-store-test-requires : tie.Need-store-test-requires
-store-test-requires c κs = search needs
+sector-test-requires : tie.Need-sector-test-requires
+sector-test-requires c κs = search needs
 
 enum-known-spot : tie.Need-enum-known-spot
 enum-known-spot c = search needs
@@ -25,7 +25,7 @@ same-length-2 c = search needs
 returns : tie.Need-returns
 unfolding sectorStored
 returns c =
-    let e = sym (c .before .before .before .before .before .before .before .before .before .before .store-test .ensures) ∙ c .before .before .before .before .before .before .before .before .spot .given .1 in
+    let e = sym (c .before .before .before .before .before .before .before .before .before .before .sector-test .ensures) ∙ c .before .before .before .before .before .before .before .before .spot .given .1 in
     let w = sym (c .before .before .before .before .store-sector .ensures) in
     simp (e, w)
 
@@ -34,13 +34,13 @@ same-length-3 c = search needs
 
 returns-2 : tie.Need-returns-2
 unfolding sectorStored
-returns-2 c = let e = sym (c .before .before .before .store-test .ensures) ∙ c .before .end .given .1 in simp e
+returns-2 c = let e = sym (c .before .before .before .sector-test .ensures) ∙ c .before .end .given .1 in simp e
 
 pub sector-stored-spec : {M : Type 1} → statement M
 sector-stored-spec =
     tie.close
     (tie.spec
-    store-test-requires
+    sector-test-requires
     enum-known-spot
     store-sector-requires
     enum-known-end

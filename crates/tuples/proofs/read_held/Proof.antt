@@ -1,6 +1,6 @@
 -- `tuples::read_held` meets its contract: a walk of its MIR, by hand. Of a local array of 256 entries the first n are lent as a slice for a lifetime of the call, `read_tuples` fills them, the lifetime is ended, the array is whole again, and one entry is read.
 use mathlib.Core.Path.{_≡_, refl, sym, _∙_, ap, subst}
-use Prim.Native.Nat.{ℕ, _<_, _≤_, _^_, _*_, _+_}
+use Prim.Native.Nat.{ℕ, _<_, _≤_, _^_, _*_, _+_, min}
 use native.Mathlib.Omega.{arith}
 use mathlib.Core.List.{List, _∷_, _++_, []}
 use lib.ListN.{length, getD, take, drop as past, replicate, length-replicate, length-append, take-append-drop}
@@ -54,7 +54,7 @@ use denote.Exit.{yes}
 use Rattle.answers.specs.declared.Outcome.{Outcome}
 use Rattle.answers.proofs.Outcome as O
 use Rattle.answers.proofs.Outcome.Laws as O′
-use Rattle.tuples.specs.Read.{Reads, heldAfter, atMost}
+use Rattle.tuples.specs.Read.{Reads, heldAfter}
 use Rattle.tuples.specs.declared.Entry.{Entry}
 use Rattle.tuples.specs.declared.Handed.{Handed}
 use Rattle.tuples.proofs.Doors.{held-entry, held-outcome}
@@ -62,10 +62,10 @@ use Rattle.tuples.proofs.Entry as E
 use Rattle.tuples.proofs.Entry.Laws as E′
 use Rattle.tuples.proofs.Handed as R
 use Rattle.tuples.proofs.Handed.Laws as R′
-use Rattle.tuples.proofs.at_most as most
-use Rattle.tuples.proofs.at_most.Symbol as most-def
-use Rattle.tuples.proofs.at_most.Symbol.{name as #tuples·at-most}
-use Rattle.tuples.proofs.at_most.Met as most-thm
+use Rattle.ground.proofs.at_most as most
+use Rattle.ground.proofs.at_most.Symbol as most-def
+use Rattle.ground.proofs.at_most.Symbol.{name as #ground·at-most}
+use Rattle.ground.proofs.at_most.Met as most-thm
 use Rattle.tuples.proofs.read_tuples as read
 use Rattle.tuples.proofs.read_tuples.Symbol as read-def
 use Rattle.tuples.proofs.read_tuples.Symbol.{name as #tuples·read-tuples}
@@ -114,7 +114,7 @@ module _ {M : Type 1} (𝓤 : URA M) (H : Heap 𝓤) (A : Atoms 𝓤) (W : Given
   goes-most n m gn gm = qed W [] ∵ nothing ! $ owned ! usize (Is usize) (uint-makes 𝓤 H A W w64) m _ (refl, gm) $ fjoin ! $ owned ! usize (Is usize) (uint-makes 𝓤 H A W w64) n _ (refl, gn) $ fjoin ! $ nothing ! $ join ! $ frame ! $ done !
 
   abbrev Least : ℕ → ℕ → ℕ → Type 0
-  Least n m p = (p ≡ atMost n m) × (p ≤ m)
+  Least n m p = (p ≡ min n m) × (p ≤ m)
 
   said-most : (n m p : ℕ) → ent 𝓤 (ensured 𝓤 H A most.ended (most.clauses 𝓤 H A mem run) tt (n, (m, tt)) tt p) (fact 𝓤 (Least n m p))
   said-most n m p = exE 𝓤 _ (λ ws. snd∗ 𝓤 (sem 𝓤 H A (lasts most.ended tt (n, (m, tt)) ws)) (fact 𝓤 (Least n m p)))
@@ -240,7 +240,7 @@ module _ {M : Type 1} (𝓤 : URA M) (H : Heap 𝓤) (A : Atoms 𝓤) (W : Given
   abbrev fill : Val → Val
   fill u = arrayVal (replicate 256 u)
 
-  walk : (C : Calls 𝓤 H) (Λ : Loops 𝓤 H) (fm : FmC 𝓤 H (W .laws) C) (known : Triple 𝓤 (C #tuples·read-tuples) (Read 𝓤 H A mem run)) (known-most : Triple 𝓤 (C #tuples·at-most) (Most 𝓤 H A mem run)) → Room u8 (length s)
+  walk : (C : Calls 𝓤 H) (Λ : Loops 𝓤 H) (fm : FmC 𝓤 H (W .laws) C) (known : Triple 𝓤 (C #tuples·read-tuples) (Read 𝓤 H A mem run)) (known-most : Triple 𝓤 (C #ground·at-most) (Most 𝓤 H A mem run)) → Room u8 (length s)
       → ent 𝓤 (onEntry 𝓤 H A read-held.signature (κ, tt) (q, tt) a at) (WpFn 𝓤 H C Λ code.function (vb ∷ vint w64 places ∷ E′.lowered x ∷ vint w64 i ∷ []) Post)
   walk C Λ fm known known-most room-b =
       let typed = LL.lawful E.the-type E′.the-laws 𝓤 H A W .typed x _ gx .0 in
@@ -273,7 +273,7 @@ module _ {M : Type 1} (𝓤 : URA M) (H : Heap 𝓤) (A : Atoms 𝓤) (W : Given
       use1 W (‵ (cells (memOf E.the-row) (replicate 256 x) l₇ 0)) (whole-in 𝓤 H A W E.the-row (replicate 256 x) l₇ 0) $
       onto C Λ fm known n ln p lp l₀ l₁ l₂ l₃ l₄ l₅ l₆ l₇ l₈ l₉ l₁₀ l₁₁ l₁₂ l₁₃ l₁₄ l₁₅ (replicate 256 x) (length-replicate 256 x) refl)))))))))))))))))))))))))
 
-module _ {M : Type 1} (𝓤 : URA M) (H : Heap 𝓤) (A : Atoms 𝓤) (W : Given 𝓤 H A) (mem : Memory → SProp 𝓤) (run : Routine → Fun 𝓤) (𝓣 : Tables 𝓤 H) (known : Triple 𝓤 (𝓣 .C #tuples·read-tuples) (Read 𝓤 H A mem run)) (known-most : Triple 𝓤 (𝓣 .C #tuples·at-most) (Most 𝓤 H A mem run)) where
+module _ {M : Type 1} (𝓤 : URA M) (H : Heap 𝓤) (A : Atoms 𝓤) (W : Given 𝓤 H A) (mem : Memory → SProp 𝓤) (run : Routine → Fun 𝓤) (𝓣 : Tables 𝓤 H) (known : Triple 𝓤 (𝓣 .C #tuples·read-tuples) (Read 𝓤 H A mem run)) (known-most : Triple 𝓤 (𝓣 .C #ground·at-most) (Most 𝓤 H A mem run)) where
   read-held-walks : Walks 𝓤 H A read-held.ended stayed (WpFn 𝓤 H (𝓣 .C) (𝓣 .Λ) code.function) (read-held.clauses 𝓤 H A mem run)
   read-held-walks = walked 𝓤 H A read-held.ended stayed (read-held.clauses 𝓤 H A mem run) (WpFn 𝓤 H (𝓣 .C) (𝓣 .Λ) code.function)
       (λ κs. (slice-vals, (uint-vals w64, (LL.vals E.the-type E′.the-laws, (uint-vals w64, tt))))) (λ κs. (shr-slice-tells (named 0) (κs .0) u8, (uint-tells w64, (LL.tells E.the-type E′.the-laws, (uint-tells w64, tt)))))
@@ -292,4 +292,4 @@ read-held-spec 𝓤 H 𝓜 𝓖 𝓡 =
     (tables 𝓤 H 𝓜 𝓡 code.env .C) (tables 𝓤 H 𝓜 𝓡 code.env .Λ) #tuples·read-held code.function (code.unfolded 𝓤 H 𝓜 𝓡)
     (read-held-meets 𝓤 H (𝓖 .A) (givenOf 𝓤 H 𝓜 𝓖) (𝓜 .mem) (𝓡 .run) (tablesOf 𝓤 H 𝓜 (tables 𝓤 H 𝓜 𝓡 code.env))
     (cited 𝓤 H (Read 𝓤 H (𝓖 .A) (𝓜 .mem) (𝓡 .run)) 𝓜 𝓡 code.env #tuples·read-tuples read-def.routine code.calls-tuples·read-tuples (read-thm.met 𝓤 H 𝓜 𝓖 𝓡))
-    (cited 𝓤 H (Most 𝓤 H (𝓖 .A) (𝓜 .mem) (𝓡 .run)) 𝓜 𝓡 code.env #tuples·at-most most-def.routine code.calls-tuples·at-most (most-thm.met 𝓤 H 𝓜 𝓖 𝓡)))
+    (cited 𝓤 H (Most 𝓤 H (𝓖 .A) (𝓜 .mem) (𝓡 .run)) 𝓜 𝓡 code.env #ground·at-most most-def.routine code.calls-ground·at-most (most-thm.met 𝓤 H 𝓜 𝓖 𝓡)))

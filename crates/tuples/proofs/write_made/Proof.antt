@@ -1,6 +1,6 @@
 -- `tuples::write_made` meets its contract: a walk of its MIR, by hand. In a local array of 256 entries one is stored, and the first n are lent to `write_tuples` as a slice for a lifetime of the call; then the array is whole again.
 use mathlib.Core.Path.{_≡_, refl, sym, _∙_, ap, subst}
-use Prim.Native.Nat.{ℕ, _<_, _≤_, _^_, _*_}
+use Prim.Native.Nat.{ℕ, _<_, _≤_, _^_, _*_, min}
 use native.Mathlib.Omega.{arith}
 use mathlib.Core.List.{List, _∷_, _++_, []}
 use lib.ListN.{length, take, drop as past, set, replicate, length-replicate, length-set, take-append-drop}
@@ -54,16 +54,15 @@ use denote.Exit.{yes}
 use Rattle.answers.specs.declared.Outcome.{Outcome}
 use Rattle.answers.proofs.Outcome as O
 use Rattle.answers.proofs.Outcome.Laws as O′
-use Rattle.tuples.specs.Read.{atMost}
 use Rattle.tuples.specs.Write.{Writes, made, lastPlace}
 use Rattle.tuples.specs.declared.Entry.{Entry}
 use Rattle.tuples.proofs.Doors.{made-is}
 use Rattle.tuples.proofs.Entry as E
 use Rattle.tuples.proofs.Entry.Laws as E′
-use Rattle.tuples.proofs.at_most as most
-use Rattle.tuples.proofs.at_most.Symbol as most-def
-use Rattle.tuples.proofs.at_most.Symbol.{name as #tuples·at-most}
-use Rattle.tuples.proofs.at_most.Met as most-thm
+use Rattle.ground.proofs.at_most as most
+use Rattle.ground.proofs.at_most.Symbol as most-def
+use Rattle.ground.proofs.at_most.Symbol.{name as #ground·at-most}
+use Rattle.ground.proofs.at_most.Met as most-thm
 use Rattle.tuples.proofs.last_place as last-place
 use Rattle.tuples.proofs.last_place.Symbol as last-place-def
 use Rattle.tuples.proofs.last_place.Symbol.{name as #tuples·last-place}
@@ -129,7 +128,7 @@ module _ {M : Type 1} (𝓤 : URA M) (H : Heap 𝓤) (A : Atoms 𝓤) (W : Given
   goes-most = qed W [] ∵ nothing ! $ owned ! usize (Is usize) (uint-makes 𝓤 H A W w64) 256 _ (refl, lit< tt) $ fjoin ! $ owned ! usize (Is usize) (uint-makes 𝓤 H A W w64) c _ (refl, gc) $ fjoin ! $ nothing ! $ join ! $ frame ! $ done !
 
   abbrev Least : ℕ → Type 0
-  Least n = (n ≡ atMost c 256) × (n ≤ 256)
+  Least n = (n ≡ min c 256) × (n ≤ 256)
 
   said-most : (n : ℕ) → ent 𝓤 (ensured 𝓤 H A most.ended (most.clauses 𝓤 H A mem run) tt (c, (256, tt)) tt n) (fact 𝓤 (Least n))
   said-most n = exE 𝓤 _ (λ ws. snd∗ 𝓤 (sem 𝓤 H A (lasts most.ended tt (c, (256, tt)) ws)) (fact 𝓤 (Least n)))
@@ -141,12 +140,12 @@ module _ {M : Type 1} (𝓤 : URA M) (H : Heap 𝓤) (A : Atoms 𝓤) (W : Given
   goes-last = qed W [] ∵ nothing ! $ owned ! usize (Is usize) (uint-makes 𝓤 H A W w64) c _ (refl, gc) $ fjoin ! $ nothing ! $ join ! $ frame ! $ done !
 
   abbrev LastIs : ℕ → Type 0
-  LastIs k = (k ≡ lastPlace (atMost c 256)) × (k ≤ 255)
+  LastIs k = (k ≡ lastPlace (min c 256)) × (k ≤ 255)
 
   said-last : (k : ℕ) → ent 𝓤 (ensured 𝓤 H A last-place.ended (last-place.clauses 𝓤 H A mem run) tt (c, tt) tt k) (fact 𝓤 (LastIs k))
   said-last k = exE 𝓤 _ (λ ws. snd∗ 𝓤 (sem 𝓤 H A (lasts last-place.ended tt (c, tt) ws)) (fact 𝓤 (LastIs k)))
 
-  exits : (r : Outcome) (u : Val) (z : List ℕ) → Writes bs (made (atMost c 256) x y) os r z → length z ≡ length os → ent 𝓤 (⋆ 𝓤 H A (‵ (flft κ q) ∷ ‵ (flft κ′ q′) ∷ ‵ Bod ∷ ‵ (finally u8 γ₂ z) ∷ ‵ (O.the-row .own r (u ∷ [])) ∷ [])) (Post u)
+  exits : (r : Outcome) (u : Val) (z : List ℕ) → Writes bs (made (min c 256) x y) os r z → length z ≡ length os → ent 𝓤 (⋆ 𝓤 H A (‵ (flft κ q) ∷ ‵ (flft κ′ q′) ∷ ‵ Bod ∷ ‵ (finally u8 γ₂ z) ∷ ‵ (O.the-row .own r (u ∷ [])) ∷ [])) (Post u)
   exits r u z e len =
       qed W (‵ (flft κ q) ∷ ‵ (flft κ′ q′) ∷ ‵ Bod ∷ ‵ (finally u8 γ₂ z) ∷ ‵ (O.the-row .own r (u ∷ [])) ∷ []) ∵
       suffices ! _ (ends-at 𝓤 H A wmade.ended stayed (wmade.clauses 𝓤 H A mem run) W (((κ, (κ′, tt)), (q, (q′, tt)), tt, a, at), tt) u r (tt, (tt, (tt, (tt, (z, tt))))) (tt, (tt, (tt, (tt, (len, tt)))))) $ says ! e $
@@ -200,10 +199,10 @@ module _ {M : Type 1} (𝓤 : URA M) (H : Heap 𝓤) (A : Atoms 𝓤) (W : Given
       room-ts = room-take E.the-row 256 n zs long (lit< tt, lit< tt)
 
       -- the part that is lent is the list that was asked for
-      those : ts ≡ made (atMost c 256) x y
+      those : ts ≡ made (min c 256) x y
       those =
           ap (λ (l : List Entry). take n (set l k y)) all ∙ ap (λ (j : ℕ). take n (set (replicate 256 x) j y)) (lk .0)
-          ∙ ap (λ (j : ℕ). take j (set (replicate 256 x) (lastPlace (atMost c 256)) y)) (ln .0) ∙ made-is (atMost c 256) x y (subst (λ (j : ℕ). j ≤ 256) (ln .0) (ln .1))
+          ∙ ap (λ (j : ℕ). take j (set (replicate 256 x) (lastPlace (min c 256)) y)) (ln .0) ∙ made-is (min c 256) x y (subst (λ (j : ℕ). j ≤ 256) (ln .0) (ln .1))
 
       abbrev part : GName → RefT (List Entry)
       part δ = record { ptr = (l₈, 0); name = δ; now = ts }
@@ -289,7 +288,7 @@ module _ {M : Type 1} (𝓤 : URA M) (H : Heap 𝓤) (A : Atoms 𝓤) (W : Given
   abbrev fill : Val → Val
   fill u = arrayVal (replicate 256 u)
 
-  walk : (C : Calls 𝓤 H) (Λ : Loops 𝓤 H) (fm : FmC 𝓤 H (W .laws) C) (known-most : Triple 𝓤 (C #tuples·at-most) (Most 𝓤 H A mem run)) (known-last : Triple 𝓤 (C #tuples·last-place) (LastOf 𝓤 H A mem run)) (known-write : Triple 𝓤 (C #tuples·write-tuples) (Write 𝓤 H A mem run)) → Room u8 (length bs) → Room u8 (length os)
+  walk : (C : Calls 𝓤 H) (Λ : Loops 𝓤 H) (fm : FmC 𝓤 H (W .laws) C) (known-most : Triple 𝓤 (C #ground·at-most) (Most 𝓤 H A mem run)) (known-last : Triple 𝓤 (C #tuples·last-place) (LastOf 𝓤 H A mem run)) (known-write : Triple 𝓤 (C #tuples·write-tuples) (Write 𝓤 H A mem run)) → Room u8 (length bs) → Room u8 (length os)
       → ent 𝓤 (onEntry 𝓤 H A wmade.signature (κ, (κ′, tt)) (q, (q′, tt)) a at) (WpFn 𝓤 H C Λ code.function (E′.lowered x ∷ E′.lowered y ∷ vint w64 c ∷ vb ∷ v₂ ∷ []) Post)
   walk C Λ fm known-most known-last known-write room₁ room₂ =
       qed W ((‵ (flft κ q) ⊛ (‵ (flft κ′ q′) ⊛ ‵ ftrue)) ∷ ‵ (owns (E.the-row ∷ E.the-row ∷ usize ∷ ShrSlice (named 0) κ u8 ∷ MutSlice (named 1) κ′ u8 ∷ []) a at) ∷ []) ∵ split ! $ move ! (1 ∷ []) $ split ! $ move ! (3 ∷ []) $
@@ -322,7 +321,7 @@ module _ {M : Type 1} (𝓤 : URA M) (H : Heap 𝓤) (A : Atoms 𝓤) (W : Given
       use1 W (‵ (arr-parts (shares E.the-row) 256 .part fullShare (replicate 256 x) l₈ 0)) (array-apart 𝓤 H A W E.the-row fullShare tt 256 (replicate 256 x) l₈ 0) $ fsplit ! $ leave ! $
       onto C Λ fm known-write room₂ n ln (is-n .1) k lk l₀ l₁ l₂ l₃ l₄ l₅ l₆ l₇ l₈ l₉ l₁₀ l₁₁ l₁₂ l₁₃ l₁₄ l₁₅ (replicate 256 x) (length-replicate 256 x) refl)))))))))))))))))))))))))
 
-module _ {M : Type 1} (𝓤 : URA M) (H : Heap 𝓤) (A : Atoms 𝓤) (W : Given 𝓤 H A) (mem : Memory → SProp 𝓤) (run : Routine → Fun 𝓤) (𝓣 : Tables 𝓤 H) (known-most : Triple 𝓤 (𝓣 .C #tuples·at-most) (Most 𝓤 H A mem run))
+module _ {M : Type 1} (𝓤 : URA M) (H : Heap 𝓤) (A : Atoms 𝓤) (W : Given 𝓤 H A) (mem : Memory → SProp 𝓤) (run : Routine → Fun 𝓤) (𝓣 : Tables 𝓤 H) (known-most : Triple 𝓤 (𝓣 .C #ground·at-most) (Most 𝓤 H A mem run))
     (known-last : Triple 𝓤 (𝓣 .C #tuples·last-place) (LastOf 𝓤 H A mem run)) (known-write : Triple 𝓤 (𝓣 .C #tuples·write-tuples) (Write 𝓤 H A mem run)) where
   wmade-walks : Walks 𝓤 H A wmade.ended stayed (WpFn 𝓤 H (𝓣 .C) (𝓣 .Λ) code.function) (wmade.clauses 𝓤 H A mem run)
   wmade-walks = walked 𝓤 H A wmade.ended stayed (wmade.clauses 𝓤 H A mem run) (WpFn 𝓤 H (𝓣 .C) (𝓣 .Λ) code.function)
@@ -351,6 +350,6 @@ write-made-spec 𝓤 H 𝓜 𝓖 𝓡 =
     entered 𝓤 H (tripleOf 𝓤 H (𝓖 .A) wmade.signature (wmade.spec 𝓤 H (𝓖 .A) (𝓜 .mem) (𝓡 .run)))
     (tables 𝓤 H 𝓜 𝓡 code.env .C) (tables 𝓤 H 𝓜 𝓡 code.env .Λ) #tuples·write-made code.function (code.unfolded 𝓤 H 𝓜 𝓡)
     (wmade-meets 𝓤 H (𝓖 .A) (givenOf 𝓤 H 𝓜 𝓖) (𝓜 .mem) (𝓡 .run) (tablesOf 𝓤 H 𝓜 (tables 𝓤 H 𝓜 𝓡 code.env))
-    (cited 𝓤 H (Most 𝓤 H (𝓖 .A) (𝓜 .mem) (𝓡 .run)) 𝓜 𝓡 code.env #tuples·at-most most-def.routine code.calls-tuples·at-most (most-thm.met 𝓤 H 𝓜 𝓖 𝓡))
+    (cited 𝓤 H (Most 𝓤 H (𝓖 .A) (𝓜 .mem) (𝓡 .run)) 𝓜 𝓡 code.env #ground·at-most most-def.routine code.calls-ground·at-most (most-thm.met 𝓤 H 𝓜 𝓖 𝓡))
     (cited 𝓤 H (LastOf 𝓤 H (𝓖 .A) (𝓜 .mem) (𝓡 .run)) 𝓜 𝓡 code.env #tuples·last-place last-place-def.routine code.calls-tuples·last-place (last-place-thm.met 𝓤 H 𝓜 𝓖 𝓡))
     (cited 𝓤 H (Write 𝓤 H (𝓖 .A) (𝓜 .mem) (𝓡 .run)) 𝓜 𝓡 code.env #tuples·write-tuples write-def.routine code.calls-tuples·write-tuples (write-thm.met 𝓤 H 𝓜 𝓖 𝓡)))

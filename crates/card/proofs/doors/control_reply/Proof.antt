@@ -5,28 +5,22 @@ use borrow.Author.Needs.{needs}
 use Rattle.card.proofs.doors.control_reply.Statement.{statement}
 use Rattle.card.proofs.doors.control_reply.Tie as tie
 
--- src/doors.rt
 well-made-requires : tie.Need-well-made-requires
 well-made-requires c κs = search needs
 
--- src/doors.rt
 refuse-requires : tie.Need-refuse-requires
 refuse-requires c κs = search needs
 
--- src/doors.rt
 returns : tie.Need-returns
 unfolding controlAnswered
 returns c = let w = sym (c .before .before .well-made .ensures) ∙ un-not _ _ (c .before .if1 .taken) in simp (w, c .refuse .ensures)
 
--- src/doors.rt
 sreset-in-requires : tie.Need-sreset-in-requires
 sreset-in-requires c κs = search needs
 
--- src/doors.rt
 refuse-requires-2 : tie.Need-refuse-requires-2
 refuse-requires-2 c κs = search needs
 
--- src/doors.rt
 returns-2 : tie.Need-returns-2
 unfolding controlAnswered
 returns-2 c =
@@ -34,15 +28,12 @@ returns-2 c =
     let v = sym (c .before .before .sreset-in .ensures) ∙ c .before .if2 .taken in
     simp (w, v, c .refuse2 .ensures)
 
--- src/doors.rt
 write-control-requires : tie.Need-write-control-requires
 write-control-requires c κs = search needs
 
--- src/doors.rt
 accept-requires : tie.Need-accept-requires
 accept-requires c κs = search needs
 
--- src/doors.rt
 returns-3 : tie.Need-returns-3
 unfolding controlAnswered
 returns-3 c =

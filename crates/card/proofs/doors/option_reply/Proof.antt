@@ -5,32 +5,25 @@ use borrow.Author.Needs.{needs}
 use Rattle.card.proofs.doors.option_reply.Statement.{statement}
 use Rattle.card.proofs.doors.option_reply.Tie as tie
 
--- src/doors.rt
 well-made-requires : tie.Need-well-made-requires
 well-made-requires c κs = search needs
 
--- src/doors.rt
 refuse-requires : tie.Need-refuse-requires
 refuse-requires c κs = search needs
 
--- src/doors.rt
 returns : tie.Need-returns
 unfolding optionAnswered
 returns c = let w = sym (c .before .before .well-made .ensures) ∙ un-not _ _ (c .before .if1 .taken) in simp (w, c .refuse .ensures)
 
--- src/doors.rt
 enum-told : tie.Need-enum-told
 enum-told c = search needs
 
--- src/doors.rt
 index-fits-requires : tie.Need-index-fits-requires
 index-fits-requires c κs = search needs
 
--- src/doors.rt
 refuse-requires-2 : tie.Need-refuse-requires-2
 refuse-requires-2 c κs = search needs
 
--- src/doors.rt
 returns-2 : tie.Need-returns-2
 unfolding optionAnswered
 returns-2 c =
@@ -38,23 +31,18 @@ returns-2 c =
     let v = sym (c .before .before .index-fits .ensures) ∙ un-not _ _ (c .before .if2 .taken) in
     simp (w, c .before .before .before .enum-told .given .1, v, c .refuse2 .ensures)
 
--- src/doors.rt
 write-option-requires : tie.Need-write-option-requires
 write-option-requires c κs = search needs
 
--- src/doors.rt
 accept-requires : tie.Need-accept-requires
 accept-requires c κs = search needs
 
--- src/doors.rt
 enum-told-2 : tie.Need-enum-told-2
 enum-told-2 c = search needs
 
--- src/doors.rt
 refuse-requires-3 : tie.Need-refuse-requires-3
 refuse-requires-3 c κs = search needs
 
--- src/doors.rt
 returns-3 : tie.Need-returns-3
 unfolding optionAnswered
 returns-3 c =
@@ -62,7 +50,6 @@ returns-3 c =
     let v = sym (c .before .before .before .before .index-fits .ensures) ∙ un-not _ _ (c .before .before .before .if2 .left) in
     simp (w, c .before .before .before .before .before .enum-told .given .1, v, c .accept .ensures, c .before .write-option .ensures .0, c .before .write-option .ensures .1)
 
--- src/doors.rt
 returns-4 : tie.Need-returns-4
 unfolding optionAnswered
 returns-4 c =

@@ -14,8 +14,8 @@ abbrev μ-loop : tie.MeasureT-loop
 loop-holds : tie.Need-loop-holds Inv-loop μ-loop
 loop-holds c = search needs
 
-read-test-requires : tie.Need-read-test-requires Inv-loop μ-loop
-read-test-requires c κs = search needs
+sector-test-requires : tie.Need-sector-test-requires Inv-loop μ-loop
+sector-test-requires c κs = search needs
 
 enum-told : tie.Need-enum-told Inv-loop μ-loop
 enum-told c = search needs
@@ -31,7 +31,7 @@ loop-less c = search needs
 
 loop-again : tie.Need-loop-again Inv-loop μ-loop
 loop-again c =
-    let e = sym (c .before .before .before .read-test .ensures) ∙ c .before .enum-told .given .1 in
+    let e = sym (c .before .before .before .sector-test .ensures) ∙ c .before .enum-told .given .1 in
     rw (c .sector-done .ensures) (sym (verify-step _ _ _ _ (c .before .before .before .before .loop-test .taken) e) ∙ c .before .before .before .before .before .loop .inv)
 
 enum-known-end : tie.Need-enum-known-end Inv-loop μ-loop
@@ -42,7 +42,7 @@ ended-requires c κs = search needs
 
 returns : tie.Need-returns Inv-loop μ-loop
 returns c =
-    let e = sym (c .before .before .before .before .read-test .ensures) ∙ c .before .before .end .given .1 in
+    let e = sym (c .before .before .before .before .sector-test .ensures) ∙ c .before .before .end .given .1 in
     simp (c .ended .ensures) (sym (verify-fails _ _ _ _ (c .before .before .before .before .before .loop-test .taken) e) ∙ c .before .before .before .before .before .before .loop .inv)
 
 ended-requires-2 : tie.Need-ended-requires-2 Inv-loop μ-loop
@@ -60,7 +60,7 @@ verify-spec =
     Inv-loop
     μ-loop
     loop-holds
-    read-test-requires
+    sector-test-requires
     enum-told
     sub-n
     sector-done-requires

@@ -1,56 +1,44 @@
+use mathlib.Core.Path.{sym, _∙_}
+use borrow.Author.Tests.{lt-leb}
 use Rattle.ground.specs.Choice.{every}
-use Rattle.geometry.specs.Limits.{fits}
+use Rattle.geometry.specs.Limits.{limits, fits}
 use Rattle.ground.proofs.Tests.{tests}
+use Rattle.ground.proofs.Every.{one-fails}
+use Rattle.ground.proofs.Picks.{un-not}
 use borrow.Author.Needs.{needs}
 use Rattle.geometry.proofs.Geometry.fits.Statement.{statement}
 use Rattle.geometry.proofs.Geometry.fits.Tie as tie
 
 returns : tie.Need-returns
-unfolding fits every
-returns c = search tests
+unfolding fits
+returns c = sym (one-fails (limits (c .before .before .args .self)) 0 (lt-leb _ _ (c .if1 .taken)))
+
+heads-fit-requires : tie.Need-heads-fit-requires
+heads-fit-requires c κs = search needs
 
 returns-2 : tie.Need-returns-2
-unfolding fits every
-returns-2 c = search tests
-
-returns-3 : tie.Need-returns-3
-unfolding fits every
-returns-3 c = search tests
-
-returns-4 : tie.Need-returns-4
-unfolding fits every
-returns-4 c = search tests
-
-returns-5 : tie.Need-returns-5
-unfolding fits every
-returns-5 c = search tests
+unfolding fits
+returns-2 c =
+    let h = sym (c .before .heads-fit .ensures) ∙ un-not _ _ (c .if2 .taken) in
+    sym (one-fails (limits (c .before .before .before .before .args .self)) 2 h)
 
 capacity-requires : tie.Need-capacity-requires
 capacity-requires c κs = search needs
 
-returns-6 : tie.Need-returns-6
-unfolding fits every
-returns-6 c =
-    let e = c .before .capacity .ensures in
-    let f = rw e at (c .if6 .taken) in
-    search (tests, f)
+returns-3 : tie.Need-returns-3
+unfolding fits
+returns-3 c =
+    let g = c .before .before .before .before .before .before .args .self in
+    let f = rw (c .before .capacity .ensures) at (c .if3 .taken) in
+    sym (one-fails (limits g) 3 (lt-leb _ _ f))
 
-returns-7 : tie.Need-returns-7
+returns-4 : tie.Need-returns-4
 unfolding fits every
-returns-7 c =
-    let e = c .before .capacity .ensures in
-    let f = rw e at (c .if6 .left) in
-    search (tests, f)
+returns-4 c =
+    let h = sym (c .before .before .before .heads-fit .ensures) ∙ un-not _ _ (c .before .before .if2 .left) in
+    let f = rw (c .before .capacity .ensures) at (c .if3 .left) in
+    search (tests, h, f)
 
 pub fits-spec : {M : Type 1} → statement M
 fits-spec =
-    tie.close
-    (tie.spec
-    returns
-    returns-2
-    returns-3
-    returns-4
-    returns-5
-    capacity-requires
-    returns-6
-    returns-7)
+    tie.close (tie.spec returns heads-fit-requires returns-2 capacity-requires returns-3 returns-4)

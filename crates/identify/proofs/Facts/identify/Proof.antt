@@ -5,7 +5,7 @@ use mathlib.Core.Path.{_≡_}
 use lib.ListN.{length, take}
 use Rattle.ground.proofs.Lists.{copy-more, copy-all}
 use Rattle.identify.specs.Words.{identifyBytes}
-use Rattle.identify.proofs.Made.{identify-length, identify-at}
+use Rattle.identify.proofs.Bytes.{identify-length, identify-at}
 use Rattle.identify.proofs.Facts.identify.Statement.{statement}
 use Rattle.identify.proofs.Facts.identify.Tie as tie
 

@@ -1,6 +1,7 @@
 use Rattle.ground.proofs.Picks.{un-not}
 use mathlib.Core.Path.{sym, _∙_}
 use Rattle.ground.specs.Choice.{every}
+use Rattle.ground.proofs.Every.{one-fails}
 use Rattle.registers.specs.WellMade.{wellMade}
 use borrow.Author.Needs.{needs}
 use Rattle.registers.proofs.Core.well_made.Statement.{statement}
@@ -10,10 +11,8 @@ fits-requires : tie.Need-fits-requires
 fits-requires c κs = search needs
 
 returns : tie.Need-returns
-unfolding wellMade every
-returns c =
-    let w1 = sym (c .before .fits2 .ensures) ∙ un-not _ _ (c .if1 .taken) in
-    simp (w1)
+unfolding wellMade
+returns c = sym (one-fails _ 0 (sym (c .before .fits2 .ensures) ∙ un-not _ _ (c .if1 .taken)))
 
 total-requires : tie.Need-total-requires
 total-requires c κs = search needs
@@ -22,62 +21,29 @@ current-for-requires : tie.Need-current-for-requires
 current-for-requires c κs = search needs
 
 returns-2 : tie.Need-returns-2
-unfolding wellMade every
-returns-2 c =
-    let w1 = sym (c .before .before .before .before .fits2 .ensures) ∙ un-not _ _ (c .before .before .before .if1 .left) in
-    let w2 = sym (simp (c .before .before .total .ensures) at (c .before .current-for .ensures)) ∙ un-not _ _ (c .if2 .taken) in
-    simp (w1, w2)
+unfolding wellMade
+returns-2 c = sym (one-fails _ 1 (sym (simp (c .before .before .total .ensures) at (c .before .current-for .ensures)) ∙ un-not _ _ (c .if2 .taken)))
 
 index-fits-requires : tie.Need-index-fits-requires
 index-fits-requires c κs = search needs
 
 returns-3 : tie.Need-returns-3
-unfolding wellMade every
-returns-3 c =
-    let c4 = c .before .before .before .before in
-    let c5 = c4 .before in
-    let c6 = c5 .before in
-    let w1 = sym (c6 .fits2 .ensures) ∙ un-not _ _ (c5 .if1 .left) in
-    let w2 = sym (simp (c4 .total .ensures) at (c .before .before .before .current-for .ensures)) ∙ un-not _ _ (c .before .before .if2 .left) in
-    let w3 = sym (c .before .index-fits .ensures) ∙ un-not _ _ (c .if3 .taken) in
-    simp (w1, w2, w3)
+unfolding wellMade
+returns-3 c = sym (one-fails _ 2 (sym (c .before .index-fits .ensures) ∙ un-not _ _ (c .if3 .taken)))
 
 sreset-fits-requires : tie.Need-sreset-fits-requires
 sreset-fits-requires c κs = search needs
 
 returns-4 : tie.Need-returns-4
-unfolding wellMade every
-returns-4 c =
-    let c4 = c .before .before .before .before in
-    let c5 = c4 .before in
-    let c6 = c5 .before in
-    let c7 = c6 .before in
-    let c8 = c7 .before in
-    let w1 = sym (c8 .fits2 .ensures) ∙ un-not _ _ (c7 .if1 .left) in
-    let w2 = sym (simp (c6 .total .ensures) at (c5 .current-for .ensures)) ∙ un-not _ _ (c4 .if2 .left) in
-    let w3 = sym (c .before .before .before .index-fits .ensures) ∙ un-not _ _ (c .before .before .if3 .left) in
-    let w4 = sym (c .before .sreset-fits .ensures) ∙ un-not _ _ (c .if4 .taken) in
-    simp (w1, w2, w3, w4)
+unfolding wellMade
+returns-4 c = sym (one-fails _ 3 (sym (c .before .sreset-fits .ensures) ∙ un-not _ _ (c .if4 .taken)))
 
 status-fits-requires : tie.Need-status-fits-requires
 status-fits-requires c κs = search needs
 
 returns-5 : tie.Need-returns-5
-unfolding wellMade every
-returns-5 c =
-    let c4 = c .before .before .before .before in
-    let c5 = c4 .before in
-    let c6 = c5 .before in
-    let c7 = c6 .before in
-    let c8 = c7 .before in
-    let c9 = c8 .before in
-    let c10 = c9 .before in
-    let w1 = sym (c10 .fits2 .ensures) ∙ un-not _ _ (c9 .if1 .left) in
-    let w2 = sym (simp (c8 .total .ensures) at (c7 .current-for .ensures)) ∙ un-not _ _ (c6 .if2 .left) in
-    let w3 = sym (c5 .index-fits .ensures) ∙ un-not _ _ (c4 .if3 .left) in
-    let w4 = sym (c .before .before .before .sreset-fits .ensures) ∙ un-not _ _ (c .before .before .if4 .left) in
-    let w5 = sym (c .before .status-fits .ensures) ∙ un-not _ _ (c .if5 .taken) in
-    simp (w1, w2, w3, w4, w5)
+unfolding wellMade
+returns-5 c = sym (one-fails _ 4 (sym (c .before .status-fits .ensures) ∙ un-not _ _ (c .if5 .taken)))
 
 held-in-requires : tie.Need-held-in-requires
 held-in-requires c κs = search needs
@@ -86,82 +52,22 @@ hold-fits-requires : tie.Need-hold-fits-requires
 hold-fits-requires c κs = search needs
 
 returns-6 : tie.Need-returns-6
-unfolding wellMade every
-returns-6 c =
-    let c4 = c .before .before .before .before in
-    let c5 = c4 .before in
-    let c6 = c5 .before in
-    let c7 = c6 .before in
-    let c8 = c7 .before in
-    let c9 = c8 .before in
-    let c10 = c9 .before in
-    let c11 = c10 .before in
-    let c12 = c11 .before in
-    let c13 = c12 .before in
-    let w1 = sym (c13 .fits2 .ensures) ∙ un-not _ _ (c12 .if1 .left) in
-    let w2 = sym (simp (c11 .total .ensures) at (c10 .current-for .ensures)) ∙ un-not _ _ (c9 .if2 .left) in
-    let w3 = sym (c8 .index-fits .ensures) ∙ un-not _ _ (c7 .if3 .left) in
-    let w4 = sym (c6 .sreset-fits .ensures) ∙ un-not _ _ (c5 .if4 .left) in
-    let w5 = sym (c4 .status-fits .ensures) ∙ un-not _ _ (c .before .before .before .if5 .left) in
-    let w6 = sym (simp (c .before .before .held-in .ensures) at (c .before .hold-fits .ensures)) ∙ un-not _ _ (c .if6 .taken) in
-    simp (w1, w2, w3, w4, w5, w6)
+unfolding wellMade
+returns-6 c = sym (one-fails _ 5 (sym (simp (c .before .before .held-in .ensures) at (c .before .hold-fits .ensures)) ∙ un-not _ _ (c .if6 .taken)))
 
 words-fit-requires : tie.Need-words-fit-requires
 words-fit-requires c κs = search needs
 
 returns-7 : tie.Need-returns-7
-unfolding wellMade every
-returns-7 c =
-    let c4 = c .before .before .before .before in
-    let c5 = c4 .before in
-    let c6 = c5 .before in
-    let c7 = c6 .before in
-    let c8 = c7 .before in
-    let c9 = c8 .before in
-    let c10 = c9 .before in
-    let c11 = c10 .before in
-    let c12 = c11 .before in
-    let c13 = c12 .before in
-    let c14 = c13 .before in
-    let c15 = c14 .before in
-    let w1 = sym (c15 .fits2 .ensures) ∙ un-not _ _ (c14 .if1 .left) in
-    let w2 = sym (simp (c13 .total .ensures) at (c12 .current-for .ensures)) ∙ un-not _ _ (c11 .if2 .left) in
-    let w3 = sym (c10 .index-fits .ensures) ∙ un-not _ _ (c9 .if3 .left) in
-    let w4 = sym (c8 .sreset-fits .ensures) ∙ un-not _ _ (c7 .if4 .left) in
-    let w5 = sym (c6 .status-fits .ensures) ∙ un-not _ _ (c5 .if5 .left) in
-    let w6 = sym (simp (c4 .held-in .ensures) at (c .before .before .before .hold-fits .ensures)) ∙ un-not _ _ (c .before .before .if6 .left) in
-    let w7 = sym (c .before .words-fit .ensures) ∙ un-not _ _ (c .if7 .taken) in
-    simp (w1, w2, w3, w4, w5, w6, w7)
+unfolding wellMade
+returns-7 c = sym (one-fails _ 6 (sym (c .before .words-fit .ensures) ∙ un-not _ _ (c .if7 .taken)))
 
 run-fits-requires : tie.Need-run-fits-requires
 run-fits-requires c κs = search needs
 
 returns-8 : tie.Need-returns-8
-unfolding wellMade every
-returns-8 c =
-    let c4 = c .before .before .before .before in
-    let c5 = c4 .before in
-    let c6 = c5 .before in
-    let c7 = c6 .before in
-    let c8 = c7 .before in
-    let c9 = c8 .before in
-    let c10 = c9 .before in
-    let c11 = c10 .before in
-    let c12 = c11 .before in
-    let c13 = c12 .before in
-    let c14 = c13 .before in
-    let c15 = c14 .before in
-    let c16 = c15 .before in
-    let c17 = c16 .before in
-    let w1 = sym (c17 .fits2 .ensures) ∙ un-not _ _ (c16 .if1 .left) in
-    let w2 = sym (simp (c15 .total .ensures) at (c14 .current-for .ensures)) ∙ un-not _ _ (c13 .if2 .left) in
-    let w3 = sym (c12 .index-fits .ensures) ∙ un-not _ _ (c11 .if3 .left) in
-    let w4 = sym (c10 .sreset-fits .ensures) ∙ un-not _ _ (c9 .if4 .left) in
-    let w5 = sym (c8 .status-fits .ensures) ∙ un-not _ _ (c7 .if5 .left) in
-    let w6 = sym (simp (c6 .held-in .ensures) at (c5 .hold-fits .ensures)) ∙ un-not _ _ (c4 .if6 .left) in
-    let w7 = sym (c .before .before .before .words-fit .ensures) ∙ un-not _ _ (c .before .before .if7 .left) in
-    let w8 = sym (c .before .run-fits .ensures) ∙ un-not _ _ (c .if8 .taken) in
-    simp (w1, w2, w3, w4, w5, w6, w7, w8)
+unfolding wellMade
+returns-8 c = sym (one-fails _ 7 (sym (c .before .run-fits .ensures) ∙ un-not _ _ (c .if8 .taken)))
 
 returns-9 : tie.Need-returns-9
 unfolding wellMade every

@@ -3,39 +3,30 @@ use borrow.Author.Needs.{needs}
 use Rattle.registers.proofs.State.found.Statement.{statement}
 use Rattle.registers.proofs.State.found.Tie as tie
 
--- src/lib.rt
 located-requires : tie.Need-located-requires
 located-requires c κs = search needs
 
--- src/lib.rt
 enum-told : tie.Need-enum-told
 enum-told c = search needs
 
--- src/lib.rt
 enum-told-2 : tie.Need-enum-told-2
 enum-told-2 c = search needs
 
--- src/lib.rt
 enum-told-3 : tie.Need-enum-told-3
 enum-told-3 c = search needs
 
--- src/lib.rt
 enum-told-4 : tie.Need-enum-told-4
 enum-told-4 c = search needs
 
--- src/lib.rt
 returns : tie.Need-returns
 returns c = simp (sym (c .before .before .located .ensures) ∙ c .enum-told .given .1)
 
--- src/lib.rt
 returns-2 : tie.Need-returns-2
 returns-2 c = simp (sym (c .before .before .located .ensures) ∙ c .enum-told2 .given .1)
 
--- src/lib.rt
 returns-3 : tie.Need-returns-3
 returns-3 c = simp (sym (c .before .before .located .ensures) ∙ c .enum-told3 .given .1)
 
--- src/lib.rt
 returns-4 : tie.Need-returns-4
 returns-4 c = simp (sym (c .before .before .located .ensures) ∙ c .enum-told4 .given .1)
 

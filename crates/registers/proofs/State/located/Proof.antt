@@ -2,15 +2,12 @@ use borrow.Author.Needs.{needs}
 use Rattle.registers.proofs.State.located.Statement.{statement}
 use Rattle.registers.proofs.State.located.Tie as tie
 
--- src/lib.rt
 total-requires : tie.Need-total-requires
 total-requires c κs = search needs
 
--- src/lib.rt
 locate-requires : tie.Need-locate-requires
 locate-requires c κs = search needs
 
--- src/lib.rt
 returns : tie.Need-returns
 returns c = simp (c .before .total .ensures) at (c .locate .ensures)
 

@@ -38,20 +38,20 @@ zero-marks-requires c κs = search needs
 no-tuples-requires : tie.Need-no-tuples-requires
 no-tuples-requires c κs = search needs
 
-slice-aggregate-opened-on : tie.Need-slice-aggregate-opened-on
-slice-aggregate-opened-on c = search needs
-
 array-borrow-prefix-store : tie.Need-array-borrow-prefix-store
 array-borrow-prefix-store c = search needs
 
-slice-aggregate-opened-on-2 : tie.Need-slice-aggregate-opened-on-2
-slice-aggregate-opened-on-2 c = sym (length-take-le _ _ (rw (c .before .before .before .before .zero-store .ensures, zero-length) (omega arith)))
+slice-aggregate-opened-on : tie.Need-slice-aggregate-opened-on
+slice-aggregate-opened-on c = sym (length-take-le _ _ (rw (c .before .before .before .zero-store .ensures, zero-length) (omega arith)))
 
 array-borrow-prefix-marks : tie.Need-array-borrow-prefix-marks
 array-borrow-prefix-marks c = search needs
 
+slice-aggregate-opened-on-2 : tie.Need-slice-aggregate-opened-on-2
+slice-aggregate-opened-on-2 c = sym (length-take-le _ _ (rw (c .before .before .before .zero-marks .ensures, zero-length) (omega arith)))
+
 slice-aggregate-opened-on-3 : tie.Need-slice-aggregate-opened-on-3
-slice-aggregate-opened-on-3 c = sym (length-take-le _ _ (rw (c .before .before .before .before .zero-marks .ensures, zero-length) (omega arith)))
+slice-aggregate-opened-on-3 c = search needs
 
 opened-on-requires : tie.Need-opened-on-requires
 opened-on-requires c κs = search needs
@@ -86,10 +86,10 @@ opening-spec =
     zero-store-requires
     zero-marks-requires
     no-tuples-requires
-    slice-aggregate-opened-on
     array-borrow-prefix-store
-    slice-aggregate-opened-on-2
+    slice-aggregate-opened-on
     array-borrow-prefix-marks
+    slice-aggregate-opened-on-2
     slice-aggregate-opened-on-3
     opened-on-requires
     same-length-2

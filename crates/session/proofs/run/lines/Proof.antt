@@ -20,7 +20,7 @@ use Rattle.session.proofs.run.lines.Statement.{statement}
 use Rattle.session.proofs.run.lines.Tie as tie
 
 abbrev Inv-loop : tie.InvT-loop
-Inv-loop verdict part from first number tuples store₀ marks₀ out₀ start buffer₀ core₀ at₀ counter₀ done₀ text₀ left₀ store marks out buffer core at counter done text left =
+Inv-loop verdict part from first number store₀ marks₀ tuples out₀ start buffer₀ core₀ at₀ counter₀ done₀ text₀ left₀ store marks out buffer core at counter done text left =
     (done + left ≤ length part)
     × (length part < 2 ^ 64)
     × (length store ≡ length store₀)
@@ -32,7 +32,7 @@ Inv-loop verdict part from first number tuples store₀ marks₀ out₀ start bu
     × (shown (output out text) (resultOf first (counter .value) done (machine core buffer store marks) (scriptFrom left part tuples at)) ≡ shown (output out₀ text₀) (resultOf first number done₀ (machine core₀ buffer₀ store₀ marks₀) (scriptFrom left₀ part tuples at₀)))
 
 abbrev μ-loop : tie.MeasureT-loop
-μ-loop verdict part from first number tuples store₀ marks₀ out₀ start buffer₀ core₀ at₀ counter₀ done₀ text₀ left₀ store marks out buffer core at counter done text left = left
+μ-loop verdict part from first number store₀ marks₀ tuples out₀ start buffer₀ core₀ at₀ counter₀ done₀ text₀ left₀ store marks out buffer core at counter done text left = left
 
 of-requires : tie.Need-of-requires Inv-loop μ-loop
 of-requires c κs = search needs
@@ -183,7 +183,7 @@ loop-again c =
     let l = c25 .loop in
     let a = c34 .args in
     let r = c11 .by-verdict in
-    let k = r .kept .1 .1 .1 .1 .1 .1 .1 .1 .1 in
+    let k = r .kept .1 .1 .1 .1 .1 .1 .1 .1 in
     let o = output (l .out) (l .text) in
     let e = sym (ap afterOf (c22 .record-at .ensures)) ∙ sym (c21 .after .ensures) ∙ c19 .write .given .1 in
     let t = steady (a .verdict) (machine (l .core) (l .buffer) (l .store) (l .marks)) (accessOf _ _ (a .tuples .now)) _ (l .inv .5) (c15 .count-known .ensures) (c16 .length-known .ensures) (r .ensures) in

@@ -6,10 +6,10 @@ use Rattle.trial.proofs.doors.accesses.Statement.{statement}
 use Rattle.trial.proofs.doors.accesses.Tie as tie
 
 abbrev Inv-loop : tie.InvT-loop
-Inv-loop w tuples store₀ marks₀ space width n c₀ value₀ i₀ store marks c value i = (i ≤ n) × (length store ≡ length store₀) × (length marks ≡ length marks₀)
+Inv-loop w store₀ marks₀ tuples space width n c₀ value₀ i₀ store marks c value i = (i ≤ n) × (length store ≡ length store₀) × (length marks ≡ length marks₀)
 
 abbrev μ-loop : tie.MeasureT-loop
-μ-loop w tuples store₀ marks₀ space width n c₀ value₀ i₀ store marks c value i = n - i
+μ-loop w store₀ marks₀ tuples space width n c₀ value₀ i₀ store marks c value i = n - i
 
 low-requires : tie.Need-low-requires Inv-loop μ-loop
 low-requires c κs = search needs

@@ -1,9 +1,9 @@
 use mathlib.Core.Path.{ap}
-use Rattle.card.specs.Step.{worked, stepped}
+use Rattle.card.specs.Step.{fitStep, stepped}
 use Rattle.port.specs.Data.{Effect}
 use borrow.Author.Needs.{needs}
-use Rattle.card.proofs.work.Statement.{statement}
-use Rattle.card.proofs.work.Tie as tie
+use Rattle.card.proofs.fit_step.Statement.{statement}
+use Rattle.card.proofs.fit_step.Tie as tie
 
 decide-requires : tie.Need-decide-requires
 decide-requires c κs = search needs
@@ -21,14 +21,14 @@ same-length-2 : tie.Need-same-length-2
 same-length-2 c = search needs
 
 returns : tie.Need-returns
-unfolding worked
+unfolding fitStep
 returns c =
     let c5 = c .before .before .before .before .before in
     let c9 = c5 .before .before .before .before in
     simp (c .reply-of .ensures) (ap (λ (x : Effect). stepped x) (simp (c9 .decide .ensures) at (c5 .perform .ensures)))
 
-pub work-spec : {M : Type 1} → statement M
-work-spec =
+pub fit-step-spec : {M : Type 1} → statement M
+fit-step-spec =
     tie.close
     (tie.spec
     decide-requires

@@ -1,0 +1,27 @@
+use Rattle.ground.specs.Choice.{every}
+use Rattle.ground.proofs.Tests.{tests}
+use Rattle.geometry.proofs.Geometry.heads_fit.Statement.{statement}
+use Rattle.geometry.proofs.Geometry.heads_fit.Tie as tie
+
+returns : tie.Need-returns
+unfolding every
+returns c = search tests
+
+returns-2 : tie.Need-returns-2
+unfolding every
+returns-2 c = search tests
+
+returns-3 : tie.Need-returns-3
+unfolding every
+returns-3 c = search tests
+
+returns-4 : tie.Need-returns-4
+unfolding every
+returns-4 c = search tests
+
+returns-5 : tie.Need-returns-5
+unfolding every
+returns-5 c = search tests
+
+pub heads-fit-spec : {M : Type 1} → statement M
+heads-fit-spec = tie.close (tie.spec returns returns-2 returns-3 returns-4 returns-5)
