@@ -26,7 +26,9 @@ REGISTERS = {
     0xE: ("Alternate Status", "Device Control"),
     0xF: ("Drive Address", "Drive Address"),
 }
-DATA = (0x0, 0x8, 0x9)
+WORDS, ODD = (0x0, 0x8), (0x9,)  # the data register by its even and its odd address
+DATA = WORDS + ODD
+NOT_WITH_DRQ = (1, 2, 3, 4, 5, 6, 0xD)  # written without effect while DRQ is set
 
 # The row of each refusal, in 01's words.
 ROWS = {

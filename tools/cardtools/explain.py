@@ -17,18 +17,27 @@ def bits(value, names):
 
 
 class Follower:
-    """Follows what decides a name: mode, map index, the two resets, and what the Error register holds.
+    """Follows what decides a name or a refusal: mode, map setting, the two resets, what the Error register holds, and
+    whether DRQ is known to be set.
 
-    All of it can be told from the session alone: a byte write to attribute 200H with an index up to 3 is always
-    accepted in mode 0, and one to Device Control unless SRESET holds the card.
+    All but the last can be told from the session alone: only row 11 needs to know more of the card, and it stands at
+    the data register.
     """
 
     def __init__(self, mode):
         self.mode = mode
-        self.index = 0
-        self.sreset = False
+        self.option = 0  # Configuration Option as last written
         self.held = False
         self.error = "diagnostic"  # or "flags", "code"
+        self.data_wanted = False  # Status was read as 58H, and nothing since can have cleared DRQ
+
+    @property
+    def index(self):
+        return self.option % 64
+
+    @property
+    def sreset(self):
+        return self.option >= 128
 
     def offset(self, access):
         if not card.answers(access.space, self.mode, self.index):
@@ -45,32 +54,67 @@ class Follower:
             return None
         return card.register_name(self.offset(access), access.write)
 
-    def sets_option(self, access):
-        to_option = (access.write, access.space, access.width, access.address) == (True, 0, 1, OPTION)
-        return to_option and self.mode == 0 and access.value % 64 <= 3
+    def row(self, access):
+        """The row that refuses an access, 8, 7, 6, 9 or 10; None where none of these does."""
+        to_option = (access.space, access.address) == (0, OPTION)
+        if self.sreset and not to_option:
+            return 8
+        if not card.answers(access.space, self.mode, self.index):
+            return 7
+        if self.name(access) is None or access.space == 0 and access.write and not to_option:
+            return 6
+        if access.width == 2 and self.offset(access) not in card.WORDS:
+            return 9
+        return 10 if to_option and access.write and access.value % 64 > 3 else None
+
+    def half_decides(self, access):
+        """Whether row 11 can refuse an access that no other row does."""
+        return not self.held and self.offset(access) in (card.WORDS if access.width == 2 else card.ODD)
+
+    def known(self, access):
+        """The value of an accepted access where the session alone tells it, else None."""
+        if access.write:
+            return access.value
+        if access.space == 0:
+            return self.option if access.address == OPTION else 0xFF
+        return (0x8080 if access.width == 2 else 0x80) if self.held else None
 
     def commands(self, access):
-        return access.write and access.width == 1 and not self.sreset and self.offset(access) == 7
+        return access.write and self.row(access) is None and self.offset(access) == 7
 
     def note(self, access):
         """The name of what stands there; of a Command write the command too."""
         return f"Command: {card.command_name(access.value)}" if self.commands(access) else self.name(access)
 
-    def follow(self, access):
-        """Takes over what the access changes of all this."""
-        if self.sets_option(access):
-            if self.sreset and access.value < 128:
-                self.held, self.error = False, "diagnostic"
-            self.sreset = access.value >= 128
-            self.index = access.value % 64
-        elif self.sreset or not access.write or access.width != 1:
+    def follow(self, access, value=None):
+        """Takes over what an access changes of all this; the value is that of an answer, where there is one."""
+        if self.row(access) is not None:
             return
-        elif self.offset(access) == CONTROL:
-            if self.held and not access.value & 4:
-                self.error = "diagnostic"
-            self.held = bool(access.value & 4)
-        elif self.commands(access) and not self.held:
-            self.error = {0x03: "code", 0x90: "diagnostic"}.get(access.value, "flags")
+        offset = self.offset(access)
+        if access.space == 0:
+            self.set_option(access)
+        elif not access.write:
+            self.data_wanted = value == 0x58 if offset in (7, CONTROL) else self.data_wanted and offset not in card.DATA
+        elif offset == CONTROL:
+            self.set_control(access.value)
+        elif not self.held:
+            self.data_wanted = self.data_wanted and offset not in (7, *card.DATA)
+            if offset == 7:
+                self.error = {0x03: "code", 0x90: "diagnostic"}.get(access.value, "flags")
+
+    def set_option(self, access):
+        if not access.write:
+            return
+        if self.sreset and access.value < 128:
+            self.held, self.error = False, "diagnostic"
+        self.option = access.value
+        self.data_wanted = self.data_wanted and not self.sreset
+
+    def set_control(self, value):
+        if self.held and not value & 4:
+            self.error = "diagnostic"
+        self.held = bool(value & 4)
+        self.data_wanted = self.data_wanted and not self.held
 
 
 # ---- what a value means
@@ -131,12 +175,14 @@ def write_meaning(offset, value, follower):
         return control(value, follower)
     if follower.held:
         return "no effect: Device Control's reset holds the card"
+    if follower.data_wanted and offset in card.NOT_WITH_DRQ:
+        return "no effect while DRQ is set"
     if offset == 7:
         return card.command_name(value)
     if offset == 6:
         return drive_head(value)
     if offset == 2:
-        return "0, which means 256" if value == 0 else str(value)
+        return "0: 256 sectors for a sector command" if value == 0 else str(value)
     if offset == 0xF:
         return "writes here have no effect"
     return {1: "nothing reads it", 0xD: "nothing reads it"}.get(offset, str(value) if offset in (3, 4, 5) else "")
@@ -146,7 +192,7 @@ def meaning(access, value, follower):
     if access.space == 0:
         if access.address == OPTION:
             return option(value, follower)
-        return "end mark" if value == 0xFF else ""
+        return "end mark, the chain has no tuple" if access.address == 0 and value == 0xFF else ""
     return (write_meaning if access.write else read_meaning)(follower.offset(access), value, follower)
 
 
@@ -188,11 +234,6 @@ REASONS = {
 }
 
 
-def refusal(number, access, follower):
-    row = f"refused, row {number}: {card.ROWS.get(number, 'no row of the table')}"
-    return f"{row} ({REASONS[number](access, follower)})" if number in REASONS else row
-
-
 # ---- lines
 
 def place_words(access, follower):
@@ -205,7 +246,7 @@ def explained(access, answer, value, follower):
     """One access with its answer, in words."""
     words = place_words(access, follower)
     if answer:
-        return f"{words}: {refusal(answer, access, follower)}"
+        return f"{words}: refused, row {answer}: {card.ROWS[answer]} ({REASONS[answer](access, follower)})"
     says = meaning(access, value, follower)
     shown = f"{value:0{2 * access.width}X}H"
     return f"{words}: {shown}, {says}" if says else f"{words}: {shown}"
@@ -230,27 +271,61 @@ def opening_fault(opening):
 
 def parted(line, number):
     """A printed line of an access, as (n, letter, answer, value)."""
-    found = re.fullmatch(r"([0-9]{1,5}) ([RW]) ([0-9]{1,2}) ([0-9A-F]{4})", line)
+    found = re.fullmatch(r"([1-9][0-9]{0,4}) ([RW]) (0|[1-9][0-9]?) ([0-9A-F]{4})", line)
     if not found:
         raise Mismatch(f"printed line {number}: '{shortened(line)}' is no line of an access")
     return int(found[1]), found[2], int(found[3]), int(found[4], 16)
 
 
-def access_pairs(records, broken, printed):
+def misfit(access, answer, value, follower):
+    """Why a printed answer can't be the card's for this access; empty where it can."""
+    row = follower.row(access)
+    if row and answer != row:
+        return f"the access is refused by row {row}: {card.ROWS[row]}"
+    if not row and answer and not (answer == 11 and follower.half_decides(access)):
+        return f"row {answer} does not refuse this access"
+    wanted = 0 if answer else follower.known(access)
+    if wanted is not None and value != wanted:
+        return f"the value is {wanted:04X}"
+    return "a byte is 00FF at most" if access.width == 1 and value > 0xFF else ""
+
+
+def access_pairs(records, printed):
     """(printed line, its explanation, whether it is plain data) for each access of a run."""
     follower = Follower(records[0].mode)
-    accesses = [] if broken and broken.place == LONGEST else records[1:]  # a file too long runs nothing
-    for count, access in enumerate(accesses, 1):
+    for count, access in enumerate(records[1:], 1):
         line = printed[count] if count < len(printed) else None
         if line is None:
             raise Mismatch(f"printed line {count + 1}: the output ends, and access {count} of the session has no line")
         n, letter, answer, value = parted(line, count + 1)
         if (n, letter) != (count, "W" if access.write else "R"):
             raise Mismatch(f"printed line {count + 1}: it is '{line}', and the session has {count} {'W' if access.write else 'R'} there")
+        if why := misfit(access, answer, value, follower):
+            raise Mismatch(f"printed line {count + 1}: it is '{line}', and {why}")
         plain = answer == 0 and not follower.held and access.space != 0 and follower.offset(access) in card.DATA
         yield line, explained(access, answer, value, follower), (access._replace(value=0), value) if plain else None
         if answer == 0:
-            follower.follow(access)
+            follower.follow(access, value)
+
+
+def end_pairs(records, broken, printed):
+    """The pairs of all lines after the header: a refused opening, or the accesses and what is broken."""
+    too_long = broken and broken.place == LONGEST  # nothing of it is run
+    fault = opening_fault(records[0]) if records and not too_long else ""
+    if fault:
+        if printed[1:2] != ["open 1"]:
+            raise Mismatch(f"printed line 2: this opening is refused by row 1 ({fault}), and 'open 1' is not there")
+        yield printed[1], f"the opening is refused, row 1: {card.ROWS[1]} ({fault})", None
+        return
+    done = 1
+    for pair in access_pairs(records, printed) if records and not too_long else ():
+        yield pair
+        done += 1
+    if broken:
+        if printed[done:done + 1] != [f"bad {broken.place}"]:
+            raise Mismatch(f"printed line {done + 1}: the session is broken at {broken.place} ({broken.why}), and 'bad {broken.place}' is not there")
+        where = "" if too_long else f"the record at byte {broken.place}: "
+        yield printed[done], f"row 17: {card.ROWS[17]}: {where}{broken.why}", None
 
 
 def pairs_of(records, broken, printed):
@@ -259,23 +334,9 @@ def pairs_of(records, broken, printed):
         raise Mismatch(f"printed line 1: a run begins with the header '{HEADER}'")
     yield printed[0], opening_told(records[0]) if records else "no opening in the file", None
     done = 1
-    if records and len(printed) > 1 and printed[1].startswith("open "):
-        if printed[1] != "open 1" or not opening_fault(records[0]):
-            wanted = "refused by row 1" if opening_fault(records[0]) else "taken"
-            raise Mismatch(f"printed line 2: it is '{shortened(printed[1])}', and this opening is {wanted}")
-        yield printed[1], f"the opening is refused, row 1: {card.ROWS[1]} ({opening_fault(records[0])})", None
-        done = 2
-    else:
-        if records:
-            for pair in access_pairs(records, broken, printed):
-                yield pair
-                done += 1
-        if broken:
-            if done >= len(printed) or printed[done] != f"bad {broken.place}":
-                raise Mismatch(f"printed line {done + 1}: the session is broken at {broken.place} ({broken.why}), and 'bad {broken.place}' is not there")
-            where = "" if broken.place == LONGEST else f"the record at byte {broken.place}: "
-            yield printed[done], f"row 17: {card.ROWS[17]}: {where}{broken.why}", None
-            done += 1
+    for pair in end_pairs(records, broken, printed):
+        yield pair
+        done += 1
     if done < len(printed):
         raise Mismatch(f"printed line {done + 1}: '{shortened(printed[done])}' is more than the session has")
 

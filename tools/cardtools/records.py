@@ -1,4 +1,5 @@
 """The session file (document 01, "Session file"): its records, and what is broken about a file."""
+import re
 import struct
 from typing import NamedTuple
 
@@ -41,9 +42,15 @@ class Broken(Exception):
     """Why a record is broken."""
 
 
-def shortened(word):
-    """A word as a message shows it."""
-    return word if len(word) <= 20 else word[:20] + ".."
+def shortened(word, most=20):
+    """A word as a message shows it: not too long, and what can't be printed as its number."""
+    shown = "".join(letter if letter.isprintable() else letter.encode("unicode_escape").decode() for letter in word[:most])
+    return shown if len(word) <= most else shown + ".."
+
+
+def is_text(file):
+    """Whether a file begins as a text does, and so is no session file."""
+    return bool(re.fullmatch(rb"(\xEF\xBB\xBF)?[\t\n\r -~][\t\n\r -~\x80-\xFF]*", file[:64]))
 
 
 def record_at(file, place):
@@ -95,6 +102,8 @@ def records_of(file):
         place += length
     if len(file) > LONGEST:
         broken = Break(LONGEST, f"the file has {len(file):,} bytes, and {LONGEST:,} is the most; nothing of it is run")
+    if not records and is_text(file):
+        broken = broken._replace(why=f"{broken.why}; the file is text, of which tools/session makes a session file")
     return records, broken
 
 

@@ -6,6 +6,7 @@ from .card import access_words, opening_words
 from .explain import Follower
 from .records import LONGEST, SPACES, Access, Opening, file_of, records_of, shortened, size_of
 
+MOST_REPEATED = 32 * LONGEST  # bytes that one line's repeat may make where the length is not looked at
 MODE_WORDS = {"pc-card": 0, "true-ide": 1}
 MODE_NAMES = {number: word for word, number in MODE_WORDS.items()}
 WIDTHS = {"byte": 1, "word": 2}
@@ -38,10 +39,11 @@ def decimal(word, what):
 def hexadecimal(word, what, most):
     digits = word[:-1] if word[-1:] in ("H", "h") else word
     if not re.fullmatch(r"[0-9A-Fa-f]+", digits):
-        raise Fault(f"{what} is a hexadecimal number, not '{shortened(word)}'")
+        how = " without 0x" if word[:2] in ("0x", "0X") else ""
+        raise Fault(f"{what} is a hexadecimal number{how}, not '{shortened(word)}'")
     number = int(digits, 16)
     if number > most:
-        raise Fault(f"{what} is {word}, and {most:X} is the most")
+        raise Fault(f"{what} is {shortened(word)}, and {most:X} is the most")
     return number
 
 
@@ -68,6 +70,7 @@ def opening_of(words):
 
 
 def accesses_of(verb, words):
+    """The accesses of a line, and how many times they are to be made."""
     words, repeat = take_repeat(words)
     width = 1
     if words and words[0].lower() in WIDTHS:
@@ -85,11 +88,11 @@ def accesses_of(verb, words):
     if verb == "read":
         if values:
             raise Fault(f"a read ends after its address or xN, and here {told(values)} more")
-        return [Access(False, space, width, address, 0)] * repeat
+        return [Access(False, space, width, address, 0)], repeat
     if not values:
         raise Fault("write wants a value after the address")
     what, most = ("the byte", 0xFF) if width == 1 else ("the word", 0xFFFF)
-    return [Access(True, space, width, address, hexadecimal(word, what, most)) for word in values] * repeat
+    return [Access(True, space, width, address, hexadecimal(word, what, most)) for word in values], repeat
 
 
 def bytes_of(words):
@@ -100,69 +103,90 @@ def bytes_of(words):
 
 
 def told(words):
-    return "is nothing" if not words else f"stands '{' '.join(words)}'" if len(words) < 9 else f"are {len(words)} words"
+    return "is nothing" if not words else f"stands '{shortened(' '.join(words), 40)}'" if len(words) < 9 else f"are {len(words)} words"
 
 
 class Maker:
-    """Takes the lines one by one and makes the session file of them."""
+    """Takes the lines one by one and makes the session file of them, or the list of (line, message) of what is wrong."""
 
     def __init__(self):
         self.file = bytearray()
-        self.opened = False
+        self.size = 0  # of the file as the text has it, made or too long to be made
+        self.opened = None  # the line of the first open, good or not
+        self.unopened = False  # an access before any open was told
         self.loose = False  # after a `bytes` line nothing is said about order and length
+        self.faults = []
 
-    def line(self, words):
+    def tell(self, number, message):
+        self.faults.append((number, message))
+
+    def line(self, number, words):
         verb, rest = words[0].lower(), words[1:]
-        if verb == "bytes":
-            self.loose = True
-            self.file += bytes_of(rest)
-        elif verb == "open":
-            opening = opening_of(rest)
-            if self.opened and not self.loose:
-                raise Fault("a session is opened once, and it is open already")
-            self.opened = True
-            self.add(opening.encoded())
-        elif verb in ("read", "write"):
-            accesses = accesses_of(verb, rest)
-            if not self.opened and not self.loose:
-                self.opened = True  # said once
-                raise Fault(f"a session begins with open, and this is a {verb}")
-            self.add(file_of(accesses))
-        else:
-            raise Fault(f"a line begins with open, read, write or bytes, not '{shortened(words[0])}'")
+        try:
+            if verb == "bytes":
+                self.loose = True
+                self.add(bytes_of(rest))
+            elif verb == "open":
+                self.open(number, rest)
+            elif verb in ("read", "write"):
+                self.access(number, verb, rest)
+            else:
+                raise Fault(f"a line begins with open, read, write or bytes, not '{shortened(words[0])}'")
+        except Fault as fault:
+            self.tell(number, str(fault))
 
-    def add(self, record):
-        before = len(self.file)
-        self.file += record
-        if not self.loose and before <= LONGEST < len(self.file):
-            raise Fault(f"the session grows to {len(self.file):,} bytes here, and {LONGEST:,} is the most")
+    def open(self, number, words):
+        first = self.opened
+        self.opened = first or number
+        if first and not self.loose:
+            self.tell(number, f"a session is opened once, and line {first} has an open already")
+        self.add(opening_of(words).encoded())
+
+    def access(self, number, verb, words):
+        if not self.opened and not self.unopened and not self.loose:
+            self.unopened = True
+            self.tell(number, f"a session begins with open, and this is a {verb}")
+        accesses, repeat = accesses_of(verb, words)
+        self.add(file_of(accesses), repeat)
+
+    def add(self, records, repeat=1):
+        """Adds records so many times, if they fit."""
+        before, more = self.size, len(records) * repeat
+        self.size += more
+        if not self.loose and self.size > LONGEST:
+            if before <= LONGEST:
+                raise Fault(f"the session grows to {self.size:,} bytes here, and {LONGEST:,} is the most")
+        elif repeat > 1 and more > MOST_REPEATED:
+            raise Fault(f"this repeat takes {more:,} bytes, and {MOST_REPEATED:,} is the most")
+        else:
+            self.file += records * repeat
 
 
 def decoded(raw):
-    """The text of a file; Bad where it is not UTF-8."""
+    """The text of a file; Bad where it is none: not UTF-8, or with a byte 00H, as every session file has one."""
+    text, at = "", raw.find(b"\0")
     try:
-        return raw.decode("utf-8-sig")
+        text = raw.decode("utf-8-sig")
     except UnicodeDecodeError as fault:
-        line = raw.count(b"\n", 0, fault.start) + 1
-        raise Bad([(line, f"the byte {raw[fault.start]:02X}H is no text (UTF-8); is this a session file already?")]) from None
+        at = fault.start if at < 0 else at
+    if at < 0:
+        return text
+    line = raw.count(b"\n", 0, at) + 1
+    raise Bad([(line, f"the byte {raw[at]:02X}H is no text (UTF-8); is this a session file already?")])
 
 
 def file_from(text):
     """The session file that a text describes; Bad with every fault and its line."""
-    maker, faults = Maker(), []
+    maker = Maker()
     lines = text.split("\n")
     for number, line in enumerate(lines, 1):
         words = line.split("#", 1)[0].split()
-        if not words:
-            continue
-        try:
-            maker.line(words)
-        except Fault as fault:
-            faults.append((number, str(fault)))
-    if not faults and not maker.opened and not maker.loose:
-        faults.append((len(lines), "the text ends without an open"))
-    if faults:
-        raise Bad(faults)
+        if words:
+            maker.line(number, words)
+    if not maker.faults and not maker.opened and not maker.loose:
+        maker.tell(len(lines), "the text ends without an open")
+    if maker.faults:
+        raise Bad(maker.faults)
     return bytes(maker.file)
 
 

@@ -2,6 +2,7 @@
 import os
 import subprocess
 import sys
+import tracemalloc
 
 import made
 from cardtools.explain import Mismatch, annotated
@@ -100,6 +101,10 @@ FAULTS = (
     ("open 4 2 4 1\nbytes 1\n", 2, "two hexadecimal digits"),
     ("open 4 2 4 1\nbytes 0x1F\n", 2, "two hexadecimal digits"),
     ("open 4 2 4 1\nread ide 07 x4094\nread ide 07 x2\nread ide 07\n", 3, "32,768 is the most"),
+    ("open 4 2 4 1\nread ide 0x07\n", 2, "a hexadecimal number without 0x, not '0x07'"),
+    ("open 4 2 4 1\nread ide " + 5000 * "9" + "\n", 2, "is 99999999999999999999.., and FFFF"),
+    ("open 4 2 4 " + 5000 * "1" + " 1\n", 1, "here stands '4 2 4 1111"),
+    ("open 4 2 4 1\nread\x07 ide 07\n", 2, "not 'read\\x07'"),
 )
 
 
@@ -107,16 +112,53 @@ def test_each_fault_is_told_with_its_line():
     for text, line, part in FAULTS:
         faults = fault_of(Bad, file_from, text).faults
         assert faults[0][0] == line and part in faults[0][1], (text, faults)
+        assert all(len(message) < 120 for _, message in faults), text
+
+
+# A text, and the lines of all its faults, each with a part of what is said.
+LISTS = (
+    ("open 4 2 4 1\nfetch\nread ide 07\nread ide zz\nwrite ide 07\n", ((2, "fetch"), (4, "zz"), (5, "wants a value"))),
+    ("open 4 2 4\nread ide 07\nread ide 07\n", ((1, "open takes"),)),
+    ("open 4 2 4\nopen 4 2 4 1\nread ide 07\n", ((1, "open takes"), (2, "line 1 has an open already"))),
+    ("write ide 07 20\nread ide 07\nopen 4 2 4 1\nread ide 07\n", ((1, "begins with open, and this is a write"),)),
+    ("read ide 07\nopen 4 2 4 1\nopen 4 2 4 1\n", ((1, "begins with open"), (3, "line 2 has an open already"))),
+    ("read\nopen 4 2 4 1\n", ((1, "begins with open"), (1, "wants a space"))),
+    ("opne 4 2 4 1\nread ide 07\nread ide 07\n", ((1, "opne"), (2, "begins with open"))),
+    ("open 4 2 4 1\nread ide 07 x5000\nread ide 07\nopen 4 2\n", ((2, "grows to 40,012"), (4, "line 1 has"), (4, "open takes"))),
+)
 
 
 def test_every_fault_of_a_text_is_told():
-    bad = fault_of(Bad, file_from, "open 4 2 4 1\nfetch\nread ide 07\nread ide zz\nwrite ide 07\n")
-    assert [line for line, _ in bad.faults] == [2, 4, 5]
+    for text, wanted in LISTS:
+        faults = fault_of(Bad, file_from, text).faults
+        assert [line for line, _ in faults] == [line for line, _ in wanted], (text, faults)
+        assert all(part in said for (_, said), (_, part) in zip(faults, wanted)), (text, faults)
+
+
+def test_huge_counts_are_told_and_not_made():
+    """2,000 values, each 32,768 times, would take 655 million bytes."""
+    for first, part in (("open 4 2 4 1", "grows to 655,360,012 bytes"), ("bytes", "this repeat takes 655,360,000 bytes")):
+        tracemalloc.start()
+        faults = fault_of(Bad, file_from, f"{first}\nwrite ide 07{2000 * ' 0'} x32768\n").faults
+        _, most = tracemalloc.get_traced_memory()
+        tracemalloc.stop()
+        assert part in faults[0][1] and most < 5_000_000, (faults, most)
+    assert len(file_from("bytes\nwrite ide 07 0 x32768\n")) == 327680
 
 
 def test_a_file_that_is_no_text_is_told_with_its_line():
     assert fault_of(Bad, decoded, b"open 4 2 4 1\n\xff\n").faults[0][0] == 2
     assert decoded(b"\xef\xbb\xbfopen 4 2 4 1\n") == "open 4 2 4 1\n"
+    for file in (file_from(SAMPLE), file_from("open 4 2 4 1\nread ide 07\n")):
+        assert "is this a session file already?" in str(fault_of(Bad, decoded, file))
+
+
+def test_a_text_that_is_no_session_file_is_told():
+    for text in (SAMPLE, "\ufeff" + SAMPLE, "# ä\r\n" + SAMPLE, "open 4 2 4 1\n" + 3000 * "read ide 07\n"):
+        records, broken = records_of(text.encode())
+        assert not records and "the file is text" in broken.why and "the file is text" in text_of(text.encode()).split("\n")[0], broken
+    for file in (b"", bytes(40000), b"\xff\xfe\xfd", file_from(SAMPLE)[4:]):
+        assert "text" not in records_of(file)[1].why
 
 
 def test_the_longest_file_is_taken():
@@ -135,6 +177,13 @@ def test_the_sample_explained():
         assert line.startswith(printed) and part in line, line
 
 
+def test_every_recorded_session_explained():
+    for name in sorted(name[:-4] for name in os.listdir("sessions") if name.endswith(".txt")):
+        with open(f"sessions/{name}.session", "rb") as file, open(f"sessions/{name}.txt", encoding="ascii") as printed:
+            lines = printed.read().splitlines()
+            assert len(list(annotated(*records_of(file.read()), lines))) == len(lines), name
+
+
 def test_names_follow_the_map():
     text = "open 4 2 4 pc-card\nread memory 3F7\nwrite attribute 200 42\nread io 1F7\nread memory 0\nwrite attribute 200 04\nread io 170\nwrite attribute 200 82\nread io 1F7\nwrite attribute 200 1\nread io 3F7\nread io 9\n"
     printed = "n op answer value\n1 R 0 0050\n2 W 0 0042\n3 R 0 0050\n4 R 7 0000\n5 W 10 0000\n6 R 6 0000\n7 W 0 0082\n8 R 8 0000\n9 W 0 0001\n10 R 0 0050\n11 R 0 00FF\n"
@@ -149,6 +198,29 @@ def test_what_error_holds_follows_the_commands():
     parts = ("opening", "diagnostic", "Read Sectors", "IDNF", "Request Sense", "Address Overflow", "holds the card", "holds the card", "no effect", "power-on registers", "diagnostic")
     for line, part in zip(lines_of(text, printed), parts):
         assert part in line, (line, part)
+
+
+def test_row_11_is_taken_where_a_half_word_decides():
+    lines = lines_of("open 4 2 4 1\nwrite ide 07 EC\nread ide 0\nread word ide 0\n", "n op answer value\n1 W 0 00EC\n2 R 0 008A\n3 R 11 0000\n")
+    assert "a word with one half moved" in lines[3], lines
+    lines = lines_of("open 4 2 4 0\nwrite memory 07 EC\nread memory 9 x2\n", "n op answer value\n1 W 0 00EC\n2 R 0 0084\n3 R 11 0000\n")
+    assert "the high half has moved already" in lines[3], lines
+
+
+def test_a_write_while_drq_is_set_is_told():
+    text = "open 4 2 4 1\nwrite ide 7 EC\nwrite ide 2 5\nread ide 7\nwrite ide 2 5\nwrite ide 1 5\nread ide 2\nwrite ide 6 5\n{}\nwrite ide 3 5\n"
+    head = "n op answer value\n1 W 0 00EC\n2 W 0 0005\n3 R 0 0058\n4 W 0 0005\n5 W 0 0005\n6 R 0 0001\n7 W 0 0005\n"
+    for between, printed, told in (("read ide 16", "8 R 0 0058", True), ("write ide 16 2", "8 W 0 0002", True), ("write ide 7 20", "8 W 0 0020", False),
+                                   ("write ide 16 4", "8 W 0 0004", False), ("read word ide 0", "8 R 0 848A", False)):
+        lines = lines_of(text.format(between), f"{head}{printed}\n9 W 0 0005\n")
+        assert [number for number in range(1, 8) if "no effect while DRQ is set" in lines[number]] == [4, 5, 7], lines
+        assert ("no effect while DRQ is set" in lines[9]) == told, lines[9]
+
+
+def test_count_0_and_end_marks_say_no_more_than_is_so():
+    assert "0: 256 sectors for a sector command" in lines_of("open 4 2 4 1\nwrite ide 2 0\n", "n op answer value\n1 W 0 0000\n")[1]
+    lines = lines_of("open 4 2 4 0\nread attribute 0\nread attribute 2\n", "n op answer value\n1 R 0 00FF\n2 R 0 00FF\n")
+    assert ["end mark" in line for line in lines] == [False, True, False], lines
 
 
 def test_broken_and_refused_sessions_explained():
@@ -174,6 +246,38 @@ def test_fold_joins_nothing_in_a_reset():
     assert len(lines) == 7 and all("no effect" in line for line in lines[2:]), lines
 
 
+# A text, printed lines after the header that are another session's, the line that is told, and a part of what is said.
+IDE, PC = "open 4 2 4 true-ide\n", "open 4 2 4 pc-card\n"
+TOO_LONG = "open 33 1 1 1\nread ide 07 x4094\nbytes 00 00 00 00 00\n"
+OTHERS = (
+    ("open 33 1 1 true-ide\nread ide 07\n", "1 R 0 0050\n", 2, "refused by row 1 (it has 33 sectors"),
+    ("open 33 1 1 true-ide\nread ide 07\n", "", 2, "'open 1' is not there"),
+    ("open 33 1 1 true-ide\nread ide 07\n", "open 1\n1 R 0 0050\n", 3, "more than the session has"),
+    (TOO_LONG, "open 1\n", 2, "'bad 32768' is not there"),
+    (IDE, "open 1\n", 2, "more than the session has"),
+    (IDE + "write ide 02 05\n", "1 W 0 0006\n", 2, "the value is 0005"),
+    (IDE + "write ide 02 05\n", "1 W 99 00FF\n", 2, "row 99 does not refuse this access"),
+    (IDE + "read io 07\n", "1 R 7 0051\n", 2, "the value is 0000"),
+    (IDE + "read io 07\n", "1 R 0 0050\n", 2, "refused by row 7"),
+    (IDE + "read ide 07\n", "1 R 7 0000\n", 2, "row 7 does not refuse this access"),
+    (IDE + "read ide 01\n", "1 R 11 0000\n", 2, "row 11 does not refuse this access"),
+    (IDE + "read ide 00\n", "1 R 11 0000\n", 2, "row 11 does not refuse this access"),
+    (IDE + "write ide 16 4\nread word ide 00\n", "1 W 0 0004\n2 R 11 0000\n", 3, "row 11 does not refuse this access"),
+    (IDE + "write ide 16 4\nread ide 07\n", "1 W 0 0004\n2 R 0 0050\n", 3, "the value is 0080"),
+    (IDE + "write ide 16 4\nread word ide 00\n", "1 W 0 0004\n2 R 0 0080\n", 3, "the value is 8080"),
+    (IDE + "read ide 07\n", "1 R 0 0151\n", 2, "a byte is 00FF at most"),
+    (IDE + "read ide 07\n", "01 R 0 0051\n", 2, "no line of an access"),
+    (IDE + "read ide 08\n", "1 R 7 0000\n", 2, "refused by row 6"),
+    (IDE + "read word ide 07\n", "1 R 0 5050\n", 2, "refused by row 9"),
+    (PC + "write word attribute 0 1\n", "1 W 9 0000\n", 2, "refused by row 6"),
+    (PC + "read word memory 9\n", "1 R 11 0000\n", 2, "refused by row 9"),
+    (PC + "write attribute 200 44\n", "1 W 0 0044\n", 2, "refused by row 10"),
+    (PC + "write attribute 200 80\nread word io 0\n", "1 W 0 0080\n2 R 7 0000\n", 3, "refused by row 8"),
+    (PC + "write attribute 200 42\nread attribute 200\n", "1 W 0 0042\n2 R 0 0002\n", 3, "the value is 0042"),
+    (PC + "read attribute 10\n", "1 R 0 0000\n", 2, "the value is 00FF"),
+)
+
+
 def test_output_of_another_session_is_told_with_its_line():
     for printed, part in (("", "line 1"), ("n op\n", "line 1"), (SAMPLE_PRINTED[:40], "line 4"), (SAMPLE_PRINTED + "6 R 0 0000\n", "line 7"),
                           (SAMPLE_PRINTED.replace("3 R", "3 W"), "line 4"), (SAMPLE_PRINTED.replace("2 R 0 0051", "oops"), "line 3"),
@@ -181,6 +285,9 @@ def test_output_of_another_session_is_told_with_its_line():
                           ("n op answer value\n" + 5000 * "1" + " W 0 00FF\n", "line 2")):
         fault = fault_of(Mismatch, lines_of, SAMPLE, printed)
         assert part in str(fault), fault
+    for text, printed, line, part in OTHERS:
+        fault = str(fault_of(Mismatch, lines_of, text, "n op answer value\n" + printed))
+        assert fault.startswith(f"printed line {line}: ") and part in fault, (text, printed, fault)
 
 
 def test_the_command_itself():
@@ -197,6 +304,17 @@ def test_the_command_itself():
 
 def test_wrong_calls_are_told():
     for words in (("--bare",), ("--text", "--annotate"), ("--fold",), ("a", "b"), ("--what",), ("no such file",), ("--annotate", "--run", "no-such-command"),
-                  ("--annotate", "--run", "true"), ("--annotate", "--run", "a 'b"), ("--text", "-o", "x"), ("--annotate", "--printed", "no such file")):
+                  ("--annotate", "--run", "true"), ("--annotate", "--run", "a 'b"), ("--text", "-o", "x"), ("--annotate", "--printed", "no such file"),
+                  ("--run", ""), ("--annotate", "--run", ""), ("--annotate", "--run", " "), ("--annotate", "sessions/sample.session", "--printed", ""),
+                  ("docs/examples/sample.txt", "-o", ""), ("",), ("--text", "--run", ""), ("--annotate", "-", "--printed", "-"), ("--annotate", "--printed", "-")):
         status, _, said = call(*words)
         assert status == 2 and said.startswith("session: "), (words, status, said)
+
+
+def test_closed_and_full_streams_are_told():
+    printing = ("docs/examples/sample.txt", "--text sessions/sample.session", "--help", "--annotate sessions/sample.session --printed sessions/sample.txt")
+    for streams, part, calls in (("> /dev/full", "standard output: No space", printing), (">&-", "standard output: ", printing),
+                                 ("<&-", "standard input: ", ("", "--text", "--annotate"))):
+        for words in calls:
+            done = subprocess.run(f"{sys.executable} {TOOL} {words} {streams}", shell=True, capture_output=True, text=True, check=False)
+            assert done.returncode == 2 and done.stderr.startswith(f"session: {part}") and done.stderr.count("\n") == 1, (words, streams, done)
