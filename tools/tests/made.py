@@ -1,4 +1,5 @@
-"""Session files for the tests, from a fixed seed."""
+"""Session files for the tests, from a fixed seed; and small programs."""
+import os
 import random
 
 from cardtools.records import LONGEST, Access, Opening, file_of
@@ -53,3 +54,13 @@ def damaged(seed, count):
     yield bytes(LONGEST)
     yield bytes(LONGEST + 1)
     yield file_of([Opening(4, 2, 4, 1)] + [Access(False, 3, 1, 7, 0)] * 4095)
+
+
+def program(folder, name, script):
+    """A program of this name in a folder; its path."""
+    os.makedirs(folder, exist_ok=True)
+    path = os.path.join(folder, name)
+    with open(path, "w", encoding="utf-8") as file:
+        file.write(f"#!/bin/sh\n{script}\n")
+    os.chmod(path, 0o755)
+    return path

@@ -3,14 +3,7 @@ import os
 import subprocess
 import tempfile
 
-
-def program(folder, name, script):
-    os.makedirs(folder, exist_ok=True)
-    path = os.path.join(folder, name)
-    with open(path, "w", encoding="utf-8") as file:
-        file.write(f"#!/bin/sh\n{script}\n")
-    os.chmod(path, 0o755)
-    return path
+from made import program
 
 
 def call(command, folder, machine, **more):
@@ -56,3 +49,21 @@ def test_cardrun_says_what_is_not_there():
     with tempfile.TemporaryDirectory() as folder:
         status, printed, said = call(["./cardrun", "sessions/sample.session"], folder, "aarch64", RATTLE_HOME=folder)
         assert (status, printed) == (2, "") and said.startswith("cardrun: the toolchain has no emulator for this processor, aarch64: "), said
+
+
+def test_cardrun_by_a_link_from_another_place():
+    with open("sessions/sample.txt", "rb") as file:
+        wanted = file.read()
+    with tempfile.TemporaryDirectory() as folder:
+        link = os.path.join(folder, "linked")
+        os.symlink(os.path.abspath("cardrun"), link)
+        assert subprocess.run([link, os.path.abspath("sessions/sample.session")], cwd=folder, capture_output=True, check=False).stdout == wanted
+
+
+def test_cardrun_takes_standard_input_and_says_its_usage():
+    with open("sessions/sample.session", "rb") as file, open("sessions/sample.txt", "rb") as wanted:
+        assert subprocess.run(["./cardrun", "-"], stdin=file, capture_output=True, check=False).stdout == wanted.read()
+    for words, status in ((["--help"], 0), (["-h"], 0), (["a", "b"], 2)):
+        done = subprocess.run(["./cardrun", *words], capture_output=True, text=True, check=False)
+        assert done.returncode == status and "usage: ./cardrun [FILE]" in (done.stderr if status else done.stdout), (words, done)
+    assert subprocess.run(["./cardrun", ""], stdin=subprocess.DEVNULL, capture_output=True, text=True, check=False).stderr == "cardrun: no such file: \n"
