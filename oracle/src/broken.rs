@@ -2,8 +2,9 @@
 
 use crate::card::{Access, Geometry};
 use crate::gen::{sub_seed, Case};
-use crate::host::{push_access, Host};
+use crate::host::{push_access, push_opening, Host};
 use crate::rng::Rng;
+use crate::session::LONGEST;
 
 pub fn files(seed: u64, all: &mut Vec<Case>) {
     cuts(all);
@@ -24,7 +25,9 @@ fn words(words: &[u16]) -> Vec<u8> {
 }
 
 fn opening(c: u16, h: u16, s: u16, mode: u16) -> Vec<u8> {
-    words(&[12, 1, c, h, s, mode])
+    let mut out = Vec::new();
+    push_opening(&mut out, [c, h, s, mode]);
+    out
 }
 
 fn write(space: u8, width: u8, address: u16, value: u16) -> Vec<u8> {
@@ -167,15 +170,15 @@ fn openings(all: &mut Vec<Case>) {
 /// Files of the greatest length and beyond, of good and bad content.
 fn lengths(all: &mut Vec<Case>) {
     let full = filled(2, 4092);
-    assert_eq!(full.len(), 32_768);
+    assert_eq!(full.len(), LONGEST);
     add(all, "full".into(), full.clone());
     for more in [1, 4, 8, 7_232, 32_768, 70_000] {
         add(all, format!("long-by-{more}"), [full.clone(), vec![8; more]].concat());
     }
-    for size in [32_767, 32_766, 32_761] {
+    for size in [LONGEST - 1, LONGEST - 2, LONGEST - 7] {
         add(all, format!("full-cut-{size}"), full[..size].to_vec());
     }
-    for size in [4, 32_768, 32_769, 40_000] {
+    for size in [4, LONGEST, LONGEST + 1, 40_000] {
         add(all, format!("zeros-{size}"), vec![0; size]);
     }
     let refused = [opening(33, 1, 1, 0), full[12..].to_vec()].concat();

@@ -123,20 +123,19 @@ fn one(program: &str, case: &Case, expected: &str) -> Result<(), String> {
     Err(difference(case, expected, &String::from_utf8_lossy(&got)))
 }
 
-/// The command, after the launcher that ORACLE_LAUNCHER names, if any.
-fn command(program: &str) -> Command {
+/// The command's words: those of ORACLE_LAUNCHER, one on a line, then the program.
+fn words(program: &str) -> Vec<String> {
     let launcher = std::env::var("ORACLE_LAUNCHER").unwrap_or_default();
-    let mut words = launcher.split_whitespace().chain([program]);
-    let mut command = Command::new(words.next().unwrap_or(program));
-    command.args(words);
-    command
+    launcher.lines().filter(|word| !word.is_empty()).chain([program]).map(String::from).collect()
 }
 
 /// What a program prints for an input.
 fn run(program: &str, input: &[u8]) -> Result<Vec<u8>, String> {
-    let mut command = command(program);
+    let words = words(program);
+    let mut command = Command::new(&words[0]);
+    command.args(&words[1..]);
     command.stdin(Stdio::piped()).stdout(Stdio::piped()).stderr(Stdio::null());
-    let mut child = command.spawn().map_err(|e| format!("can't run {program}: {e}"))?;
+    let mut child = command.spawn().map_err(|e| format!("can't run {}: {e}", words[0]))?;
     let mut stdin = child.stdin.take().ok_or("no standard input")?;
     let mut stdout = child.stdout.take().ok_or("no standard output")?;
     let (sender, receiver) = mpsc::channel();

@@ -4,6 +4,7 @@
 use crate::card::{Access, Answer, Card, Geometry, Half, Lent, Phase};
 use crate::maps::{Mode, ATTRIBUTE, IO, MEMORY, TRUE_IDE};
 use crate::rng::Rng;
+use crate::session;
 use crate::trial;
 
 #[derive(Clone, Copy, PartialEq, Eq, Debug)]
@@ -55,8 +56,7 @@ pub struct Host {
     last: Option<Last>,
 }
 
-pub const FULL_SESSION: usize = 32_768;
-pub const FULL_TRIAL: usize = 65_536;
+const FULL_TRIAL: usize = 65_536;
 const MOST_TRIAL_ACCESSES: usize = 3_000;
 
 impl Host {
@@ -85,7 +85,7 @@ impl Host {
     }
 
     pub fn session(seed: u64, g: Geometry, mode: u16) -> Host {
-        Host::new(Form::Session, seed, g, mode, FULL_SESSION)
+        Host::new(Form::Session, seed, g, mode, session::LONGEST)
     }
 
     pub fn trial(seed: u64, g: Geometry, mode: u16) -> Host {
@@ -94,9 +94,7 @@ impl Host {
 
     fn open(&mut self, g: Geometry, mode: u16) {
         if self.form == Form::Session {
-            for word in [12, 1, g.c, g.h, g.s, mode] {
-                self.out.extend_from_slice(&word.to_le_bytes());
-            }
+            push_opening(&mut self.out, [g.c, g.h, g.s, mode]);
         } else {
             self.lend_right(g);
             self.record(&[1, g.c, g.h, g.s, mode]);
@@ -228,6 +226,13 @@ impl Host {
         self.out[last.at + 14..last.at + 16].copy_from_slice(&last.step.to_le_bytes());
         self.last = Some(last);
         true
+    }
+}
+
+/// Appends an opening (C, H, S, mode) as a record of a session file.
+pub fn push_opening(out: &mut Vec<u8>, fields: [u16; 4]) {
+    for word in [12, 1].into_iter().chain(fields) {
+        out.extend_from_slice(&u16::to_le_bytes(word));
     }
 }
 

@@ -31,42 +31,57 @@ const USAGE: &str = "usage: oracle play < SESSION
        oracle mutants
        oracle selftest
 ORACLE_SEED chooses other inputs than seed 1 for compare, coverage and mutants;
-ORACLE_LAUNCHER is put before the program that compare runs;
+ORACLE_LAUNCHER, one word on a line, is put before the program that compare runs;
 ORACLE_MUTANT plays with one of the small changes that `oracle mutants` lists.";
 
 fn main() -> ExitCode {
     let args: Vec<String> = std::env::args().skip(1).collect();
     let words: Vec<&str> = args.iter().map(String::as_str).collect();
-    let good = match words[..] {
-        ["play" | "trial"] => {
-            mutants::switch(number("ORACLE_MUTANT", 0) as usize);
-            filter(if words[0] == "play" { session::play } else { trial::play })
+    match good(&words) {
+        Ok(true) => ExitCode::SUCCESS,
+        Ok(false) => ExitCode::FAILURE,
+        Err(why) => {
+            eprintln!("{why}");
+            ExitCode::FAILURE
         }
-        ["gen", seed, dir] => write_files(seed, dir),
-        ["compare", cardrun] => compare::compare(seed(), Some(cardrun), None),
-        ["compare", "-", trial] => compare::compare(seed(), None, Some(trial)),
-        ["compare", cardrun, trial] => compare::compare(seed(), Some(cardrun), Some(trial)),
-        ["coverage"] => compare::coverage(seed()),
-        ["mutants"] => compare::mutants(seed()),
-        ["selftest"] => selftest::run(),
-        _ => {
-            eprintln!("{USAGE}");
-            false
-        }
-    };
-    if good {
-        ExitCode::SUCCESS
-    } else {
-        ExitCode::FAILURE
     }
 }
 
-fn seed() -> u64 {
-    number("ORACLE_SEED", 1)
+/// Whether a call ended well, or why it can't be made.
+fn good(words: &[&str]) -> Result<bool, String> {
+    Ok(match *words {
+        ["play"] => played(session::play)?,
+        ["trial"] => played(trial::play)?,
+        ["gen", seed, dir] => write_files(seed.parse().map_err(|_| USAGE)?, dir),
+        ["compare", cardrun] => compare::compare(seed()?, Some(cardrun), None),
+        ["compare", "-", trial] => compare::compare(seed()?, None, Some(trial)),
+        ["compare", cardrun, trial] => compare::compare(seed()?, Some(cardrun), Some(trial)),
+        ["coverage"] => compare::coverage(seed()?),
+        ["mutants"] => compare::mutants(seed()?),
+        ["selftest"] => selftest::run(),
+        _ => return Err(USAGE.into()),
+    })
 }
 
-fn number(name: &str, usual: u64) -> u64 {
-    std::env::var(name).ok().and_then(|s| s.parse().ok()).unwrap_or(usual)
+fn seed() -> Result<u64, String> {
+    number("ORACLE_SEED", 1, u64::MAX)
+}
+
+/// The number that the environment has under a name, if it has one.
+fn number(name: &str, usual: u64, most: u64) -> Result<u64, String> {
+    let Some(value) = std::env::var_os(name) else {
+        return Ok(usual);
+    };
+    let number = value.to_str().and_then(|text| text.parse().ok());
+    number
+        .filter(|&n| n <= most)
+        .ok_or(format!("{name} is {value:?}, and it is a number up to {most}"))
+}
+
+/// Standard input through a player, with one of the small changes if the environment names one.
+fn played(play: fn(&[u8]) -> String) -> Result<bool, String> {
+    mutants::switch(number("ORACLE_MUTANT", 0, mutants::CHANGES.len() as u64)? as usize);
+    Ok(filter(play))
 }
 
 /// Standard input through a player to standard output.
@@ -77,11 +92,7 @@ fn filter(play: fn(&[u8]) -> String) -> bool {
     read.is_ok() && wrote.is_ok()
 }
 
-fn write_files(seed: &str, dir: &str) -> bool {
-    let Ok(seed) = seed.parse() else {
-        eprintln!("{USAGE}");
-        return false;
-    };
+fn write_files(seed: u64, dir: &str) -> bool {
     match compare::write_files(seed, dir) {
         Ok(count) => {
             println!("{count} inputs in {dir}");

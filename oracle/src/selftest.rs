@@ -1,7 +1,7 @@
 //! 01's sample session, its thirteen samples and the old model's errors, checked on this program.
 
 use crate::card::Access;
-use crate::host::push_access;
+use crate::host::{push_access, push_opening};
 use crate::session;
 use crate::trial;
 use crate::tuples::{self, Entry};
@@ -18,7 +18,8 @@ impl Talk {
     /// C 4, H 2, S 4; True IDE is space 3, memory space 1.
     fn new(space: u8) -> Talk {
         let mode = (space == 3) as u16;
-        let file = [12u16, 1, 4, 2, 4, mode].iter().flat_map(|w| w.to_le_bytes()).collect();
+        let mut file = Vec::new();
+        push_opening(&mut file, [4, 2, 4, mode]);
         Talk { file, text: "n op answer value\n".into(), number: 0, space }
     }
 

@@ -6,7 +6,8 @@ use crate::card::{Access, Card, Geometry, Lent};
 use crate::cover::{self, Break};
 use crate::mutants::on;
 
-const LONGEST: usize = 32_768;
+/// Bytes of a file that is run.
+pub const LONGEST: usize = 32_768;
 const MOST_SECTORS: u64 = 32;
 
 /// A sound record.

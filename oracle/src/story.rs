@@ -60,7 +60,7 @@ impl Host {
     }
 
     /// A data access against the direction, or with no transfer at all.
-    pub fn against(&mut self) {
+    fn against(&mut self) {
         let write = match self.card.phase {
             Phase::In => true,
             Phase::Out => false,
@@ -187,7 +187,7 @@ impl Host {
 
 impl Host {
     /// Device Control bit 2 set, things done in the hold, bit 2 cleared.
-    pub fn hold(&mut self) {
+    fn hold(&mut self) {
         let bits = self.rng.byte();
         self.put(0xE, bits | 4);
         for _ in 0..self.rng.below(6) {
@@ -225,7 +225,7 @@ impl Host {
     }
 
     /// SRESET set, accesses while it holds, cleared with some index.
-    pub fn sreset(&mut self) {
+    fn sreset(&mut self) {
         if self.true_ide() {
             return self.silent_space();
         }
@@ -314,7 +314,7 @@ impl Host {
     }
 
     /// One sector command, moved whole or in part, ended or left to what comes.
-    pub fn sector_story(&mut self, opcode: u8) {
+    fn sector_story(&mut self, opcode: u8) {
         self.aim();
         let data = matches!(row(opcode), Row::Read | Row::Write);
         let count = self.some_count(data);
@@ -328,7 +328,7 @@ impl Host {
     }
 
     /// Moves a running transfer whole, or in part and then breaks it off.
-    pub fn move_some(&mut self, sectors: usize) {
+    fn move_some(&mut self, sectors: usize) {
         let style = self.rng.pick(&STYLES);
         self.noise = self.rng.pick(&[0, 0, 5, 30, 100]);
         match self.rng.below(10) {
@@ -406,7 +406,7 @@ impl Host {
     }
 
     /// E4H, the first words or all of it.
-    pub fn show_buffer(&mut self) {
+    fn show_buffer(&mut self) {
         self.put(7, 0xE4);
         let words = self.rng.pick(&[4, 40, 256]);
         let style = self.rng.pick(&STYLES);
@@ -516,7 +516,7 @@ impl Host {
     }
 
     /// Identify, whole or in part.
-    pub fn identify_story(&mut self) {
+    fn identify_story(&mut self) {
         self.put(7, 0xEC);
         self.noise = self.rng.pick(&[0, 0, 10]);
         if self.rng.flip() {
@@ -530,7 +530,7 @@ impl Host {
     }
 
     /// E8H, then E4H.
-    pub fn buffer_story(&mut self) {
+    fn buffer_story(&mut self) {
         self.put(7, 0xE8);
         if self.rng.flip() {
             self.get(0xF);
