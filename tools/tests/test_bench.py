@@ -1,8 +1,12 @@
 """bench/: its sessions, its straight-line check, its plot; and the check itself, on counts."""
+import argparse
+import contextlib
 import importlib.machinery
 import importlib.util
+import io
 import subprocess
 import sys
+import tempfile
 import xml.etree.ElementTree
 
 sys.path.append("bench")
@@ -10,6 +14,7 @@ import plot  # noqa: E402
 import sessions  # noqa: E402
 from cardtools.records import LONGEST, records_of  # noqa: E402
 from faults import fault_of  # noqa: E402
+from made import program  # noqa: E402
 
 LOADER = importlib.machinery.SourceFileLoader("bench_run", "bench/run")
 bench = importlib.util.module_from_spec(importlib.util.spec_from_loader("bench_run", LOADER))
@@ -31,7 +36,7 @@ def test_sessions_are_well_formed_and_equal_each_time():
 def test_the_line_is_straight_or_told():
     line = [(x, 5000 + 200 * x) for x in (1, 800, 1600, 2400, 3200)]
     assert bench.straight("a", "b", line) == 0 and bench.per_access(line) == 200
-    for bent in ([(x, x * x) for x, _ in line], [(x, 200 * x + (90000 if x > 1000 else 0)) for x, _ in line]):
+    for bent in ([(x, x * x) for x, _ in line], [(x, 200 * x + (90000 if x > 1000 else 0)) for x, _ in line], [(x, 200 * x + x * x // 200) for x, _ in line]):
         assert "no straight line" in str(fault_of(bench.Fault, bench.straight, "a", "b", bent))
 
 
@@ -42,6 +47,46 @@ def test_data_transfers_keep_to_their_bound():
     for kind, cost in (("words", 240), ("polling", 900)):
         bench.bounded(Counted, kind, [(0, 5000), (1000, 5000 + 1000 * cost)])
     assert "241.0" in str(fault_of(bench.Fault, bench.bounded, Counted, "bytes", [(0, 5000), (1000, 5000 + 1000 * 241)]))
+
+
+def test_counts_are_named_as_they_are():
+    class Made:
+        def __init__(self, callgrind, trace):
+            self.callgrind, self.trace = callgrind, trace
+
+    with tempfile.TemporaryDirectory() as folder:
+        emulator = program(folder, "emulator", "echo emulator 5")
+        assert bench.counter(Made(False, [emulator])) == "the trace of emulator 5"
+        assert bench.counter(Made(False, False)) == "no counter: accesses answered"
+        assert bench.counter(Made(program(folder, "valgrind", "echo valgrind-4"), False)) == "valgrind-4"
+
+
+def test_the_check_fails_where_nothing_counts():
+    class Uncounted:
+        counted = "accesses answered"
+
+    printed = io.StringIO()
+    with contextlib.redirect_stdout(printed):
+        assert bench.check(Uncounted) == 1
+    assert printed.getvalue().startswith("FAILED no counter: ") and printed.getvalue().endswith("\n0 passed, 1 failed\n"), printed.getvalue()
+
+
+def test_both_programs_are_built_each_time():
+    names, really = [], bench.build
+    bench.build = names.append
+    bench.programs(argparse.Namespace(cardrun=None))
+    bench.build = really
+    assert names == ["oracle", "cardrun"], names
+
+
+def test_wrong_calls_are_told():
+    for words in (("--cardrun", "no-such-program"), ("--cardrun", "x 'y"), ("--cardrun", ""), ("--rounds", "0"), ("--rounds", "x"), ("--what",), ("word",)):
+        done = subprocess.run([sys.executable, "bench/run", *words], capture_output=True, text=True, check=False)
+        assert done.returncode == 2 and done.stderr.startswith("bench: ") and done.stderr.count("\n") == 1, (words, done)
+
+
+def test_a_program_is_looked_for_as_a_shell_does():
+    assert bench.run_once(["sh", "-c", "exit 0"], "README.md") > 0
 
 
 def test_what_stands_by_hand_on_the_page_is_kept():
