@@ -36,9 +36,11 @@ def test_a_tree_with_known_numbers():
         assert cells(lines[3]) == "high 2 0 4 0 0 0 0 0 0 11 –".split(), lines[3]
         assert cells(lines[4]) == "**all** 4 1 10 4 2 14 3 2 1 19 16".split(), lines[4]
         assert cells(call("--root", root).stdout.splitlines()[2])[-2:] == ["–", "–"]
-        for wrong, status in (("other", 1), ("failed", 1), ("none", 2)):
+        with open(os.path.join(root, "binary"), "wb") as file:
+            file.write(b"\x7fELF\xff\xfe")
+        for wrong, status in (("other", 1), ("failed", 1), ("none", 2), ("binary", 1)):
             done = call(os.path.join(root, wrong), "--root", root)
-            assert done.returncode == status and done.stderr.startswith("cost: "), (wrong, done)
+            assert done.returncode == status and done.stderr.startswith("cost: ") and done.stderr.count("\n") == 1, (wrong, done)
 
 
 def test_this_tree_has_a_row_for_each_crate():

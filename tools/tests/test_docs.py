@@ -1,4 +1,4 @@
-"""Every command in the docs is run: each ```sh block of README.md and docs/, as one script at the root.
+"""Every command in the docs is run: each ```sh block of every page, as one script at the root.
 
 A ```text block right after it is what it must print. Those that run elsewhere are listed here with the reason, and
 each is named in the output; so nothing is passed over in silence.
@@ -11,8 +11,8 @@ import subprocess
 # Commands that are not run here, and why.
 ELSEWHERE = {
     "./test": "it is what runs these tests",
-    ".ci/run": "it calls ./test",
-    "rt ci": "./test begins with it",
+    "bench/run --check": "the bench's tests run it",
+    "rt fmt": "it writes",
     "tools/tests/run": "it is what runs these tests",
 }
 # For a quick run by hand: words that begin commands to leave out, as DOCS_WITHOUT="rt bench/run".
@@ -22,7 +22,7 @@ FENCE = re.compile(r"^```(\w*)[ \t]*\n(.*?)^```[ \t]*$", re.M | re.S)
 
 
 def pages():
-    return ["README.md", *sorted(glob.glob("docs/**/*.md", recursive=True)), *sorted(glob.glob("bench/*.md"))]
+    return ["README.md", *(page for folder in ("docs", "bench", "oracle", "sessions") for page in sorted(glob.glob(f"{folder}/**/*.md", recursive=True)))]
 
 
 def blocks_of(page):
@@ -88,6 +88,16 @@ def test_every_command_in_the_docs():
     assert tree() == before, "the commands changed the tree"
 
 
+def test_commands_that_run_elsewhere_are_in_the_docs():
+    lines = {line.strip() for page in pages() for _, script, _ in blocks_of(page) for line in script.splitlines()}
+    assert set(ELSEWHERE) <= lines, set(ELSEWHERE) - lines
+
+
+def test_every_page_is_taken():
+    listed = subprocess.run(["git", "ls-files", "*.md"], capture_output=True, text=True, check=True).stdout.split()
+    assert sorted(listed) == sorted(pages()), set(listed) ^ set(pages())
+
+
 def test_links_in_the_docs_lead_somewhere():
     for page in pages():
         with open(page, encoding="utf-8") as file:
@@ -101,7 +111,7 @@ def test_fences_are_sh_or_text():
     for page in pages():
         with open(page, encoding="utf-8") as file:
             for fence in FENCE.finditer(file.read()):
-                assert fence[1] in ("sh", "text", "rust"), f"{page}: a fence of kind '{fence[1]}': {fence[2][:60]}"
+                assert fence[1] in ("sh", "text"), f"{page}: a fence of kind '{fence[1]}': {fence[2][:60]}"
 
 
 def test_files_that_the_docs_name_are_there():
@@ -117,3 +127,18 @@ def test_must_fail_edits_that_the_docs_name_are_there():
             for names in re.findall(r"must-fail ((?:[a-z_]+/\w+(?:, )?)+)", file.read()):
                 for crate, edit in re.findall(r"([a-z_]+)/(\w+)", names):
                     assert os.path.exists(f"crates/{crate}/must-fail/{edit}.edit"), f"{page}: must-fail {crate}/{edit}"
+
+
+def test_proofs_stand_where_the_docs_say():
+    """proofs/m/f for `f` of src/m.rt, proofs/f for one of lib.rt or main.rt, proofs/T/f for the method `T::f`."""
+    for path in glob.glob("crates/*/proofs/**/Proof.antt", recursive=True):
+        crate, place = path.split("/proofs/")
+        *inside, name, _ = place.split("/")
+        method = inside and not inside[0].islower()
+        text = ""
+        for module in ["*"] if method else inside or ["lib", "main"]:
+            for source in glob.glob(f"{crate}/src/{module}.rt"):
+                with open(source, encoding="utf-8") as file:
+                    text += file.read()
+        begins = rf"^{'    ' if method else ''}(pub(\(crate\))? )?(extern \"C\" )?fn {name}\b"
+        assert len(inside) < 2 and re.search(begins, text, re.M), path

@@ -1,5 +1,6 @@
 """tools/session: round trips, the faults of texts, and runs explained."""
 import os
+import re
 import subprocess
 import sys
 import tracemalloc
@@ -35,6 +36,21 @@ def test_round_trip_of_every_file_in_sessions():
             count += 1
     print(f"       {count} files in sessions/")
     assert count
+
+
+def test_the_page_of_sessions_says_what_they_open():
+    with open("sessions/README.md", encoding="utf-8") as file:
+        page = file.read()
+    names = sorted(name[:-8] for name in os.listdir("sessions") if name.endswith(".session"))
+    assert sorted(re.findall(r"^\| `([\w-]+)` \|", page, re.M)) == names
+    others = {}
+    for name in names:
+        with open(f"sessions/{name}.session", "rb") as file:
+            records, _ = records_of(file.read())
+        if not records or records[0][:3] != (4, 2, 4):
+            others[name] = records and records[0][:3]
+    assert others == {"empty": [], "no-opening": [], "too-large": (33, 1, 1)}, others
+    assert "but for `empty` and `no-opening`, which have no opening, and `too-large`, which asks for C 33, H 1, S 1" in page
 
 
 def test_round_trip_of_well_formed_files():
