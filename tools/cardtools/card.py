@@ -30,24 +30,15 @@ WORDS, ODD = (0x0, 0x8), (0x9,)  # the data register by its even and its odd add
 DATA = WORDS + ODD
 NOT_WITH_DRQ = (1, 2, 3, 4, 5, 6, 0xD)  # written without effect while DRQ is set
 
-# The row of each refusal, in 01's words.
+# The row of each refusal that a session can show, in 01's words.
 ROWS = {
     1: "opening: geometry or mode outside the limits",
-    2: "store of wrong length",
-    3: "marks of wrong length",
-    4: "opening: a mark above 2",
-    5: "tuple buffer of wrong length",
     6: "no register there, or a write to the tuples",
     7: "the space does not answer",
     8: "held by SRESET, and the access is not to attribute 200H",
     9: "width not 1 or 2; a word anywhere but an even data address; a byte write above 255",
     10: "Configuration Option write with index above 3",
     11: "the half word asked for is already moved, or a word is asked for with one half moved",
-    12: "the card value is not well made",
-    13: "tuple chain runs past byte 255 or has no end mark",
-    14: "the tuples to be written take more than 255 bytes",
-    15: "a tuple to be written has code 00H or FFH, or its body lies outside the lent bytes",
-    16: "the lent tuple list has fewer than 127 places",
     17: "session file broken",
 }
 
