@@ -3,7 +3,7 @@
 --     most-entries  so a chain in 256 bytes has at most 127
 --     bounds        the reader's count is within the entries and within the list, where it is not 0 the buffer has 256 bytes, and the list that has so many entries is the reader's
 use mathlib.Core.Path.{_≡_, refl, sym, ap}
-use mathlib.Core.Bool.{Bool, true, false}
+use mathlib.Core.Bool.{Bool, true, false, false≢true}
 use mathlib.Core.List.{List, _∷_, _++_, []}
 use Prim.Native.Nat.{ℕ, zero, suc, _+_, _*_, _<_, _≤_}
 use native.Mathlib.Omega.{arith}
@@ -20,7 +20,6 @@ use Rattle.answers.specs.declared.Refusal.the-variants.{TupleBufferLength, List
 use Rattle.tuples.specs.Chain.{Chain, chainFrom, chainAt}
 use Rattle.tuples.specs.Read.{counted, readOutcome, filled, unlessRefused}
 use Rattle.tuples.specs.declared.Entry.{Entry}
-use Rattle.tuples.proofs.Chains.{yes-no}
 use Rattle.tuples.proofs.Filling.{all}
 use Rattle.answers.proofs.Outcomes.{accepts-not}
 use Rattle.ground.proofs.Picks.{pick-elim}
@@ -31,14 +30,14 @@ Room k n c = c .ended ≡ true → k + 2 * length (c .entries) + 1 ≤ n
 
 pub rooms : (k : ℕ) (r : List ℕ) (at : ℕ) → Room k (length r) (chainFrom k r at)
 unfolding chainFrom
-rooms k [] at = λ p. yes-no (sym p)
+rooms k [] at = λ p. absurd (false≢true p)
 rooms (suc k) (b ∷ r) at = λ p. omega (arith, rooms k r (at + 1) p)
 rooms zero (b ∷ []) at = λ p. omega arith
 rooms zero (b ∷ (n ∷ r)) at =
     let P = Room 0 (length (b ∷ (n ∷ r))) in
     pick-elim P (eqb b 255) _ _ (λ _ p. omega arith)
     (λ _. pick-elim P (eqb b 0) _ _ (λ _ p. omega (arith, rooms zero (n ∷ r) (at + 1) p))
-    (λ _. pick-elim P (leb n (length r)) _ _ (λ _ p. omega (arith, rooms n r (at + 2) p)) (λ _ p. yes-no (sym p))))
+    (λ _. pick-elim P (leb n (length r)) _ _ (λ _ p. omega (arith, rooms n r (at + 2) p)) (λ _ p. absurd (false≢true p))))
 
 pub most-entries : (s : List ℕ) → length s ≡ 256 → chainAt s 0 .ended ≡ true → length (all s) ≤ 127
 most-entries s h e = omega (arith, rooms 0 s 0 e)

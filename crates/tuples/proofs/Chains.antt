@@ -20,12 +20,6 @@ use Rattle.tuples.specs.declared.Step.{Step}
 use Rattle.tuples.specs.declared.Step.the-variants.{Tuple, Null, End, Broken}
 use Rattle.ground.proofs.Lists.{drop-two}
 
-pub yes-no : {A : Type 0} → true ≡ false → A
-yes-no p = let z : _≡_ {A = ℕ} 0 1 = cc in let n : ⊥ = omega arith in absurd n
-
-pub none : {A : Type 0} (e : Entry) (es : List Entry) → [] ≡ e ∷ es → A
-none e es p = let z : _≡_ {A = ℕ} 0 1 = cc in let n : ⊥ = omega arith in absurd n
-
 pub skip : (k : ℕ) (r : List ℕ) (at : ℕ) → chainFrom k r at ≡ chainFrom 0 (drop k r) (at + k)
 unfolding chainFrom
 skip zero r at = ap (chainFrom 0 r) (sym (add-zero at))

@@ -3,11 +3,11 @@
 --     made-is           the first places of an array that one entry was stored in are the list to be written
 --     back-refused, back-written      a refused reading is the answer, and else the writing of the entries read
 use mathlib.Core.Path.{_≡_, refl, sym, _∙_, ap}
-use mathlib.Core.Bool.{Bool, true, false}
+use mathlib.Core.Bool.{Bool, true, false, true≢false, false≢true}
 use mathlib.Core.List.{List, _∷_, _++_, []}
 use Prim.Native.Nat.{ℕ, zero, suc, _<_, _≤_, _-_, min}
 use native.Mathlib.Omega.{arith}
-use lib.ListN.{length, getD, take, drop, set, replicate, length-replicate}
+use lib.ListN.{length, getD, take, drop, set, replicate, length-replicate, List·getD-eq-default}
 use lib.Seq.{take-at, take-suc-set}
 use lib.Dec.{ltb}
 use borrow.Author.Tests.{ltb-true, ltb-false, ne-eqb}
@@ -19,34 +19,22 @@ use Rattle.tuples.specs.Chain.{noEntry}
 use Rattle.tuples.specs.Read.{readOutcome, readList, filled, unlessRefused, handed, heldAfter}
 use Rattle.tuples.specs.Write.{made, lastPlace, Writes, WritesBack, writeOutcome, backOutcome, filledUp, tupleBytes}
 use Rattle.tuples.specs.declared.Entry.{Entry}
-use Rattle.tuples.proofs.Chains.{yes-no}
 use Rattle.tuples.proofs.Filling.{all}
 use Rattle.tuples.proofs.Bounds.{bounds}
-use Rattle.tuples.proofs.Fills.{drop-rep}
-use Rattle.ground.proofs.Lists.{take-replicate}
+use Rattle.ground.proofs.Lists.{take-replicate, drop-replicate, getD-replicate}
 
 -- ---- what a place holds after reading
-beyond-rep : {A : Type 0} (m j : ℕ) (x : A) → getD (replicate m x) j x ≡ x
-beyond-rep zero j x = refl
-beyond-rep (suc m) zero x = refl
-beyond-rep (suc m) (suc j) x = beyond-rep m j x
-
 -- what stands after the entries is as good as nothing
-getD-rep : {A : Type 0} (es : List A) (m j : ℕ) (x : A) → getD (es ++ replicate m x) j x ≡ getD es j x
-getD-rep [] m j x = beyond-rep m j x
-getD-rep (e ∷ es) m zero x = refl
-getD-rep (e ∷ es) m (suc j) x = getD-rep es m j x
-
-beyond : {A : Type 0} (es : List A) (j : ℕ) (x : A) → length es ≤ j → getD es j x ≡ x
-beyond [] j x h = refl
-beyond (e ∷ es) zero x h = let z : ⊥ = omega arith in absurd z
-beyond (e ∷ es) (suc j) x h = beyond es j x (omega arith)
+getD-replicate-after : {A : Type 0} (es : List A) (m j : ℕ) (x : A) → getD (es ++ replicate m x) j x ≡ getD es j x
+getD-replicate-after [] m j x = getD-replicate m j x
+getD-replicate-after (e ∷ es) m zero x = refl
+getD-replicate-after (e ∷ es) m (suc j) x = getD-replicate-after es m j x
 
 -- a place of the list is the chain's entry of its number, or what the list held
 by-answer : (s : List ℕ) (m j : ℕ) (x : Entry) (o : Outcome) → readOutcome s m ≡ o → getD (unlessRefused o (filled (all s) (replicate m x)) (replicate m x)) j x ≡ getD (unlessRefused o (all s) []) j x
 by-answer s m j x (Accepted n) e =
-    ap (λ (l : List Entry). getD (all s ++ l) j x) (drop-rep (length (all s)) m x) ∙ getD-rep (all s) (m - length (all s)) j x
-by-answer s m j x (Refused y) e = beyond-rep m j x
+    ap (λ (l : List Entry). getD (all s ++ l) j x) (drop-replicate (length (all s)) m x) ∙ getD-replicate-after (all s) (m - length (all s)) j x
+by-answer s m j x (Refused y) e = getD-replicate m j x
 
 place-holds : (s : List ℕ) (m j : ℕ) (x : Entry) → getD (readList s (replicate m x)) j x ≡ getD (unlessRefused (readOutcome s m) (all s) []) j x
 place-holds s m j x =
@@ -61,12 +49,12 @@ by-number es i x h true e = ap (λ (j : ℕ). getD es j x) (omega (arith, ltb-tr
 by-number es i x h false e =
     let far : length es ≤ i = omega (arith, ltb-false i 255 e) in
     let last : length es ≤ min i 255 = omega (arith, ltb-false i 255 e) in
-    beyond es (min i 255) x last ∙ sym (beyond es i x far)
+    List·getD-eq-default es x last ∙ sym (List·getD-eq-default es x far)
 
 -- in an array of 256, of which the first m places were lent, all numbers from 255 on name the last place
 held-place : (s : List ℕ) (m i : ℕ) (x : Entry) → getD (readList s (replicate m x) ++ replicate (256 - m) x) (min i 255) x ≡ getD (readList s (replicate m x)) i x
 held-place s m i x =
-    getD-rep (readList s (replicate m x)) (256 - m) (min i 255) x
+    getD-replicate-after (readList s (replicate m x)) (256 - m) (min i 255) x
     ∙ place-holds s m (min i 255) x
     ∙ by-number (unlessRefused (readOutcome s m) (all s) []) i x (few s m x (readOutcome s m) refl) (ltb i 255) refl
     ∙ sym (place-holds s m i x)
@@ -83,7 +71,7 @@ module _ (s : List ℕ) (places i m p : ℕ) (x : Entry) (ls zs : List Entry) (e
   held-entry ep e =
       ap (λ (j : ℕ). getD (zs ++ drop m ls) j x) ep
       ∙ ap (λ (l : List Entry). getD (l ++ drop m ls) (min i 255) x) (e ∙ ap (readList s) lent)
-      ∙ ap (λ (l : List Entry). getD (readList s (replicate m x) ++ l) (min i 255) x) (ap (drop m) all-x ∙ drop-rep m 256 x)
+      ∙ ap (λ (l : List Entry). getD (readList s (replicate m x) ++ l) (min i 255) x) (ap (drop m) all-x ∙ drop-replicate m 256 x)
       ∙ held-place s m i x
       ∙ ap (λ (j : ℕ). getD (readList s (replicate j x)) i x) em
 
@@ -103,21 +91,21 @@ made-is (suc j) e f h =
 
 -- ---- written back
 pub back-refused : (s os : List ℕ) (o : Outcome) → o ≡ readOutcome s 127 → refused o ≡ true → WritesBack s os o os
-back-refused s os (Accepted n) e h = yes-no (sym h)
+back-refused s os (Accepted n) e h = absurd (false≢true h)
 back-refused s os (Refused x) e h =
     let w = writeOutcome s (all s) (length os) in
     let b : Refused x ≡ backOutcome s (length os) = ap (λ (o : Outcome). unlessRefused o w o) e in
     (b, ap (λ (o : Outcome). unlessRefused o (filledUp (tupleBytes s (all s))) os) b)
 
 pub read-all : (s : List ℕ) (ls : List Entry) (o : Outcome) → length ls ≡ 127 → o ≡ readOutcome s 127 → refused o ≡ false → take (outcomeValue o) (readList s ls) ≡ all s
-read-all s ls (Refused x) l e h = yes-no h
+read-all s ls (Refused x) l e h = absurd (true≢false h)
 read-all s ls (Accepted n) l e h =
     let f = e ∙ ap (readOutcome s) (sym l) in
     ap (λ (o : Outcome). take n (unlessRefused o (filled (all s) ls) ls)) (sym f)
     ∙ take-at (all s) (drop (length (all s)) ls) n (sym (bounds s ls .few n (sym f) .0))
 
 pub back-written : (s os : List ℕ) (o r : Outcome) (z : List ℕ) → o ≡ readOutcome s 127 → refused o ≡ false → Writes s (all s) os r z → WritesBack s os r z
-back-written s os (Refused x) r z e h w = yes-no h
+back-written s os (Refused x) r z e h w = absurd (true≢false h)
 back-written s os (Accepted n) r z e h w =
     let b : writeOutcome s (all s) (length os) ≡ backOutcome s (length os) = ap (λ (o : Outcome). unlessRefused o (writeOutcome s (all s) (length os)) o) e in
     (w .0 ∙ b, w .1 ∙ ap (λ (o : Outcome). unlessRefused o (filledUp (tupleBytes s (all s))) os) b)

@@ -3,7 +3,7 @@
 --     Filling       k of n entries are written over ls, and the chain's other entries are those from `at` on; `start`, `more`: none is written; one more is
 use mathlib.Core.Path.{_≡_, refl, sym, _∙_, ap}
 use mathlib.Core.Bool.{Bool, true, false}
-use mathlib.Core.List.{List, _∷_, _++_, []}
+use mathlib.Core.List.{List, _∷_, _++_, nil≢cons, []}
 use Prim.Native.Nat.{ℕ, suc, _+_, _^_, _<_, _≤_}
 use native.Mathlib.Omega.{arith}
 use native.Mathlib.Numerals.{add-one}
@@ -14,7 +14,7 @@ use Rattle.ground.specs.Choice.{pick}
 use Rattle.tuples.specs.Chain.{Chain, stop, grow, entry, noEntry, endOf, chainFrom, chainAt, nextAt, firstFound, found}
 use Rattle.tuples.specs.declared.Entry.{Entry}
 use Rattle.tuples.specs.declared.Found.{Found}
-use Rattle.tuples.proofs.Chains.{none, body}
+use Rattle.tuples.proofs.Chains.{body}
 
 abbrev pub all : List ℕ → List Entry
 all s = chainAt s 0 .entries
@@ -28,9 +28,9 @@ after-two s at b n r d = sym (drop-drop 2 at s) ∙ ap (drop 2) d
 
 by-code : (s : List ℕ) (at b n : ℕ) (r : List ℕ) (X : Chain) (t u v : Bool) → drop (at + 2) s ≡ r → Onward s (X .entries)
     → Onward s (pick t (stop true) (pick u X (pick v (grow (entry b (at + 2) n) (chainFrom n r (at + 2))) (stop false))) .entries)
-by-code s at b n r X true u v d on e es p = none e es p
+by-code s at b n r X true u v d on e es p = absurd (nil≢cons p)
 by-code s at b n r X false true v d on e es p = on e es p
-by-code s at b n r X false false false d on e es p = none e es p
+by-code s at b n r X false false false d on e es p = absurd (nil≢cons p)
 by-code s at b n r X false false true d on e es p =
     let first : entry b (at + 2) n ≡ e = cc in
     let others : chainFrom n r (at + 2) .entries ≡ es = cc in
@@ -39,8 +39,8 @@ by-code s at b n r X false false true d on e es p =
 
 onward-by : (s r : List ℕ) (at : ℕ) → drop at s ≡ r → Onward s (chainFrom 0 r at .entries)
 unfolding chainFrom
-onward-by s [] at d = λ e es p. none e es p
-onward-by s (b ∷ []) at d = λ e es p. none e es p
+onward-by s [] at d = λ e es p. absurd (nil≢cons p)
+onward-by s (b ∷ []) at d = λ e es p. absurd (nil≢cons p)
 onward-by s (b ∷ (n ∷ r)) at d =
     by-code s at b n r (chainFrom 0 (n ∷ r) (at + 1)) (eqb b 255) (eqb b 0) (leb n (length r)) (after-two s at b n r d)
     (onward-by s (n ∷ r) (at + 1) (sym (drop-drop 1 at s) ∙ ap (drop 1) d))

@@ -1,5 +1,4 @@
 -- Bytes after bytes, and FFH after them.
---     drop-rep      what is left of a row of the same
 --     put           a tuple's code, link and body, set after the bytes p of a page that is FFH from there on
 use mathlib.Core.Path.{_≡_, sym, _∙_, ap}
 use mathlib.Core.List.{List, _∷_, _++_, append-assoc, []}
@@ -7,12 +6,8 @@ use Prim.Native.Nat.{ℕ, zero, suc, _+_, _≤_, _-_}
 use native.Mathlib.Omega.{arith}
 use lib.ListN.{length, take, drop, set, replicate, length-append}
 use lib.Seq.{paste, set-append-seam, set-at, append-snoc, take-at, drop-append-add}
+use Rattle.ground.proofs.Lists.{drop-replicate}
 use Rattle.tuples.specs.Write.{filledUp}
-
-pub drop-rep : {A : Type 0} (n k : ℕ) (x : A) → drop n (replicate k x) ≡ replicate (k - n) x
-drop-rep zero k x = let e : k ≡ k - 0 = omega arith in ap (λ (j : ℕ). replicate j x) e
-drop-rep (suc n) zero x = let e : 0 ≡ 0 - suc n = omega arith in ap (λ (j : ℕ). replicate j x) e
-drop-rep (suc n) (suc k) x = let e : k - n ≡ suc k - suc n = omega arith in drop-rep n k x ∙ ap (λ (j : ℕ). replicate j x) e
 
 -- a tuple is put after the bytes p
 pub put : (p s : List ℕ) (c n : ℕ) → length (take n s) ≡ n → length p + 2 + n ≤ 255
@@ -33,7 +28,7 @@ put p s c n long fits =
     ∙ set-at (p ++ (c ∷ [])) 255 R n (length p + 1) lc
     ∙ append-assoc p (c ∷ []) (n ∷ R)
     ∙ sym (append-assoc p (c ∷ (n ∷ [])) R) in
-    let rest : drop (length p + 2 + n) (h ++ R) ≡ replicate (k - n) 255 = ap (λ (j : ℕ). drop (j + n) (h ++ R)) (sym lh) ∙ drop-append-add h R n ∙ drop-rep n k 255 in
+    let rest : drop (length p + 2 + n) (h ++ R) ≡ replicate (k - n) 255 = ap (λ (j : ℕ). drop (j + n) (h ++ R)) (sym lh) ∙ drop-append-add h R n ∙ drop-replicate n k 255 in
     ap (λ (l : List ℕ). paste l (length p + 2) s n) two
     ∙ ap (λ (l : List ℕ). l ++ take n s ++ drop (length p + 2 + n) (h ++ R)) (take-at h R (length p + 2) lh)
     ∙ ap (λ (l : List ℕ). h ++ take n s ++ l) rest

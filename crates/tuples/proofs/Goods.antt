@@ -1,6 +1,6 @@
 -- What a tuple that may be written is known to be.
-use mathlib.Core.Path.{_≡_, refl, sym}
-use mathlib.Core.Bool.{Bool, true, false}
+use mathlib.Core.Path.{_≡_, refl}
+use mathlib.Core.Bool.{Bool, true, false, false≢true}
 use mathlib.Core.List.{List}
 use Prim.Native.Nat.{ℕ, _+_, _≤_}
 use native.Mathlib.Omega.{arith}
@@ -11,14 +11,13 @@ use borrow.Author.Tests.{leb-true}
 use Rattle.ground.specs.Choice.{pick}
 use Rattle.tuples.specs.Write.{good, bodyOf}
 use Rattle.tuples.specs.declared.Entry.{Entry}
-use Rattle.tuples.proofs.Chains.{yes-no}
 
 pub both-of : (t u : Bool) → pick t u false ≡ true → (t ≡ true) × (u ≡ true)
 both-of true u p = (refl, p)
-both-of false u p = yes-no (sym p)
+both-of false u p = absurd (false≢true p)
 
 not-first : (t u : Bool) → pick t false u ≡ true → (t ≡ false) × (u ≡ true)
-not-first true u p = yes-no (sym p)
+not-first true u p = absurd (false≢true p)
 not-first false u p = (refl, p)
 
 pub record Good (bs : List ℕ) (e : Entry) : Type 0 where

@@ -1,6 +1,6 @@
 -- A link FFH would need 255 bytes of body after it, and 256 have at most 254 left: so the reader refuses the chain with 13.
-use mathlib.Core.Path.{_≡_, refl, sym, _∙_}
-use mathlib.Core.Bool.{Bool, true, false}
+use mathlib.Core.Path.{_≡_, refl, _∙_}
+use mathlib.Core.Bool.{Bool, true, false, false≢true}
 use mathlib.Core.List.{List, _∷_, []}
 use Prim.Native.Nat.{ℕ, zero, suc, _+_, _≤_, _<_}
 use native.Mathlib.Omega.{arith}
@@ -14,11 +14,10 @@ use Rattle.answers.specs.declared.Refusal.the-variants.{ChainBroken}
 use Rattle.tuples.specs.Chain.{Chain, stop, grow, entry, chainFrom, linkFF}
 use Rattle.tuples.specs.Read.{readOutcome, counted, Reads}
 use Rattle.tuples.specs.declared.Entry.{Entry}
-use Rattle.tuples.proofs.Chains.{yes-no}
 
 by-code : (r : List ℕ) (b n at : ℕ) (X Z : Chain) (f g : Bool) (t u v : Bool) → length r ≤ 254 → leb n (length r) ≡ v → (f ≡ true → X .ended ≡ false) → (g ≡ true → Z .ended ≡ false)
     → pick t false (pick u f (pick (eqb n 255) true g)) ≡ true → pick t (stop true) (pick u X (pick v (grow (entry b (at + 2) n) Z) (stop false))) .ended ≡ false
-by-code r b n at X Z f g true u v l h on-null on-tuple p = yes-no (sym p)
+by-code r b n at X Z f g true u v l h on-null on-tuple p = absurd (false≢true p)
 by-code r b n at X Z f g false true v l h on-null on-tuple p = on-null p
 by-code r b n at X Z f g false false false l h on-null on-tuple p = refl
 by-code r b n at X Z f g false false true l h on-null on-tuple p =
@@ -30,7 +29,7 @@ ff-breaks : (k : ℕ) (r : List ℕ) (at : ℕ) → length r ≤ 256 → linkFF 
 unfolding linkFF chainFrom
 ff-breaks k [] at l p = refl
 ff-breaks (suc k) (b ∷ r) at l p = ff-breaks k r (at + 1) (omega arith) p
-ff-breaks zero (b ∷ []) at l p = yes-no (sym p)
+ff-breaks zero (b ∷ []) at l p = absurd (false≢true p)
 ff-breaks zero (b ∷ (n ∷ r)) at l p =
     by-code r b n at (chainFrom 0 (n ∷ r) (at + 1)) (chainFrom n r (at + 2)) (linkFF 0 (n ∷ r)) (linkFF n r) (eqb b 255) (eqb b 0) (leb n (length r)) (omega arith) refl
     (ff-breaks 0 (n ∷ r) (at + 1) (omega arith)) (ff-breaks n r (at + 2) (omega arith)) p

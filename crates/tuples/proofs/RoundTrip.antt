@@ -3,7 +3,7 @@
 --     same-codes, same-bodies     so the codes are the same, and each body
 --     back        a chain's tuples, written over its own bytes, are the chain up to its end mark, null tuples dropped; none of them is bad, and they fit
 use mathlib.Core.Path.{_≡_, refl, sym, _∙_, ap}
-use mathlib.Core.Bool.{Bool, true, false}
+use mathlib.Core.Bool.{Bool, true, false, false≢true}
 use mathlib.Core.List.{List, _∷_, _++_, map, append-assoc, []}
 use Prim.Native.Nat.{ℕ, zero, suc, _+_, _≤_}
 use native.Mathlib.Omega.{arith}
@@ -15,7 +15,7 @@ use Rattle.ground.specs.Choice.{pick}
 use Rattle.tuples.specs.Chain.{Chain, stop, grow, entry, chainFrom}
 use Rattle.tuples.specs.Write.{good, bodyOf, tupleBytes, allGood, nullsDropped}
 use Rattle.tuples.specs.declared.Entry.{Entry}
-use Rattle.tuples.proofs.Chains.{yes-no, skip}
+use Rattle.tuples.proofs.Chains.{skip}
 use Rattle.tuples.proofs.Filling.{after-two}
 use Rattle.tuples.proofs.Goods.{both-of, is-good, long-body}
 
@@ -113,12 +113,12 @@ by-code s at b n r X Z true u v h255 h0 d on-null on-tuple p = record { same = s
 by-code s at b n r X Z false true v h255 h0 d on-null on-tuple p =
     let back = on-null p in
     record { same = simp (h255, h0) (back .same); all-good = back .all-good; short = omega (arith, back .short) }
-by-code s at b n r X Z false false false h255 h0 d on-null on-tuple p = yes-no (sym p)
+by-code s at b n r X Z false false false h255 h0 d on-null on-tuple p = absurd (false≢true p)
 by-code s at b n r X Z false false true h255 h0 d on-null on-tuple p = in-front s at b n r (Z .entries) h255 h0 (after-two s at b n r d) (on-tuple p)
 
 pub back : (s : List ℕ) (k : ℕ) (r : List ℕ) (at : ℕ) → drop at s ≡ r → chainFrom k r at .ended ≡ true → Back s k r (chainFrom k r at .entries)
 unfolding chainFrom nullsDropped tupleBytes allGood
-back s k [] at d p = yes-no (sym p)
+back s k [] at d p = absurd (false≢true p)
 back s (suc k) (b ∷ r) at d p =
     let ih = back s k r (at + 1) (sym (drop-drop 1 at s) ∙ ap (drop 1) d) p in
     record { same = ap (λ (l : List ℕ). b ∷ l) (ih .same); all-good = ih .all-good; short = omega (arith, ih .short) }
