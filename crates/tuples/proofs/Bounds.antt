@@ -1,8 +1,8 @@
 -- How many entries a chain has, and so what is known of the reader's answer.
---     rooms         a tuple takes two bytes and the end mark one
---     most-entries  so a chain in 256 bytes has at most 127
+--     most-entries  a tuple takes two bytes and the end mark one, so a chain in 256 bytes has at most 127 tuples
+--     read-well     an accepted reading: the three tests passed, and the count is that of the entries
 --     bounds        the reader's count is within the entries and within the list, where it is not 0 the buffer has 256 bytes, and the list that has so many entries is the reader's
-use mathlib.Core.Path.{_≡_, refl, sym, ap}
+use mathlib.Core.Path.{_≡_, refl, sym, _∙_, ap}
 use mathlib.Core.Bool.{Bool, true, false, false≢true}
 use mathlib.Core.List.{List, _∷_, _++_, []}
 use Prim.Native.Nat.{ℕ, zero, suc, _+_, _*_, _<_, _≤_}
@@ -15,7 +15,6 @@ use Rattle.ground.specs.Choice.{pick}
 use Rattle.answers.specs.Answers.{outcomeValue}
 use Rattle.answers.specs.declared.Outcome.{Outcome}
 use Rattle.answers.specs.declared.Outcome.the-variants.{Accepted, Refused}
-use Rattle.answers.specs.declared.Refusal.{Refusal}
 use Rattle.answers.specs.declared.Refusal.the-variants.{TupleBufferLength, ListTooShort, ChainBroken}
 use Rattle.tuples.specs.Chain.{Chain, chainFrom, chainAt}
 use Rattle.tuples.specs.Read.{counted, readOutcome, filled, unlessRefused}
@@ -28,7 +27,7 @@ use Rattle.ground.proofs.Picks.{pick-elim}
 abbrev Room : ℕ → ℕ → Chain → Type 0
 Room k n c = c .ended ≡ true → k + 2 * length (c .entries) + 1 ≤ n
 
-pub rooms : (k : ℕ) (r : List ℕ) (at : ℕ) → Room k (length r) (chainFrom k r at)
+rooms : (k : ℕ) (r : List ℕ) (at : ℕ) → Room k (length r) (chainFrom k r at)
 unfolding chainFrom
 rooms k [] at = λ p. absurd (false≢true p)
 rooms (suc k) (b ∷ r) at = λ p. omega (arith, rooms k r (at + 1) p)
@@ -42,37 +41,41 @@ rooms zero (b ∷ (n ∷ r)) at =
 pub most-entries : (s : List ℕ) → length s ≡ 256 → chainAt s 0 .ended ≡ true → length (all s) ≤ 127
 most-entries s h e = omega (arith, rooms 0 s 0 e)
 
+-- ---- what an accepted reading says
+pub record ReadWell (s : List ℕ) (places n : ℕ) : Type 0 where
+  pub sized : length s ≡ 256
+  pub enough : 127 ≤ places
+  pub ended : chainAt s 0 .ended ≡ true
+  pub count : n ≡ length (all s)
+
+read-by : (s : List ℕ) (places n : ℕ) (t u v : Bool) → eqb (length s) 256 ≡ t → leb 127 places ≡ u → chainAt s 0 .ended ≡ v
+    → pick t (pick u (pick v (Accepted (length (all s))) (Refused ChainBroken)) (Refused ListTooShort)) (Refused TupleBufferLength) ≡ Accepted n → ReadWell s places n
+read-by s places n true true true a b c p = let q : length (all s) ≡ n = cc in record { sized = eqb-true (length s) 256 a; enough = leb-true 127 places b; ended = c; count = sym q }
+read-by s places n true true false a b c p = accepts-not n ChainBroken (sym p)
+read-by s places n true false v a b c p = accepts-not n ListTooShort (sym p)
+read-by s places n false u v a b c p = accepts-not n TupleBufferLength (sym p)
+
+pub read-well : (s : List ℕ) (places n : ℕ) → readOutcome s places ≡ Accepted n → ReadWell s places n
+unfolding readOutcome counted
+read-well s places n p = read-by s places n (eqb (length s) 256) (leb 127 places) (chainAt s 0 .ended) refl refl refl p
+
 -- ---- the reader's answer
 pub record Bounds (s : List ℕ) (ls : List Entry) (o : Outcome) : Type 0 where
   pub in-es : outcomeValue o ≤ length (all s)
   pub in-ls : outcomeValue o ≤ length ls
   pub sized : 0 < outcomeValue o → length s ≡ 256
-  pub few : (n : ℕ) → o ≡ Accepted n → (n ≡ length (all s)) × (length (all s) ≤ 127)
   pub left : take (outcomeValue o) (all s) ++ drop (outcomeValue o) ls ≡ unlessRefused o (filled (all s) ls) ls
 
-of-none : (s : List ℕ) (ls : List Entry) (x : Refusal) → Bounds s ls (Refused x)
-of-none s ls x = record { in-es = omega arith; in-ls = omega arith; sized = λ p. let z : ⊥ = omega arith in absurd z; few = λ n p. accepts-not n x (sym p); left = refl }
-
-by-end : (s : List ℕ) (ls : List Entry) → length s ≡ 256 → 127 ≤ length ls → (t : Bool) → chainAt s 0 .ended ≡ t → Bounds s ls (pick t (Accepted (length (all s))) (Refused ChainBroken))
-by-end s ls h l true e =
+by-answer : (s : List ℕ) (ls : List Entry) (o : Outcome) → readOutcome s (length ls) ≡ o → Bounds s ls o
+by-answer s ls (Accepted n) e =
+    let ok = read-well s (length ls) n e in
     record {
-      in-es = omega arith;
-      in-ls = omega (arith, most-entries s h e);
-      sized = λ p. h;
-      few = λ n p. let q : length (all s) ≡ n = cc in (sym q, most-entries s h e);
-      left = ap (λ (es : List Entry). es ++ drop (length (all s)) ls) (take-all (length (all s)) (all s) (omega arith));
+      in-es = omega (arith, ok .count);
+      in-ls = omega (arith, ok .count, ok .enough, most-entries s (ok .sized) (ok .ended));
+      sized = λ p. ok .sized;
+      left = ap (λ (j : ℕ). take j (all s) ++ drop j ls) (ok .count) ∙ ap (λ (es : List Entry). es ++ drop (length (all s)) ls) (take-all (length (all s)) (all s) (omega arith));
     }
-by-end s ls h l false e = of-none s ls ChainBroken
-
-by-places : (s : List ℕ) (ls : List Entry) → length s ≡ 256 → (t : Bool) → leb 127 (length ls) ≡ t → Bounds s ls (pick t (counted (chainAt s 0)) (Refused ListTooShort))
-unfolding counted
-by-places s ls h true e = by-end s ls h (leb-true 127 (length ls) e) (chainAt s 0 .ended) refl
-by-places s ls h false e = of-none s ls ListTooShort
-
-by-length : (s : List ℕ) (ls : List Entry) (t : Bool) → eqb (length s) 256 ≡ t → Bounds s ls (pick t (pick (leb 127 (length ls)) (counted (chainAt s 0)) (Refused ListTooShort)) (Refused TupleBufferLength))
-by-length s ls true e = by-places s ls (eqb-true (length s) 256 e) (leb 127 (length ls)) refl
-by-length s ls false e = of-none s ls TupleBufferLength
+by-answer s ls (Refused x) e = record { in-es = omega arith; in-ls = omega arith; sized = λ p. let z : ⊥ = omega arith in absurd z; left = refl }
 
 pub bounds : (s : List ℕ) (ls : List Entry) → Bounds s ls (readOutcome s (length ls))
-unfolding readOutcome
-bounds s ls = by-length s ls (eqb (length s) 256) refl
+bounds s ls = by-answer s ls (readOutcome s (length ls)) refl

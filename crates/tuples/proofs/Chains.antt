@@ -1,6 +1,6 @@
 -- Laws of a tuple chain.
 --     skip          the chain of bytes of which the first k are a body is the chain of what comes after them
---     chain-step    the chain at a place, by what `stepAt` finds there; `past`: beyond the buffer it is broken
+--     chain-step    the chain at a place, by what `stepAt` finds there; `past`: beyond the buffer it is broken; `chain-found`: by a step that was found
 --     forward       a step goes forward
 use mathlib.Core.Path.{_≡_, refl, sym, _∙_, ap}
 use mathlib.Core.Bool.{Bool, true, false}
@@ -13,9 +13,8 @@ use lib.Seq.{drop-cons, drop-drop}
 use lib.Dec.{leb, ltb, eqb}
 use borrow.Author.Tests.{ltb-true, ltb-false, le-leb, lt-leb, leb-true, leb-false}
 use Rattle.ground.specs.Choice.{pick}
-use Rattle.ground.proofs.Picks.{pick-elim, pick-same}
+use Rattle.ground.proofs.Picks.{pick-elim, pick-same, pick-of}
 use Rattle.tuples.specs.Chain.{Chain, stop, grow, entry, endOf, stepAt, chainFrom, chainAt}
-use Rattle.tuples.specs.declared.Entry.{Entry}
 use Rattle.tuples.specs.declared.Step.{Step}
 use Rattle.tuples.specs.declared.Step.the-variants.{Tuple, Null, End, Broken}
 use Rattle.ground.proofs.Lists.{drop-two}
@@ -41,10 +40,6 @@ after s at (Tuple e) = grow e (chainAt s (endOf e))
 after s at Null = chainAt s (at + 1)
 after s at End = stop true
 after s at Broken = stop false
-
-after-pick : (s : List ℕ) (at : ℕ) (t : Bool) (a b : Step) → after s at (pick t a b) ≡ pick t (after s at a) (after s at b)
-after-pick s at true a b = refl
-after-pick s at false a b = refl
 
 pick-stop : (t : Bool) → stop t ≡ pick t (stop true) (stop false)
 pick-stop true = refl
@@ -75,7 +70,7 @@ inner s at h =
     ∙ ap (λ (t : Bool). pick (eqb b 255) (stop true) (pick (eqb b 0) (chainAt s (at + 1)) (pick t (grow (entry b (at + 2) n) (chainFrom n (drop (at + 2) s) (at + 2))) (stop false))))
     (fits-by s (at + 2) n (omega arith) (leb (at + 2 + n) (length s)) refl)
     ∙ ap (λ (X : Chain). pick (eqb b 255) (stop true) (pick (eqb b 0) (chainAt s (at + 1)) (pick (leb (at + 2 + n) (length s)) (grow (entry b (at + 2) n) X) (stop false)))) (body s (at + 2) n)
-    ∙ simp after-pick
+    ∙ simp (pick-of (after s at))
 
 -- the last byte
 last : (s : List ℕ) (at : ℕ) → at < length s → length s ≤ at + 1 → chainAt s at ≡ after s at (within s at)
@@ -86,7 +81,7 @@ last s at h m =
     let end : length s ≤ suc at = omega arith in
     ap (λ (l : List ℕ). chainFrom 0 l at) (drop-cons s at 0 h ∙ ap (λ (l : List ℕ). b ∷ l) (drop-of-length-le s end))
     ∙ pick-stop (eqb b 255)
-    ∙ simp (after-pick, lt-leb _ _ short, past s (at + 1) m, pick-same)
+    ∙ simp (pick-of (after s at), lt-leb _ _ short, past s (at + 1) m, pick-same)
 
 by-next : (s : List ℕ) (at : ℕ) → at < length s → (t : Bool) → ltb (at + 1) (length s) ≡ t → chainAt s at ≡ after s at (within s at)
 by-next s at h true e = inner s at (ltb-true (at + 1) (length s) e)
@@ -100,6 +95,10 @@ by-place s at false e = rw e (past s at (ltb-false at (length s) e))
 pub chain-step : (s : List ℕ) (at : ℕ) → chainAt s at ≡ after s at (stepAt s at)
 chain-step s at = by-place s at (ltb at (length s)) refl
 
+-- what a step that was found tells of the chain
+pub chain-found : (s : List ℕ) (at : ℕ) {r x : Step} → r ≡ stepAt s at → r ≡ x → after s at x ≡ chainAt s at
+chain-found s at e p = sym (chain-step s at ∙ ap (after s at) (sym e ∙ p))
+
 -- the place that a step leads to
 abbrev pub ahead : Step → ℕ → ℕ
 ahead (Tuple e) d = endOf e
@@ -107,19 +106,12 @@ ahead Null d = d
 ahead End d = d
 ahead Broken d = d
 
-ahead-pick : (t : Bool) (a b : Step) (d : ℕ) → ahead (pick t a b) d ≡ pick t (ahead a d) (ahead b d)
-ahead-pick true a b d = refl
-ahead-pick false a b d = refl
-
 pub forward : (s : List ℕ) (at : ℕ) → at < ahead (stepAt s at) (at + 1)
 unfolding stepAt
 forward s at =
-    let one : at < at + 1 = omega arith in
-    let more : at < at + 2 + getD s (at + 1) 0 = omega arith in
-    let P : ℕ → Type 0 = λ n. at < n in
-    simp ahead-pick
-    (pick-elim P (ltb at (length s)) _ _
-    (λ _. pick-elim P (eqb (getD s at 0) 255) _ _ (λ _. one)
-    (λ _. pick-elim P (eqb (getD s at 0) 0) _ _ (λ _. one)
-    (λ _. pick-elim P (leb (at + 2 + getD s (at + 1) 0) (length s)) _ _ (λ _. more) (λ _. one))))
-    (λ _. one))
+    let P : Step → Type 0 = λ x. at < ahead x (at + 1) in
+    pick-elim P (ltb at (length s)) _ _
+    (λ _. pick-elim P (eqb (getD s at 0) 255) _ _ (λ _. omega arith)
+    (λ _. pick-elim P (eqb (getD s at 0) 0) _ _ (λ _. omega arith)
+    (λ _. pick-elim P (leb (at + 2 + getD s (at + 1) 0) (length s)) _ _ (λ _. omega arith) (λ _. omega arith))))
+    (λ _. omega arith)

@@ -1,5 +1,5 @@
 -- The survey's count: so many tuples passed, and those of the chain from there on, are those of the chain.
-use mathlib.Core.Path.{_≡_, sym, _∙_, ap}
+use mathlib.Core.Path.{_≡_, refl, _∙_, ap}
 use Prim.Native.Nat.{ℕ, _+_}
 use mathlib.Core.List.{List, _∷_}
 use native.Mathlib.Omega.{arith}
@@ -12,7 +12,7 @@ use Rattle.tuples.specs.Chain.{Chain, endOf, stepAt, chainAt}
 use Rattle.tuples.specs.Read.{counted}
 use Rattle.tuples.specs.declared.Entry.{Entry}
 use Rattle.tuples.specs.declared.Step.the-variants.{Tuple}
-use Rattle.tuples.proofs.Chains.{after, chain-step}
+use Rattle.tuples.proofs.Chains.{chain-found}
 
 -- n tuples, and those of a chain
 abbrev pub added : ℕ → Chain → Outcome
@@ -26,4 +26,4 @@ pub counts : (s : List ℕ) (at n : ℕ) (e : Entry) → stepAt s at ≡ Tuple e
 counts s at n e p =
     let c = chainAt s (endOf e) in
     let m : n + 1 + length (c .entries) ≡ n + length (e ∷ c .entries) = omega arith in
-    ap (λ (j : ℕ). pick (c .ended) (Accepted j) (Refused ChainBroken)) m ∙ ap (added n) (sym (chain-step s at ∙ ap (after s at) p))
+    ap (λ (j : ℕ). pick (c .ended) (Accepted j) (Refused ChainBroken)) m ∙ ap (added n) (chain-found s at refl p)

@@ -12,15 +12,15 @@ use lib.Seq.{take-at, take-suc-set}
 use lib.Dec.{ltb}
 use borrow.Author.Tests.{ltb-true, ltb-false, ne-eqb}
 use Rattle.ground.specs.Choice.{pick}
-use Rattle.answers.specs.Answers.{outcomeValue, refused}
+use Rattle.answers.specs.Answers.{refused}
 use Rattle.answers.specs.declared.Outcome.{Outcome}
 use Rattle.answers.specs.declared.Outcome.the-variants.{Accepted, Refused}
 use Rattle.tuples.specs.Chain.{noEntry}
-use Rattle.tuples.specs.Read.{readOutcome, readList, filled, unlessRefused, handed, heldAfter}
+use Rattle.tuples.specs.Read.{readOutcome, readList, filled, unlessRefused, Reads, handed, heldAfter}
 use Rattle.tuples.specs.Write.{made, lastPlace, Writes, WritesBack, writeOutcome, backOutcome, filledUp, tupleBytes}
 use Rattle.tuples.specs.declared.Entry.{Entry}
 use Rattle.tuples.proofs.Filling.{all}
-use Rattle.tuples.proofs.Bounds.{bounds}
+use Rattle.tuples.proofs.Bounds.{most-entries, read-well}
 use Rattle.ground.proofs.Lists.{take-replicate, drop-replicate, getD-replicate}
 
 -- ---- what a place holds after reading
@@ -31,18 +31,18 @@ getD-replicate-after (e ∷ es) m zero x = refl
 getD-replicate-after (e ∷ es) m (suc j) x = getD-replicate-after es m j x
 
 -- a place of the list is the chain's entry of its number, or what the list held
-by-answer : (s : List ℕ) (m j : ℕ) (x : Entry) (o : Outcome) → readOutcome s m ≡ o → getD (unlessRefused o (filled (all s) (replicate m x)) (replicate m x)) j x ≡ getD (unlessRefused o (all s) []) j x
-by-answer s m j x (Accepted n) e =
+by-answer : (s : List ℕ) (m j : ℕ) (x : Entry) (o : Outcome) → getD (unlessRefused o (filled (all s) (replicate m x)) (replicate m x)) j x ≡ getD (unlessRefused o (all s) []) j x
+by-answer s m j x (Accepted n) =
     ap (λ (l : List Entry). getD (all s ++ l) j x) (drop-replicate (length (all s)) m x) ∙ getD-replicate-after (all s) (m - length (all s)) j x
-by-answer s m j x (Refused y) e = getD-replicate m j x
+by-answer s m j x (Refused y) = getD-replicate m j x
 
 place-holds : (s : List ℕ) (m j : ℕ) (x : Entry) → getD (readList s (replicate m x)) j x ≡ getD (unlessRefused (readOutcome s m) (all s) []) j x
 place-holds s m j x =
-    ap (λ (k : ℕ). getD (unlessRefused (readOutcome s k) (filled (all s) (replicate m x)) (replicate m x)) j x) (length-replicate m x) ∙ by-answer s m j x (readOutcome s m) refl
+    ap (λ (k : ℕ). getD (unlessRefused (readOutcome s k) (filled (all s) (replicate m x)) (replicate m x)) j x) (length-replicate m x) ∙ by-answer s m j x (readOutcome s m)
 
-few : (s : List ℕ) (m : ℕ) (x : Entry) (o : Outcome) → readOutcome s m ≡ o → length (unlessRefused o (all s) []) ≤ 127
-few s m x (Accepted n) e = bounds s (replicate m x) .few n (ap (readOutcome s) (length-replicate m x) ∙ e) .1
-few s m x (Refused y) e = omega arith
+few : (s : List ℕ) (m : ℕ) (o : Outcome) → readOutcome s m ≡ o → length (unlessRefused o (all s) []) ≤ 127
+few s m (Accepted n) e = let ok = read-well s m n e in most-entries s (ok .sized) (ok .ended)
+few s m (Refused y) e = omega arith
 
 by-number : (es : List Entry) (i : ℕ) (x : Entry) → length es ≤ 127 → (t : Bool) → ltb i 255 ≡ t → getD es (min i 255) x ≡ getD es i x
 by-number es i x h true e = ap (λ (j : ℕ). getD es j x) (omega (arith, ltb-true i 255 e))
@@ -56,12 +56,12 @@ held-place : (s : List ℕ) (m i : ℕ) (x : Entry) → getD (readList s (replic
 held-place s m i x =
     getD-replicate-after (readList s (replicate m x)) (256 - m) (min i 255) x
     ∙ place-holds s m (min i 255) x
-    ∙ by-number (unlessRefused (readOutcome s m) (all s) []) i x (few s m x (readOutcome s m) refl) (ltb i 255) refl
+    ∙ by-number (unlessRefused (readOutcome s m) (all s) []) i x (few s m (readOutcome s m) refl) (ltb i 255) refl
     ∙ sym (place-holds s m i x)
 
 -- an array of 256 places of x, of which the first m were lent
 module _ (s : List ℕ) (places i m p : ℕ) (x : Entry) (ls zs : List Entry) (em : m ≡ min places 256) (most : m ≤ 256) (all-x : ls ≡ replicate 256 x) where
-  pub lent : take m ls ≡ replicate m x
+  lent : take m ls ≡ replicate m x
   lent = ap (take m) all-x ∙ take-replicate m 256 x most
 
   pub held-outcome : (r : Outcome) → r ≡ readOutcome s (length (take m ls)) → r ≡ readOutcome s (min places 256)
@@ -97,12 +97,11 @@ back-refused s os (Refused x) e h =
     let b : Refused x ≡ backOutcome s (length os) = ap (λ (o : Outcome). unlessRefused o w o) e in
     (b, ap (λ (o : Outcome). unlessRefused o (filledUp (tupleBytes s (all s))) os) b)
 
-pub read-all : (s : List ℕ) (ls : List Entry) (o : Outcome) → length ls ≡ 127 → o ≡ readOutcome s 127 → refused o ≡ false → take (outcomeValue o) (readList s ls) ≡ all s
-read-all s ls (Refused x) l e h = absurd (true≢false h)
-read-all s ls (Accepted n) l e h =
-    let f = e ∙ ap (readOutcome s) (sym l) in
-    ap (λ (o : Outcome). take n (unlessRefused o (filled (all s) ls) ls)) (sym f)
-    ∙ take-at (all s) (drop (length (all s)) ls) n (sym (bounds s ls .few n (sym f) .0))
+-- the list that an accepted reading leaves starts with the chain's entries
+pub entries-first : (s : List ℕ) (ls : List Entry) (r : Outcome) (zs : List Entry) → Reads s ls r zs → (n : ℕ) → r ≡ Accepted n → take n zs ≡ all s
+entries-first s ls r zs e n p =
+    let q = sym (e .0) ∙ p in
+    ap (take n) (e .1 ∙ ap (λ (o : Outcome). unlessRefused o (filled (all s) ls) ls) q) ∙ take-at (all s) (drop (length (all s)) ls) n (sym (read-well s (length ls) n q .count))
 
 pub back-written : (s os : List ℕ) (o r : Outcome) (z : List ℕ) → o ≡ readOutcome s 127 → refused o ≡ false → Writes s (all s) os r z → WritesBack s os r z
 back-written s os (Refused x) r z e h w = absurd (true≢false h)

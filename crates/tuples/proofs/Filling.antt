@@ -1,8 +1,7 @@
 -- A list that is being filled with a chain's entries, as the reader's loop has it.
---     onward        the chain's next tuple leads to the chain's other tuples
+--     after-one, after-two     what is left of the bytes after one of them, and after two
 --     Filling       k of n entries are written over ls, and the chain's other entries are those from `at` on; `start`, `more`: none is written; one more is
 use mathlib.Core.Path.{_≡_, refl, sym, _∙_, ap}
-use mathlib.Core.Bool.{Bool, true, false}
 use mathlib.Core.List.{List, _∷_, _++_, nil≢cons, []}
 use Prim.Native.Nat.{ℕ, suc, _+_, _^_, _<_, _≤_}
 use native.Mathlib.Omega.{arith}
@@ -10,8 +9,8 @@ use native.Mathlib.Numerals.{add-one}
 use lib.ListN.{length, getD, take, drop, set}
 use lib.Seq.{drop-cons, drop-drop, take-suc, set-at, length-take-le, length-front, append-snoc}
 use lib.Dec.{leb, eqb, lit<}
-use Rattle.ground.specs.Choice.{pick}
-use Rattle.tuples.specs.Chain.{Chain, stop, grow, entry, noEntry, endOf, chainFrom, chainAt, nextAt, firstFound, found}
+use Rattle.ground.proofs.Picks.{pick-elim}
+use Rattle.tuples.specs.Chain.{Chain, entry, noEntry, endOf, chainFrom, chainAt, nextAt, firstFound, found}
 use Rattle.tuples.specs.declared.Entry.{Entry}
 use Rattle.tuples.specs.declared.Found.{Found}
 use Rattle.tuples.proofs.Chains.{body}
@@ -23,15 +22,16 @@ all s = chainAt s 0 .entries
 abbrev Onward : List ℕ → List Entry → Type 0
 Onward s fs = (e : Entry) (es : List Entry) → fs ≡ e ∷ es → chainAt s (endOf e) .entries ≡ es
 
+-- what is left after one byte, and after two
+pub after-one : (s : List ℕ) (at b : ℕ) (r : List ℕ) → drop at s ≡ b ∷ r → drop (at + 1) s ≡ r
+after-one s at b r d = sym (drop-drop 1 at s) ∙ ap (drop 1) d
+
 pub after-two : (s : List ℕ) (at b n : ℕ) (r : List ℕ) → drop at s ≡ b ∷ (n ∷ r) → drop (at + 2) s ≡ r
 after-two s at b n r d = sym (drop-drop 2 at s) ∙ ap (drop 2) d
 
-by-code : (s : List ℕ) (at b n : ℕ) (r : List ℕ) (X : Chain) (t u v : Bool) → drop (at + 2) s ≡ r → Onward s (X .entries)
-    → Onward s (pick t (stop true) (pick u X (pick v (grow (entry b (at + 2) n) (chainFrom n r (at + 2))) (stop false))) .entries)
-by-code s at b n r X true u v d on e es p = absurd (nil≢cons p)
-by-code s at b n r X false true v d on e es p = on e es p
-by-code s at b n r X false false false d on e es p = absurd (nil≢cons p)
-by-code s at b n r X false false true d on e es p =
+-- a tuple stands at `at`, and r after its link
+of-tuple : (s : List ℕ) (at b n : ℕ) (r : List ℕ) → drop (at + 2) s ≡ r → Onward s (entry b (at + 2) n ∷ chainFrom n r (at + 2) .entries)
+of-tuple s at b n r d e es p =
     let first : entry b (at + 2) n ≡ e = cc in
     let others : chainFrom n r (at + 2) .entries ≡ es = cc in
     ap (λ (x : Entry). chainAt s (endOf x) .entries) (sym first)
@@ -42,10 +42,12 @@ unfolding chainFrom
 onward-by s [] at d = λ e es p. absurd (nil≢cons p)
 onward-by s (b ∷ []) at d = λ e es p. absurd (nil≢cons p)
 onward-by s (b ∷ (n ∷ r)) at d =
-    by-code s at b n r (chainFrom 0 (n ∷ r) (at + 1)) (eqb b 255) (eqb b 0) (leb n (length r)) (after-two s at b n r d)
-    (onward-by s (n ∷ r) (at + 1) (sym (drop-drop 1 at s) ∙ ap (drop 1) d))
+    let P : Chain → Type 0 = λ c. Onward s (c .entries) in
+    pick-elim P (eqb b 255) _ _ (λ _ e es p. absurd (nil≢cons p))
+    (λ _. pick-elim P (eqb b 0) _ _ (λ _. onward-by s (n ∷ r) (at + 1) (after-one s at b (n ∷ r) d))
+    (λ _. pick-elim P (leb n (length r)) _ _ (λ _. of-tuple s at b n r (after-two s at b n r d)) (λ _ e es p. absurd (nil≢cons p))))
 
-pub onward : (s : List ℕ) (at : ℕ) (e : Entry) (es : List Entry) → chainAt s at .entries ≡ e ∷ es → (nextAt s at .entry ≡ e) × (chainAt s (nextAt s at .next) .entries ≡ es)
+onward : (s : List ℕ) (at : ℕ) (e : Entry) (es : List Entry) → chainAt s at .entries ≡ e ∷ es → (nextAt s at .entry ≡ e) × (chainAt s (nextAt s at .next) .entries ≡ es)
 unfolding nextAt
 onward s at e es p =
     (ap (λ (l : List Entry). firstFound l at .entry) p, ap (λ (l : List Entry). chainAt s (firstFound l at .next) .entries) p ∙ onward-by s (drop at s) at refl e es p)
@@ -72,7 +74,8 @@ fill-one es ls zs k d e p q h f =
     ∙ ap (λ l. l ++ drop (suc k) ls) (ap (λ x. take k es ++ (x ∷ [])) h ∙ sym (take-suc es k d p))
     ∙ ap (λ (j : ℕ). take j es ++ drop j ls) (sym (add-one k))
 
-module _ {s : List ℕ} {ls : List Entry} {n : ℕ} (F : Filling s ls n) (less : F .k < n) (in-es : n ≤ length (all s)) (in-ls : n ≤ length ls) (e : Entry) (m : ℕ) (m-fits : m < 2 ^ 64) (next : found e m ≡ nextAt s (F .at)) where
+module _ {s : List ℕ} {ls : List Entry} {n : ℕ} (F : Filling s ls n) (less : F .k < n) (in-es : n ≤ length (all s)) (in-ls : n ≤ length ls)
+    (e : Entry) (m : ℕ) (m-fits : m < 2 ^ 64) (next : found e m ≡ nextAt s (F .at)) where
   pub one : (e ≡ getD (all s) (F .k) noEntry) × (chainAt s m .entries ≡ drop (suc (F .k)) (all s))
   one =
       let o = onward s (F .at) (getD (all s) (F .k) noEntry) (drop (suc (F .k)) (all s)) (F .left ∙ drop-cons (all s) (F .k) noEntry (omega arith)) in

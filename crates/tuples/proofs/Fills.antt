@@ -2,7 +2,7 @@
 --     put           a tuple's code, link and body, set after the bytes p of a page that is FFH from there on
 use mathlib.Core.Path.{_≡_, sym, _∙_, ap}
 use mathlib.Core.List.{List, _∷_, _++_, append-assoc, []}
-use Prim.Native.Nat.{ℕ, zero, suc, _+_, _≤_, _-_}
+use Prim.Native.Nat.{ℕ, suc, _+_, _≤_, _-_}
 use native.Mathlib.Omega.{arith}
 use lib.ListN.{length, take, drop, set, replicate, length-append}
 use lib.Seq.{paste, set-append-seam, set-at, append-snoc, take-at, drop-append-add}

@@ -11,7 +11,7 @@ use lib.Seq.{paste}
 use lib.Dec.{leb, eqb}
 use borrow.Author.Tests.{leb-true, leb-false}
 use Rattle.ground.specs.Choice.{pick}
-use Rattle.ground.proofs.Picks.{pick-same}
+use Rattle.ground.proofs.Picks.{pick-elim, pick-same, pick-of}
 use Rattle.answers.specs.declared.Outcome.{Outcome}
 use Rattle.answers.specs.declared.Outcome.the-variants.{Accepted, Refused}
 use Rattle.answers.specs.declared.Refusal.the-variants.{TupleBufferLength, TuplesTooLong, TupleBad}
@@ -29,28 +29,21 @@ bad-pick true u b = refl
 bad-pick false true b = refl
 bad-pick false false b = refl
 
-field-bad : (t u : Bool) (a b c : Page) → pick t (pick u a b) c .bad ≡ pick t (pick u (a .bad) (b .bad)) (c .bad)
-field-bad true true a b c = refl
-field-bad true false a b c = refl
-field-bad false u a b c = refl
-
 pages-bad : (bs : List ℕ) (w : Page) (es : List Entry) → pages bs w es .bad ≡ pick (allGood bs es) (w .bad) true
 unfolding pages addedTo allGood
 pages-bad bs w [] = refl
 pages-bad bs w (e ∷ es) =
+    let room = leb (w .at + 2 + e .length) 255 in
     pages-bad bs (addedTo bs w e) es
-    ∙ ap (λ (b : Bool). pick (allGood bs es) b true) (field-bad (good bs e) (leb (w .at + 2 + e .length) 255) (withTuple bs w e) (page (w .bytes) (w .at) (w .bad) true) (page (w .bytes) (w .at) true (w .over)) ∙ ap (λ (b : Bool). pick (good bs e) b true) (pick-same (leb (w .at + 2 + e .length) 255) (w .bad)))
+    ∙ ap (λ (b : Bool). pick (allGood bs es) b true) (pick-of (λ (v : Page). v .bad) (good bs e) _ _ ∙ ap (λ (b : Bool). pick (good bs e) b true) (pick-of (λ (v : Page). v .bad) room _ _ ∙ pick-same room (w .bad)))
     ∙ bad-pick (good bs e) (allGood bs es) (w .bad)
-
-over-of : (t u : Bool) (a b c : Page) → a .over ≡ true → b .over ≡ true → c .over ≡ true → pick t (pick u a b) c .over ≡ true
-over-of true true a b c p q r = p
-over-of true false a b c p q r = q
-over-of false u a b c p q r = r
 
 pages-over : (bs : List ℕ) (w : Page) (es : List Entry) → w .over ≡ true → pages bs w es .over ≡ true
 unfolding pages addedTo
 pages-over bs w [] h = h
-pages-over bs w (e ∷ es) h = pages-over bs (addedTo bs w e) es (over-of (good bs e) (leb (w .at + 2 + e .length) 255) _ _ _ h refl h)
+pages-over bs w (e ∷ es) h =
+    let P : Page → Type 0 = λ v. v .over ≡ true in
+    pages-over bs (addedTo bs w e) es (pick-elim P (good bs e) _ _ (λ _. pick-elim P (leb (w .at + 2 + e .length) 255) _ _ (λ _. h) (λ _. refl)) (λ _. h))
 
 -- ---- a page that holds the bytes p
 record Laid (w : Page) (p : List ℕ) : Type 0 where

@@ -3,20 +3,20 @@
 --     same-codes, same-bodies     so the codes are the same, and each body
 --     back        a chain's tuples, written over its own bytes, are the chain up to its end mark, null tuples dropped; none of them is bad, and they fit
 use mathlib.Core.Path.{_≡_, refl, sym, _∙_, ap}
-use mathlib.Core.Bool.{Bool, true, false, false≢true}
+use mathlib.Core.Bool.{true, false, false≢true}
 use mathlib.Core.List.{List, _∷_, _++_, map, append-assoc, []}
 use Prim.Native.Nat.{ℕ, zero, suc, _+_, _≤_}
 use native.Mathlib.Omega.{arith}
 use lib.ListN.{length, take, drop, replicate, length-append, length-drop}
-use lib.Seq.{length-take-le, drop-at, take-at, drop-drop}
+use lib.Seq.{length-take-le, drop-at, take-at}
 use lib.Dec.{leb, eqb}
 use borrow.Author.Tests.{le-leb}
-use Rattle.ground.specs.Choice.{pick}
-use Rattle.tuples.specs.Chain.{Chain, stop, grow, entry, chainFrom}
+use Rattle.ground.proofs.Picks.{pick-elim}
+use Rattle.tuples.specs.Chain.{Chain, grow, entry, chainFrom}
 use Rattle.tuples.specs.Write.{good, bodyOf, tupleBytes, allGood, nullsDropped}
 use Rattle.tuples.specs.declared.Entry.{Entry}
 use Rattle.tuples.proofs.Chains.{skip}
-use Rattle.tuples.proofs.Filling.{after-two}
+use Rattle.tuples.proofs.Filling.{after-one, after-two}
 use Rattle.tuples.proofs.Goods.{both-of, is-good, long-body}
 
 -- ---- reading what was written
@@ -104,25 +104,16 @@ in-front s at b n r fs h255 h0 d back =
       short = omega (arith, back .short, long, length-append (bodyOf s (entry b (at + 2) n)) (tupleBytes s fs));
     }
 
-by-code : (s : List ℕ) (at b n : ℕ) (r : List ℕ) (X Z : Chain) (t u v : Bool) → eqb b 255 ≡ t → eqb b 0 ≡ u → drop at s ≡ b ∷ (n ∷ r)
-    → (X .ended ≡ true → Back s 0 (n ∷ r) (X .entries)) → (Z .ended ≡ true → Back s n r (Z .entries))
-    → pick t (stop true) (pick u X (pick v (grow (entry b (at + 2) n) Z) (stop false))) .ended ≡ true
-    → Back s 0 (b ∷ (n ∷ r)) (pick t (stop true) (pick u X (pick v (grow (entry b (at + 2) n) Z) (stop false))) .entries)
-unfolding nullsDropped tupleBytes allGood
-by-code s at b n r X Z true u v h255 h0 d on-null on-tuple p = record { same = simp h255; all-good = refl; short = omega arith }
-by-code s at b n r X Z false true v h255 h0 d on-null on-tuple p =
-    let back = on-null p in
-    record { same = simp (h255, h0) (back .same); all-good = back .all-good; short = omega (arith, back .short) }
-by-code s at b n r X Z false false false h255 h0 d on-null on-tuple p = absurd (false≢true p)
-by-code s at b n r X Z false false true h255 h0 d on-null on-tuple p = in-front s at b n r (Z .entries) h255 h0 (after-two s at b n r d) (on-tuple p)
-
 pub back : (s : List ℕ) (k : ℕ) (r : List ℕ) (at : ℕ) → drop at s ≡ r → chainFrom k r at .ended ≡ true → Back s k r (chainFrom k r at .entries)
 unfolding chainFrom nullsDropped tupleBytes allGood
 back s k [] at d p = absurd (false≢true p)
 back s (suc k) (b ∷ r) at d p =
-    let ih = back s k r (at + 1) (sym (drop-drop 1 at s) ∙ ap (drop 1) d) p in
+    let ih = back s k r (at + 1) (after-one s at b r d) p in
     record { same = ap (λ (l : List ℕ). b ∷ l) (ih .same); all-good = ih .all-good; short = omega (arith, ih .short) }
 back s zero (b ∷ []) at d p = record { same = refl; all-good = refl; short = omega arith }
 back s zero (b ∷ (n ∷ r)) at d p =
-    by-code s at b n r (chainFrom zero (n ∷ r) (at + 1)) (chainFrom n r (at + 2)) (eqb b 255) (eqb b 0) (leb n (length r)) refl refl d (back s zero (n ∷ r) (at + 1) (sym (drop-drop 1 at s) ∙ ap (drop 1) d))
-    (back s n r (at + 2) (after-two s at b n r d)) p
+    let P : Chain → Type 0 = λ c. c .ended ≡ true → Back s 0 (b ∷ (n ∷ r)) (c .entries) in
+    pick-elim P (eqb b 255) _ _ (λ h255 _. record { same = simp h255; all-good = refl; short = omega arith })
+    (λ h255. pick-elim P (eqb b 0) _ _ (λ h0 q. let ih = back s zero (n ∷ r) (at + 1) (after-one s at b (n ∷ r) d) q in record { same = simp (h255, h0) (ih .same); all-good = ih .all-good; short = omega (arith, ih .short) })
+    (λ h0. pick-elim P (leb n (length r)) _ _
+    (λ _ q. let e = after-two s at b n r d in in-front s at b n r (chainFrom n r (at + 2) .entries) h255 h0 e (back s n r (at + 2) e q)) (λ _ q. absurd (false≢true q)))) p

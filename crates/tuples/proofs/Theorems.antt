@@ -7,46 +7,28 @@ use mathlib.Core.Bool.{Bool, true, false}
 use mathlib.Core.List.{List, _++_, map, []}
 use Prim.Native.Nat.{ℕ, suc, _≤_, _-_}
 use native.Mathlib.Omega.{arith}
-use lib.ListN.{length, take, drop, replicate, length-append, length-replicate}
-use lib.Seq.{take-at}
+use lib.ListN.{length, take, replicate, length-append, length-replicate}
 use lib.Dec.{leb, eqb}
-use borrow.Author.Tests.{leb-true, eqb-true, le-leb, eq-eqb}
+use borrow.Author.Tests.{leb-true, le-leb, eq-eqb}
 use Rattle.ground.specs.Choice.{pick}
 use Rattle.answers.specs.declared.Outcome.{Outcome}
 use Rattle.answers.specs.declared.Outcome.the-variants.{Accepted, Refused}
-use Rattle.answers.specs.declared.Refusal.the-variants.{TupleBufferLength, ListTooShort, ChainBroken, TuplesTooLong, TupleBad}
+use Rattle.answers.specs.declared.Refusal.the-variants.{TupleBufferLength, TuplesTooLong, TupleBad}
 use Rattle.tuples.specs.Chain.{Chain, chainFrom, chainAt}
-use Rattle.tuples.specs.Read.{readOutcome, counted, filled, unlessRefused, Reads}
+use Rattle.tuples.specs.Read.{readOutcome, counted, unlessRefused, Reads}
 use Rattle.answers.specs.Answers.{refused}
 use Rattle.tuples.specs.Write.{bodyOf, tupleBytes, allGood, filledUp, writeOutcome, backOutcome, nullsDropped, Writes, WritesBack}
 use Rattle.tuples.specs.declared.Entry.{Entry}
 use Rattle.tuples.proofs.Filling.{all}
-use Rattle.tuples.proofs.Bounds.{most-entries}
-use Rattle.tuples.proofs.Doors.{back-written}
+use Rattle.tuples.proofs.Bounds.{most-entries, read-well}
+use Rattle.tuples.proofs.Doors.{entries-first, back-written}
 use Rattle.tuples.proofs.RoundTrip.{laid, whole, reads-back, codes, same-codes, same-count, same-bodies, back}
 use Rattle.answers.proofs.Outcomes.{accepts-not}
 
--- ---- what an accepted answer says
-pub record ReadWell (s : List ℕ) (places n : ℕ) : Type 0 where
-  pub sized : length s ≡ 256
-  pub enough : 127 ≤ places
-  pub ended : chainAt s 0 .ended ≡ true
-  pub count : n ≡ length (all s)
-
-read-by : (s : List ℕ) (places n : ℕ) (t u v : Bool) → eqb (length s) 256 ≡ t → leb 127 places ≡ u → chainAt s 0 .ended ≡ v
-    → pick t (pick u (pick v (Accepted (length (all s))) (Refused ChainBroken)) (Refused ListTooShort)) (Refused TupleBufferLength) ≡ Accepted n → ReadWell s places n
-read-by s places n true true true a b c p = let q : length (all s) ≡ n = cc in record { sized = eqb-true (length s) 256 a; enough = leb-true 127 places b; ended = c; count = sym q }
-read-by s places n true true false a b c p = accepts-not n ChainBroken (sym p)
-read-by s places n true false v a b c p = accepts-not n ListTooShort (sym p)
-read-by s places n false u v a b c p = accepts-not n TupleBufferLength (sym p)
-
-pub read-well : (s : List ℕ) (places n : ℕ) → readOutcome s places ≡ Accepted n → ReadWell s places n
-unfolding readOutcome counted
-read-well s places n p = read-by s places n (eqb (length s) 256) (leb 127 places) (chainAt s 0 .ended) refl refl refl p
-
-pub record WrittenWell (bs : List ℕ) (es : List Entry) : Type 0 where
-  pub all-good : allGood bs es ≡ true
-  pub short : length (tupleBytes bs es) ≤ 255
+-- ---- what an accepted writing says
+record WrittenWell (bs : List ℕ) (es : List Entry) : Type 0 where
+  all-good : allGood bs es ≡ true
+  short : length (tupleBytes bs es) ≤ 255
 
 write-by : (bs : List ℕ) (es : List Entry) (v : ℕ) (t g l : Bool) → allGood bs es ≡ g → leb (length (tupleBytes bs es)) 255 ≡ l
     → pick t (pick g (pick l (Accepted 0) (Refused TuplesTooLong)) (Refused TupleBad)) (Refused TupleBufferLength) ≡ Accepted v → WrittenWell bs es
@@ -55,15 +37,9 @@ write-by bs es v true true false a b p = accepts-not v TuplesTooLong (sym p)
 write-by bs es v true false l a b p = accepts-not v TupleBad (sym p)
 write-by bs es v false g l a b p = accepts-not v TupleBufferLength (sym p)
 
-pub written-well : (bs : List ℕ) (es : List Entry) (places v : ℕ) → writeOutcome bs es places ≡ Accepted v → WrittenWell bs es
+written-well : (bs : List ℕ) (es : List Entry) (places v : ℕ) → writeOutcome bs es places ≡ Accepted v → WrittenWell bs es
 unfolding writeOutcome
 written-well bs es places v p = write-by bs es v (eqb places 256) (allGood bs es) (leb (length (tupleBytes bs es)) 255) refl refl p
-
--- the list that an accepted reading leaves starts with the chain's entries
-pub entries-first : (s : List ℕ) (ls : List Entry) (r : Outcome) (zs : List Entry) → Reads s ls r zs → (n : ℕ) → r ≡ Accepted n → take n zs ≡ all s
-entries-first s ls r zs e n p =
-    let q = sym (e .0) ∙ p in
-    ap (take n) (e .1 ∙ ap (λ (o : Outcome). unlessRefused o (filled (all s) ls) ls) q) ∙ take-at (all s) (drop (length (all s)) ls) n (sym (read-well s (length ls) n q .count))
 
 -- ---- what was written reads back
 written-chain : (bs : List ℕ) (es : List Entry) → allGood bs es ≡ true → length (tupleBytes bs es) ≤ 255 → chainAt (filledUp (tupleBytes bs es)) 0 ≡ whole (laid 0 es)

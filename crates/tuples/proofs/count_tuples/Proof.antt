@@ -1,4 +1,4 @@
-use Rattle.tuples.proofs.Chains.{after, chain-step, past, forward}
+use Rattle.tuples.proofs.Chains.{chain-found, past, forward}
 use Rattle.tuples.proofs.Counts.{added, added-none, counts}
 use Rattle.tuples.specs.Read.{counted}
 use Rattle.tuples.specs.Chain.{chainAt}
@@ -60,8 +60,8 @@ loop-again-2 : tie.Need-loop-again-2 Inv-loop μ-loop
 loop-again-2 c =
     let s = c .before .before .before .before .before .before .args .buffer .now in
     let l = c .before .before .before .before .loop in
-    let p = sym (c .before .before .step-at .ensures) ∙ c .enum-told .given .1 in
-    (omega arith, ap (added (l .count)) (sym (chain-step s (l .at) ∙ ap (after s (l .at)) p)) ∙ l .inv .1)
+    let p = chain-found s (l .at) (c .before .before .step-at .ensures) (c .enum-told .given .1) in
+    (omega arith, ap (added (l .count)) p ∙ l .inv .1)
 
 enum-told-2 : tie.Need-enum-told-2 Inv-loop μ-loop
 enum-told-2 c = search needs
@@ -70,8 +70,8 @@ returns : tie.Need-returns Inv-loop μ-loop
 returns c =
     let s = c .before .before .before .before .before .before .args .buffer .now in
     let l = c .before .before .before .before .loop in
-    let p = sym (c .before .before .step-at .ensures) ∙ c .enum-told2 .given .1 in
-    ap Accepted (sym (add-zero _)) ∙ ap (added (l .count)) (sym (chain-step s (l .at) ∙ ap (after s (l .at)) p)) ∙ l .inv .1
+    let p = chain-found s (l .at) (c .before .before .step-at .ensures) (c .enum-told2 .given .1) in
+    ap Accepted (sym (add-zero _)) ∙ ap (added (l .count)) p ∙ l .inv .1
 
 enum-told-3 : tie.Need-enum-told-3 Inv-loop μ-loop
 enum-told-3 c = search needs
@@ -80,8 +80,8 @@ returns-2 : tie.Need-returns-2 Inv-loop μ-loop
 returns-2 c =
     let s = c .before .before .before .before .before .before .args .buffer .now in
     let l = c .before .before .before .before .loop in
-    let p = sym (c .before .before .step-at .ensures) ∙ c .enum-told3 .given .1 in
-    ap (added (l .count)) (sym (chain-step s (l .at) ∙ ap (after s (l .at)) p)) ∙ l .inv .1
+    let p = chain-found s (l .at) (c .before .before .step-at .ensures) (c .enum-told3 .given .1) in
+    ap (added (l .count)) p ∙ l .inv .1
 
 returns-3 : tie.Need-returns-3 Inv-loop μ-loop
 returns-3 c = ap (added (c .before .loop .count)) (sym (past (c .before .before .before .args .buffer .now) (c .before .loop .at) (c .loop-test .left))) ∙ c .before .loop .inv .1

@@ -1,6 +1,7 @@
-use Prim.Native.Nat.{_-_}
-use Rattle.tuples.proofs.Chains.{after, chain-step, past}
+use Prim.Native.Nat.{ℕ, _-_}
+use Rattle.tuples.proofs.Chains.{chain-found, past}
 use Rattle.tuples.specs.Chain.{Chain, chainAt, nextAt, firstFound, found}
+use mathlib.Core.List.{List}
 use lib.ListN.{length}
 use borrow.Author.Needs.{needs}
 use mathlib.Core.Path.{_≡_, refl, sym, _∙_, ap}
@@ -12,6 +13,11 @@ Inv-loop buffer from at₀ at = chainAt buffer at ≡ chainAt buffer from
 
 abbrev μ-loop : tie.MeasureT-loop
 μ-loop buffer from at₀ at = length buffer - at
+
+-- the first tuple of the chain where the loop stands is the next tuple
+found-by : (s : List ℕ) (from at : ℕ) {c : Chain} → c ≡ chainAt s at → chainAt s at ≡ chainAt s from → firstFound (c .entries) from ≡ nextAt s from
+unfolding nextAt
+found-by s from at p inv = ap (λ (k : Chain). firstFound (k .entries) from) (p ∙ inv)
 
 loop-holds : tie.Need-loop-holds Inv-loop μ-loop
 loop-holds c = refl
@@ -26,12 +32,11 @@ end-requires : tie.Need-end-requires Inv-loop μ-loop
 end-requires c κs = search needs
 
 returns : tie.Need-returns Inv-loop μ-loop
-unfolding nextAt
 returns c =
     let a = c .before .before .before .before .before .before .before .before .args in
     let l = c .before .before .before .before .before .before .loop in
-    let p = sym (c .before .before .before .before .step-at .ensures) ∙ c .before .before .entry .given .1 in
-    ap (found _) (c .end .ensures) ∙ ap (λ (k : Chain). firstFound (k .entries) (a .from)) (sym (chain-step (a .buffer .now) (l .at) ∙ ap (after (a .buffer .now) (l .at)) p) ∙ l .inv)
+    let p = chain-found (a .buffer .now) (l .at) (c .before .before .before .before .step-at .ensures) (c .before .before .entry .given .1) in
+    ap (found _) (c .end .ensures) ∙ found-by (a .buffer .now) (a .from) (l .at) p (l .inv)
 
 enum-told : tie.Need-enum-told Inv-loop μ-loop
 enum-told c = search needs
@@ -46,8 +51,8 @@ loop-again : tie.Need-loop-again Inv-loop μ-loop
 loop-again c =
     let s = c .before .before .before .before .before .before .args .buffer .now in
     let l = c .before .before .before .before .loop in
-    let p = sym (c .before .before .step-at .ensures) ∙ c .enum-told .given .1 in
-    sym (chain-step s (l .at) ∙ ap (after s (l .at)) p) ∙ l .inv
+    let p = chain-found s (l .at) (c .before .before .step-at .ensures) (c .enum-told .given .1) in
+    p ∙ l .inv
 
 enum-told-2 : tie.Need-enum-told-2 Inv-loop μ-loop
 enum-told-2 c = search needs
@@ -56,12 +61,11 @@ nothing-requires : tie.Need-nothing-requires Inv-loop μ-loop
 nothing-requires c κs = search needs
 
 returns-2 : tie.Need-returns-2 Inv-loop μ-loop
-unfolding nextAt
 returns-2 c =
     let a = c .before .before .before .before .before .before .before .args in
     let l = c .before .before .before .before .before .loop in
-    let p = sym (c .before .before .before .step-at .ensures) ∙ c .before .enum-told2 .given .1 in
-    c .nothing .ensures ∙ ap (λ (k : Chain). firstFound (k .entries) (a .from)) (sym (chain-step (a .buffer .now) (l .at) ∙ ap (after (a .buffer .now) (l .at)) p) ∙ l .inv)
+    let p = chain-found (a .buffer .now) (l .at) (c .before .before .before .step-at .ensures) (c .before .enum-told2 .given .1) in
+    c .nothing .ensures ∙ found-by (a .buffer .now) (a .from) (l .at) p (l .inv)
 
 enum-told-3 : tie.Need-enum-told-3 Inv-loop μ-loop
 enum-told-3 c = search needs
@@ -70,22 +74,20 @@ nothing-requires-2 : tie.Need-nothing-requires-2 Inv-loop μ-loop
 nothing-requires-2 c κs = search needs
 
 returns-3 : tie.Need-returns-3 Inv-loop μ-loop
-unfolding nextAt
 returns-3 c =
     let a = c .before .before .before .before .before .before .before .args in
     let l = c .before .before .before .before .before .loop in
-    let p = sym (c .before .before .before .step-at .ensures) ∙ c .before .enum-told3 .given .1 in
-    c .nothing2 .ensures ∙ ap (λ (k : Chain). firstFound (k .entries) (a .from)) (sym (chain-step (a .buffer .now) (l .at) ∙ ap (after (a .buffer .now) (l .at)) p) ∙ l .inv)
+    let p = chain-found (a .buffer .now) (l .at) (c .before .before .before .step-at .ensures) (c .before .enum-told3 .given .1) in
+    c .nothing2 .ensures ∙ found-by (a .buffer .now) (a .from) (l .at) p (l .inv)
 
 nothing-requires-3 : tie.Need-nothing-requires-3 Inv-loop μ-loop
 nothing-requires-3 c κs = search needs
 
 returns-4 : tie.Need-returns-4 Inv-loop μ-loop
-unfolding nextAt
 returns-4 c =
     let a = c .before .before .before .before .args in
     let l = c .before .before .loop in
-    c .nothing3 .ensures ∙ ap (λ (k : Chain). firstFound (k .entries) (a .from)) (sym (past (a .buffer .now) (l .at) (c .before .loop-test .left)) ∙ l .inv)
+    c .nothing3 .ensures ∙ found-by (a .buffer .now) (a .from) (l .at) (sym (past (a .buffer .now) (l .at) (c .before .loop-test .left))) (l .inv)
 
 pub next-tuple-spec : {M : Type 1} → statement M
 next-tuple-spec =

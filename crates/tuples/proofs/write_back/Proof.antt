@@ -57,6 +57,7 @@ use denote.Triple.Walked.{says, Stays, gave-slice, stay-none-slice, walkOf, Walk
 use denote.Exit.{yes}
 use Rattle.answers.specs.Answers.{outcomeValue, refused}
 use Rattle.answers.specs.declared.Outcome.{Outcome}
+use Rattle.answers.proofs.Outcomes.{accepted}
 use Rattle.answers.proofs.Outcome as O
 use Rattle.answers.proofs.Outcome.Laws as O′
 use Rattle.tuples.specs.Chain.{noEntry as none}
@@ -65,7 +66,7 @@ use Rattle.tuples.specs.Write.{Writes, WritesBack}
 use Rattle.tuples.specs.declared.Entry.{Entry}
 use Rattle.tuples.proofs.Bounds.{bounds}
 use Rattle.tuples.proofs.Filling.{all}
-use Rattle.tuples.proofs.Doors.{back-refused, back-written, read-all}
+use Rattle.tuples.proofs.Doors.{back-refused, back-written, entries-first}
 use Rattle.tuples.proofs.Entry as E
 use Rattle.tuples.proofs.Entry.Laws as E′
 use Rattle.tuples.proofs.read_tuples as read
@@ -318,7 +319,7 @@ module _ {M : Type 1} (𝓤 : URA M) (H : Heap 𝓤) (A : Atoms 𝓤) (W : Given
           peeks ! usize (Is usize) (shows 𝓤 H A usize) m (u ∷ []) (λ is.
           let in-list : outcomeValue r ≤ length ls = subst (λ (x : Outcome). outcomeValue x ≤ length ls) (sym (e .0)) (bounds s ls .in-ls) in
           let few : m ≤ 127 = omega (arith, em, len, in-list) in
-          let those : take m zs ≡ all s = ap (λ (j : ℕ). take j zs) em ∙ ap (take (outcomeValue r)) (e .1) ∙ read-all s ls r len er h in
+          let those : take m zs ≡ all s = ap (λ (j : ℕ). take j zs) em ∙ entries-first s ls r zs e (outcomeValue r) (accepted r h) in
           land ! (from ! (stop !)) (init ! 16 refl (uint-lawful 𝓤 H A W w64 .typed m _ is .0)) $
           rewrite ! 16 (λ (v : Val). ‵ (fat fullShare word l₆ 0 v)) (ap only (uint-tells w64 m _ is)) refl $ leave ! $
           written m (is .1) few (λ r′ z w. back-written s os r r′ z er h (subst (λ (es : List Entry). Writes s es os r′ z) those w)))))))
