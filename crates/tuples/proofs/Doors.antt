@@ -1,6 +1,7 @@
--- What the two functions with plain parameters hand out, by what the reader and the writer promise.
---     held-place, handed-held     after reading, a place holds the chain's entry of its number, or what the list held
+-- What the functions that make their own list (`read_held`, `tuple_at`, `write_made`, `write_back`) give, by what the reader and the writer promise.
+--     held-outcome, held-entry, handed-held     after reading, a place holds the chain's entry of its number, or what the list held
 --     made-is           the first places of an array that one entry was stored in are the list to be written
+--     entries-first     the list that an accepted reading leaves starts with the chain's entries
 --     back-refused, back-written      a refused reading is the answer, and else the writing of the entries read
 use mathlib.Core.Path.{_≡_, refl, sym, _∙_, ap}
 use mathlib.Core.Bool.{Bool, true, false, true≢false, false≢true}
@@ -97,7 +98,6 @@ back-refused s os (Refused x) e h =
     let b : Refused x ≡ backOutcome s (length os) = ap (λ (o : Outcome). unlessRefused o w o) e in
     (b, ap (λ (o : Outcome). unlessRefused o (filledUp (tupleBytes s (all s))) os) b)
 
--- the list that an accepted reading leaves starts with the chain's entries
 pub entries-first : (s : List ℕ) (ls : List Entry) (r : Outcome) (zs : List Entry) → Reads s ls r zs → (n : ℕ) → r ≡ Accepted n → take n zs ≡ all s
 entries-first s ls r zs e n p =
     let q = sym (e .0) ∙ p in

@@ -46,7 +46,7 @@ pages-over bs w (e ∷ es) h =
     pages-over bs (addedTo bs w e) es (pick-elim P (good bs e) _ _ (λ _. pick-elim P (leb (w .at + 2 + e .length) 255) _ _ (λ _. h) (λ _. refl)) (λ _. h))
 
 -- ---- a page that holds the bytes p
-record Laid (w : Page) (p : List ℕ) : Type 0 where
+record Holds (w : Page) (p : List ℕ) : Type 0 where
   its-at : w .at ≡ length p
   its-bytes : w .bytes ≡ filledUp p
   its-over : w .over ≡ false
@@ -60,14 +60,10 @@ record Ends (bs : List ℕ) (w : Page) (es : List Entry) (p : List ℕ) : Type 0
 tuple-of : List ℕ → Entry → List ℕ
 tuple-of bs e = e .code ∷ (e .length ∷ bodyOf bs e)
 
-long-tuple : (bs : List ℕ) (e : Entry) → Good bs e → length (tuple-of bs e) ≡ 2 + e .length
+holds-tuple : (bs : List ℕ) (w : Page) (e : Entry) (p : List ℕ) → Good bs e → Holds w p → w .at + 2 + e .length ≤ 255 → Holds (withTuple bs w e) (p ++ tuple-of bs e)
 unfolding tuple-of
-long-tuple bs e g = omega (arith, long-body bs e g)
-
-laid-tuple : (bs : List ℕ) (w : Page) (e : Entry) (p : List ℕ) → Good bs e → Laid w p → w .at + 2 + e .length ≤ 255 → Laid (withTuple bs w e) (p ++ tuple-of bs e)
-unfolding tuple-of
-laid-tuple bs w e p g l fits =
-    let lt : length (p ++ tuple-of bs e) ≡ length p + 2 + e .length = length-append p (tuple-of bs e) ∙ (let z : length p + length (tuple-of bs e) ≡ length p + 2 + e .length = omega (arith, long-tuple bs e g) in z) in
+holds-tuple bs w e p g l fits =
+    let lt : length (p ++ tuple-of bs e) ≡ length p + 2 + e .length = length-append p (tuple-of bs e) ∙ (let z : length p + length (tuple-of bs e) ≡ length p + 2 + e .length = omega (arith, long-body bs e g) in z) in
     record {
       its-at = omega (arith, lt, l .its-at);
       its-bytes = ap (λ (b : List ℕ). paste (set (set b (w .at) (e .code)) (w .at + 1) (e .length)) (w .at + 2) (drop (e .start) bs) (e .length)) (l .its-bytes)
@@ -79,11 +75,11 @@ laid-tuple bs w e p g l fits =
 
 -- the tuples go on one after the other
 module _ (bs : List ℕ) where
-  by-room : (w : Page) (e : Entry) (es : List Entry) (p : List ℕ) (t : Bool) → leb (w .at + 2 + e .length) 255 ≡ t → Good bs e → good bs e ≡ true → Laid w p
-      → ((w′ : Page) → Laid w′ (p ++ tuple-of bs e) → Ends bs w′ es (p ++ tuple-of bs e)) → Ends bs w (e ∷ es) p
+  by-room : (w : Page) (e : Entry) (es : List Entry) (p : List ℕ) (t : Bool) → leb (w .at + 2 + e .length) 255 ≡ t → Good bs e → good bs e ≡ true → Holds w p
+      → ((w′ : Page) → Holds w′ (p ++ tuple-of bs e) → Ends bs w′ es (p ++ tuple-of bs e)) → Ends bs w (e ∷ es) p
   unfolding pages addedTo tupleBytes tuple-of
   by-room w e es p true h g gt l ih =
-      let r = ih (withTuple bs w e) (laid-tuple bs w e p g l (leb-true (w .at + 2 + e .length) 255 h)) in
+      let r = ih (withTuple bs w e) (holds-tuple bs w e p g l (leb-true (w .at + 2 + e .length) 255 h)) in
       let is : addedTo bs w e ≡ withTuple bs w e = simp (gt, h) in
       let row : (p ++ tuple-of bs e) ++ tupleBytes bs es ≡ p ++ tupleBytes bs (e ∷ es) = append-assoc p (tuple-of bs e) (tupleBytes bs es) in
       let size : length (p ++ tuple-of bs e) + length (tupleBytes bs es) ≡ length p + length (tupleBytes bs (e ∷ es)) =
@@ -102,43 +98,43 @@ module _ (bs : List ℕ) where
         full = λ f. ap (λ (v : Page). pages bs v es .over) is ∙ pages-over bs (page (w .bytes) (w .at) (w .bad) true) es refl;
       }
 
-  ends : (es : List Entry) (w : Page) (p : List ℕ) → allGood bs es ≡ true → Laid w p → Ends bs w es p
+  ends : (es : List Entry) (w : Page) (p : List ℕ) → allGood bs es ≡ true → Holds w p → Ends bs w es p
   unfolding pages tupleBytes allGood
   ends [] w p h l = record { fit-over = λ f. l .its-over; fit-bytes = λ f. l .its-bytes ∙ ap filledUp (sym (append-nil p)); full = λ f. let z : ⊥ = omega (arith, l .small) in absurd z }
   ends (e ∷ es) w p h l =
       let gs = both-of (good bs e) (allGood bs es) h in
       by-room w e es p (leb (w .at + 2 + e .length) 255) refl (is-good bs e (gs .0)) (gs .0) l (λ w′ l′. ends es w′ (p ++ tuple-of bs e) (gs .1) l′)
 
-  started : Laid newPage []
-  started = record { its-at = refl; its-bytes = refl; its-over = refl; small = omega arith }
-
   -- ---- "Writing checks 5, 15, 14."
   module _ (es : List Entry) (out : List ℕ) where
-    abbrev made : Page
-    made = pages bs newPage es
+    abbrev the-page : Page
+    the-page = pages bs newPage es
 
     -- two answers are the same, and so are the bytes that they leave
     abbrev Same : Outcome → Outcome → Type 0
-    Same o p = (o ≡ p) × (unlessRefused o (made .bytes) out ≡ unlessRefused p (filledUp (tupleBytes bs es)) out)
+    Same o p = (o ≡ p) × (unlessRefused o (the-page .bytes) out ≡ unlessRefused p (filledUp (tupleBytes bs es)) out)
 
-    by-size : allGood bs es ≡ true → (t : Bool) → leb (length (tupleBytes bs es)) 255 ≡ t → Same (pick (made .over) (Refused TuplesTooLong) (Accepted 0)) (pick t (Accepted 0) (Refused TuplesTooLong))
+    all-added : allGood bs es ≡ true → Ends bs newPage es []
+    all-added g = ends es newPage [] g (record { its-at = refl; its-bytes = refl; its-over = refl; small = omega arith })
+
+    by-size : allGood bs es ≡ true → (t : Bool) → leb (length (tupleBytes bs es)) 255 ≡ t → Same (pick (the-page .over) (Refused TuplesTooLong) (Accepted 0)) (pick t (Accepted 0) (Refused TuplesTooLong))
     by-size g true h =
-        let r = ends es newPage [] g started in
+        let r = all-added g in
         let f : 0 + length (tupleBytes bs es) ≤ 255 = omega (arith, leb-true (length (tupleBytes bs es)) 255 h) in
         (simp (r .fit-over f), simp (r .fit-over f) (r .fit-bytes f))
     by-size g false h =
-        let r = ends es newPage [] g started in
+        let r = all-added g in
         let f : 255 < 0 + length (tupleBytes bs es) = omega (arith, leb-false (length (tupleBytes bs es)) 255 h) in
         (simp (r .full f), simp (r .full f))
 
     by-good : (t : Bool) → allGood bs es ≡ t
-        → Same (pick (made .bad) (Refused TupleBad) (pick (made .over) (Refused TuplesTooLong) (Accepted 0))) (pick t (pick (leb (length (tupleBytes bs es)) 255) (Accepted 0) (Refused TuplesTooLong)) (Refused TupleBad))
+        → Same (pick (the-page .bad) (Refused TupleBad) (pick (the-page .over) (Refused TuplesTooLong) (Accepted 0))) (pick t (pick (leb (length (tupleBytes bs es)) 255) (Accepted 0) (Refused TuplesTooLong)) (Refused TupleBad))
     by-good true g =
-        let b : made .bad ≡ false = pages-bad bs newPage es ∙ ap (λ (t : Bool). pick t false true) g in
+        let b : the-page .bad ≡ false = pages-bad bs newPage es ∙ ap (λ (t : Bool). pick t false true) g in
         let r = by-size g (leb (length (tupleBytes bs es)) 255) refl in
         (simp b (r .0), simp b (r .1))
     by-good false g =
-        let b : made .bad ≡ true = pages-bad bs newPage es ∙ ap (λ (t : Bool). pick t false true) g in
+        let b : the-page .bad ≡ true = pages-bad bs newPage es ∙ ap (λ (t : Bool). pick t false true) g in
         (simp b, simp b)
 
     by-length : (t : Bool) (o p : Outcome) → Same o p → Same (pick t o (Refused TupleBufferLength)) (pick t p (Refused TupleBufferLength))
@@ -146,7 +142,7 @@ module _ (bs : List ℕ) where
     by-length false o p s = (refl, refl)
 
     -- what is done with the page is the writer's promise
-    pub puts-writes : (r : Outcome) (z : List ℕ) → Puts made out r z → Writes bs es out r z
+    pub puts-writes : (r : Outcome) (z : List ℕ) → Puts the-page out r z → Writes bs es out r z
     unfolding putOutcome writeOutcome
     puts-writes r z p =
         let s = by-length (eqb (length out) 256) _ _ (by-good (allGood bs es) refl) in

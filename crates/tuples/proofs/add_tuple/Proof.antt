@@ -24,8 +24,9 @@ cast-n c = search needs
 returns-2 : tie.Need-returns-2
 unfolding addedTo
 returns-2 c =
-    let a = c .before .before .before .before .before .before .args in
-    let g = sym (c .before .before .before .before .is-good .ensures) ∙ un-not _ _ (c .before .before .before .if1 .left) in
+    let c3 = c .before .before .before in
+    let a = c3 .before .before .before .args in
+    let g = sym (c3 .before .is-good .ensures) ∙ un-not _ _ (c3 .if1 .left) in
     let full : 255 < a .w .at + 2 + a .e .length = omega arith in
     simp (g, lt-leb _ _ full)
 
@@ -38,7 +39,8 @@ add-if3-2 c = search needs
 returns-3 : tie.Need-returns-3
 unfolding addedTo
 returns-3 c =
-    let g = sym (c .before .before .before .before .before .is-good .ensures) ∙ un-not _ _ (c .before .before .before .before .if1 .left) in
+    let c4 = c .before .before .before .before in
+    let g = sym (c4 .before .is-good .ensures) ∙ un-not _ _ (c4 .if1 .left) in
     simp (g, lt-leb _ _ (c .before .if3 .taken))
 
 array-write-b : tie.Need-array-write-b
@@ -61,8 +63,9 @@ add-pasted c = search needs
 
 pasted-requires : tie.Need-pasted-requires
 pasted-requires c κs =
-    let a = c .before .before .before .before .before .before .before .before .args in
-    let g = is-good (a .bodies .now) (a .e) (sym (c .before .before .before .before .before .before .is-good .ensures) ∙ un-not _ _ (c .before .before .before .before .before .if1 .left)) in
+    let c5 = c .before .before .before .before .before in
+    let a = c5 .before .before .before .args in
+    let g = is-good (a .bodies .now) (a .e) (sym (c5 .before .is-good .ensures) ∙ un-not _ _ (c5 .if1 .left)) in
     (search needs, g .inside)
 
 add-t17 : tie.Need-add-t17
@@ -74,8 +77,9 @@ add-t18 c = search needs
 returns-4 : tie.Need-returns-4
 unfolding addedTo
 returns-4 c =
-    let a = c .before .before .before .before .before .before .before .before .before .args in
-    let g = sym (c .before .before .before .before .before .before .before .is-good .ensures) ∙ un-not _ _ (c .before .before .before .before .before .before .if1 .left) in
+    let c6 = c .before .before .before .before .before .before in
+    let a = c6 .before .before .before .args in
+    let g = sym (c6 .before .is-good .ensures) ∙ un-not _ _ (c6 .if1 .left) in
     simp (g, le-leb _ _ (c .before .before .before .if3 .left))
     (ap (λ l. page l (a .w .at + 2 + a .e .length) (a .w .bad) (a .w .over)) (c .pasted .ensures))
 

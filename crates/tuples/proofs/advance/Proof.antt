@@ -1,6 +1,5 @@
 -- `tuples::advance` meets its contract: a walk of its MIR, by hand. The borrow is opened, the reader is taken apart, and `next_tuple` is called on the slice and the number; the place that it gives is stored, and the borrow is closed at the reader with that place.
 -- What the reader owns is had twice: one copy's slice goes to the callee, and the other stays.
--- Assumes nothing.
 use mathlib.Core.Path.{_≡_, refl, ap}
 use Prim.Native.Nat.{ℕ, _<_, _^_}
 use mathlib.Core.List.{List, _∷_, []}

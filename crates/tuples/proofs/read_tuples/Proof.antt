@@ -123,25 +123,25 @@ module _ {M : Type 1} (𝓤 : URA M) (H : Heap 𝓤) (A : Atoms 𝓤) (W : Given
   abbrev Buf : Fml
   Buf = ShrSlice (named 0) κ u8 .own buf (vb ∷ [])
 
-  -- what is passed to each callee: the buffer and a number
-  abbrev passed : ℕ → Vals check.signature (κ, tt)
-  passed m = (vb ∷ [], (vint w64 m ∷ [], tt))
+  -- what `check_read` is passed: the buffer and the length of the list
+  abbrev passed : Vals check.signature (κ, tt)
+  passed = (vb ∷ [], (vint w64 (length ls) ∷ [], tt))
 
   abbrev to-check : Check 𝓤 H A mem run .Ghost
-  to-check = (((κ, tt), (q, tt), tt, (buf, (length ls, tt)), passed (length ls)), tt)
+  to-check = (((κ, tt), (q, tt), tt, (buf, (length ls, tt)), passed), tt)
 
   -- the token and a copy of what the buffer owns, beside what it owns
-  parts : (m : ℕ) → m < 2 ^ 64 → ent 𝓤 (sep 𝓤 (sem 𝓤 H A Buf) (A .lft κ q)) (sep 𝓤 (onEntry 𝓤 H A check.signature (κ, tt) (q, tt) (buf, (m, tt)) (passed m)) (sem 𝓤 H A Buf))
-  parts m fits =
+  parts : length ls < 2 ^ 64 → ent 𝓤 (sep 𝓤 (sem 𝓤 H A Buf) (A .lft κ q)) (sep 𝓤 (onEntry 𝓤 H A check.signature (κ, tt) (q, tt) (buf, (length ls, tt)) passed) (sem 𝓤 H A Buf))
+  parts fits =
       qed W (‵ Buf ∷ ‵ (flft κ q) ∷ []) ∵ use1 W (‵ Buf ⊛ ‵ Buf) (shr-slice-copy 𝓤 H A W (named 0) κ u8 .twice buf (vb ∷ [])) $ split ! $
-      nothing ! $ owned ! usize (Is usize) (uint-makes 𝓤 H A W w64) m _ (refl, fits) $ fjoin ! $ move ! (1 ∷ 0 ∷ []) $ fjoin ! $
+      nothing ! $ owned ! usize (Is usize) (uint-makes 𝓤 H A W w64) (length ls) _ (refl, fits) $ fjoin ! $ move ! (1 ∷ 0 ∷ []) $ fjoin ! $
       -- [what the parameters own; what the buffer owns; the token]
       nothing ! $ move ! (3 ∷ 0 ∷ []) $ join ! $ join ! $ frame ! $ done !
 
-  asked-check : ent 𝓤 (onEntry 𝓤 H A check.signature (κ, tt) (q, tt) (buf, (length ls, tt)) (passed (length ls))) (Check 𝓤 H A mem run .pre to-check)
-  asked-check = qed W (raw (onEntry 𝓤 H A check.signature (κ, tt) (q, tt) (buf, (length ls, tt)) (passed (length ls))) ∷ []) ∵ frame ! $ done !
+  asked-check : ent 𝓤 (onEntry 𝓤 H A check.signature (κ, tt) (q, tt) (buf, (length ls, tt)) passed) (Check 𝓤 H A mem run .pre to-check)
+  asked-check = qed W (raw (onEntry 𝓤 H A check.signature (κ, tt) (q, tt) (buf, (length ls, tt)) passed) ∷ []) ∵ frame ! $ done !
 
-  -- of each callee's `ensured`, the clause alone: neither has a `&mut`
+  -- of the `ensured` of `check_read`, which has no `&mut`, the clause alone
   said-check : (r : Checked) → ent 𝓤 (ensured 𝓤 H A check.ended (check.clauses 𝓤 H A mem run) (κ, tt) (buf, (length ls, tt)) tt r) (fact 𝓤 (r ≡ checked (readOutcome s (length ls))))
   said-check r = exE 𝓤 _ (λ ws. snd∗ 𝓤 (sem 𝓤 H A (lasts check.ended (κ, tt) (buf, (length ls, tt)) ws)) (fact 𝓤 (r ≡ checked (readOutcome s (length ls)))))
 
@@ -170,14 +170,14 @@ module _ {M : Type 1} (𝓤 : URA M) (H : Heap 𝓤) (A : Atoms 𝓤) (W : Given
       nothing ! $ owned ! usize (Is usize) (uint-makes 𝓤 H A W w64) 0 _ (refl, lit< tt) $ fjoin ! $ move ! (1 ∷ 0 ∷ []) $ fjoin ! $ by ! (own-shut 𝓤 H A W D L (buf, (0, tt)))
 
   -- the loan of the reader at (l, 0), under the name δ, for the lifetime ν within the buffer's
-  abbrev lent : ℕ → ℕ → GName → ℕ → RefT Reader
-  lent ν l δ m = record { ptr = (l, 0); name = δ; now = rd m }
+  abbrev lent : ℕ → GName → ℕ → RefT Reader
+  lent l δ m = record { ptr = (l, 0); name = δ; now = rd m }
 
   abbrev Lent : ℕ → ℕ → GName → ℕ → Fml
-  Lent ν l δ m = MutRef (named 0) (ν ∷ κ) B .own (lent ν l δ m) (vptr l 0 ∷ [])
+  Lent ν l δ m = MutRef (named 0) (ν ∷ κ) B .own (lent l δ m) (vptr l 0 ∷ [])
 
   abbrev to-adv : ℕ → ℕ → GName → ℕ → Adv 𝓤 H A mem run .Ghost
-  to-adv ν l δ m = (((ν ∷ κ, (κ, tt)), (PosShare·left q, (PosShare·right q, tt)), (meet-⊑-right (ν ∷ []) κ, tt), (lent ν l δ m, tt), (vptr l 0 ∷ [], tt)), tt)
+  to-adv ν l δ m = (((ν ∷ κ, (κ, tt)), (PosShare·left q, (PosShare·right q, tt)), (meet-⊑-right (ν ∷ []) κ, tt), (lent l δ m, tt), (vptr l 0 ∷ [], tt)), tt)
 
   goes-adv : length s ≡ 256 → (ν l : ℕ) (δ : GName) (m : ℕ) → ent 𝓤 (sep 𝓤 (A .lft (ν ∷ κ) (PosShare·left q)) (sep 𝓤 (A .lft κ (PosShare·right q)) (sem 𝓤 H A (Lent ν l δ m)))) (Adv 𝓤 H A mem run .pre (to-adv ν l δ m))
   goes-adv sized ν l δ m =
@@ -220,7 +220,7 @@ module _ {M : Type 1} (𝓤 : URA M) (H : Heap 𝓤) (A : Atoms 𝓤) (W : Given
         let e : x .k ≡ n = omega (arith, x .most) in
         x .so-far ∙ ap (λ (j : ℕ). take j (all s) ++ drop j ls) e ∙ ap (λ (y : Checked). take (y .count) (all s) ++ drop (y .count) ls) ea ∙ bounds s ls .left
 
-    -- the loop's variant: the entries to come
+    -- the loop's measure: the entries to come
     abbrev State : Type 0
     State = Filling s ls n
 
@@ -289,8 +289,8 @@ module _ {M : Type 1} (𝓤 : URA M) (H : Heap 𝓤) (A : Atoms 𝓤) (W : Given
         move ! (2 ∷ 4 ∷ 0 ∷ []) $ use3 W (raw (Adv 𝓤 H A mem run .pre (to-adv ν l₅ δ (x .at)))) (goes-adv (sized (x .k) k-less) ν l₅ δ (x .at)) $
         -- [what the call asks; the lender's part; the way back to the token; _12; …]
         calls-at ! (fmOf 𝓤 H (W .laws) 𝓣) (Adv 𝓤 H A mem run) known-adv (to-adv ν l₅ δ (x .at)) (and-then ! (load ! (from ! (stop !)) (look ! 7 refl)) (no-more !)) (λ u.
-        use1 W (later (some (λ (e : Entry). ((‵ (flft (ν ∷ κ) (PosShare·left q)) ⊛ (‵ (flft κ (PosShare·right q)) ⊛ ‵ ftrue)) ⊛ ‵ (E.the-row .own e (u ∷ []))) ⊛ raw (ensured 𝓤 H A advance.ended (advance.clauses 𝓤 H A mem run) (ν ∷ κ, (κ, tt)) (lent ν l₅ δ (x .at), tt) tt e)))) (id⊢ 𝓤 _) $ await ! tt $ pick ! (λ e.
-        split ! $ move ! (1 ∷ []) $ use1 W (some (λ (ws : Reader × Unit {0}). ‵ (lasts advance.ended (ν ∷ κ, (κ, tt)) (lent ν l₅ δ (x .at), tt) ws) ⊛ raw (fact 𝓤 ((ws .0 .buffer ≡ buf) × (found e (ws .0 .place) ≡ nextAt s (x .at)))))) (id⊢ 𝓤 _) $ pick ! (λ ws.
+        use1 W (later (some (λ (e : Entry). ((‵ (flft (ν ∷ κ) (PosShare·left q)) ⊛ (‵ (flft κ (PosShare·right q)) ⊛ ‵ ftrue)) ⊛ ‵ (E.the-row .own e (u ∷ []))) ⊛ raw (ensured 𝓤 H A advance.ended (advance.clauses 𝓤 H A mem run) (ν ∷ κ, (κ, tt)) (lent l₅ δ (x .at), tt) tt e)))) (id⊢ 𝓤 _) $ await ! tt $ pick ! (λ e.
+        split ! $ move ! (1 ∷ []) $ use1 W (some (λ (ws : Reader × Unit {0}). ‵ (lasts advance.ended (ν ∷ κ, (κ, tt)) (lent l₅ δ (x .at), tt) ws) ⊛ raw (fact 𝓤 ((ws .0 .buffer ≡ buf) × (found e (ws .0 .place) ≡ nextAt s (x .at)))))) (id⊢ 𝓤 _) $ pick ! (λ ws.
         split ! $ move ! (1 ∷ []) $ heard ! ((ws .0 .buffer ≡ buf) × (found e (ws .0 .place) ≡ nextAt s (x .at))) (λ fa. fsplit ! $ move ! (2 ∷ []) $ split ! $ move ! (1 ∷ []) $
         peeks ! E.the-row (Is E.the-row) (shows 𝓤 H A E.the-row) e (u ∷ []) (λ is.
         let told = LL.tells E.the-type E′.the-laws e _ is in
@@ -358,7 +358,7 @@ module _ {M : Type 1} (𝓤 : URA M) (H : Heap 𝓤) (A : Atoms 𝓤) (W : Given
       alloc1 ! (λ l₀. alloc1 ! (λ l₁. alloc1 ! (λ l₂. alloc1 ! (λ l₃. alloc1 ! (λ l₄. alloc1 ! (λ l₅. alloc1 ! (λ l₆. alloc1 ! (λ l₇. alloc1 ! (λ l₈. alloc1 ! (λ l₉. alloc1 ! (λ l₁₀. alloc1 ! (λ l₁₁. alloc1 ! (λ l₁₂. alloc0 ! $ params1 ! $
       pass1 ! (init ! 22 refl (tt, (tt, (record { fits = room-b .0 }, tt)))) $ pass1 ! (init ! 20 refl (tt, (tt, (record { fits = room .0 }, tt)))) $ pass0 ! $
       assigns ! (of-opd ! (load ! (from ! (fld ! refl (stop !))) (look-in ! 20 (sub ! 1 refl (whole !))))) (from ! (stop !)) (init ! 8 refl (tt, record { fits = room .0 })) $
-      move ! (29 ∷ 30 ∷ []) $ use2 W (raw (onEntry 𝓤 H A check.signature (κ, tt) (q, tt) (buf, (length ls, tt)) (passed (length ls))) ⊛ ‵ Buf) (parts (length ls) (room .0)) $ split ! $
+      move ! (29 ∷ 30 ∷ []) $ use2 W (raw (onEntry 𝓤 H A check.signature (κ, tt) (q, tt) (buf, (length ls, tt)) passed) ⊛ ‵ Buf) (parts (room .0)) $ split ! $
       use1 W (raw (Check 𝓤 H A mem run .pre to-check)) asked-check $
       calls-at ! (fmOf 𝓤 H (W .laws) 𝓣) (Check 𝓤 H A mem run) known-check to-check (and-then ! (load ! (from ! (stop !)) (look ! 24 refl)) (and-then ! (load ! (from ! (stop !)) (look ! 10 refl)) (no-more !))) (λ u.
       use1 W (later (some (λ (r : Checked). ((‵ (flft κ q) ⊛ ‵ ftrue) ⊛ ‵ (R.the-row .own r (u ∷ []))) ⊛ raw (ensured 𝓤 H A check.ended (check.clauses 𝓤 H A mem run) (κ, tt) (buf, (length ls, tt)) tt r)))) (id⊢ 𝓤 _) $ await ! tt $ pick ! (λ r.

@@ -29,9 +29,10 @@ add-if4 c = search needs
 returns-4 : tie.Need-returns-4
 unfolding stepAt
 returns-4 c =
-    let a = c .before .before .before .before .before .before .args in
+    let c4 = c .before .before .before .before in
+    let a = c4 .before .before .args in
     let short : length (a .buffer .now) < a .at + 2 + getD (a .buffer .now) (a .at + 1) 0 = omega arith in
-    simp (lt-ltb _ _ (c .before .before .before .before .if1 .left), ne-eqb _ _ (c .before .before .if2 .left), ne-eqb _ _ (c .before .if3 .left), lt-leb _ _ short)
+    simp (lt-ltb _ _ (c4 .if1 .left), ne-eqb _ _ (c .before .before .if2 .left), ne-eqb _ _ (c .before .if3 .left), lt-leb _ _ short)
 
 add-wide : tie.Need-add-wide
 add-wide c = search needs
@@ -54,9 +55,10 @@ add-if5-2 c = search needs
 returns-5 : tie.Need-returns-5
 unfolding stepAt
 returns-5 c =
-    let a = c .before .before .before .before .before .before .before .before .before .args in
+    let c4 = c .before .before .before .before in
+    let a = c4 .before .before .before .before .before .args in
     let short : length (a .buffer .now) < a .at + 2 + getD (a .buffer .now) (a .at + 1) 0 = omega (arith, c .before .wide .ensures .0) in
-    simp (lt-ltb _ _ (c .before .before .before .before .before .before .before .if1 .left), ne-eqb _ _ (c .before .before .before .before .before .if2 .left), ne-eqb _ _ (c .before .before .before .before .if3 .left), lt-leb _ _ short)
+    simp (lt-ltb _ _ (c4 .before .before .before .if1 .left), ne-eqb _ _ (c4 .before .if2 .left), ne-eqb _ _ (c4 .if3 .left), lt-leb _ _ short)
 
 add-t9 : tie.Need-add-t9
 add-t9 c = search needs
@@ -67,9 +69,10 @@ cast-t13 c = search needs
 returns-6 : tie.Need-returns-6
 unfolding stepAt
 returns-6 c =
-    let a = c .before .before .before .before .before .before .before .before .before .args in
+    let c4 = c .before .before .before .before in
+    let a = c4 .before .before .before .before .before .args in
     let fits : a .at + 2 + getD (a .buffer .now) (a .at + 1) 0 ≤ length (a .buffer .now) = omega (arith, c .before .wide .ensures .0) in
-    simp (lt-ltb _ _ (c .before .before .before .before .before .before .before .if1 .left), ne-eqb _ _ (c .before .before .before .before .before .if2 .left), ne-eqb _ _ (c .before .before .before .before .if3 .left), le-leb _ _ fits, c .before .wide .ensures .0)
+    simp (lt-ltb _ _ (c4 .before .before .before .if1 .left), ne-eqb _ _ (c4 .before .if2 .left), ne-eqb _ _ (c4 .if3 .left), le-leb _ _ fits, c .before .wide .ensures .0)
 
 pub step-at-spec : {M : Type 1} → statement M
 step-at-spec =

@@ -1,7 +1,8 @@
 -- `tuples::write_back` meets its contract: a walk of its MIR, by hand. A local array of 127 entries is lent to `read_tuples`; where the reading is refused its answer is returned; else the array's first entries, as many as were read, are lent to `write_tuples`, over the same bytes.
 --     ends        from any way out: the array's local is put together again, and the locals are freed
---     written     from the branch on, where the reading was accepted: the part is lent, the writer is called, and the array is whole again
---     decide, onto     the branch; the call of the reader
+--     written     after `count_of`: the part is lent, the writer is called, and the array is whole again
+--     by-branch   the branch: a refused reading is the answer, and else `count_of` is called
+--     decide, onto     the call of `is_refused`; the call of the reader
 use mathlib.Core.Path.{_≡_, refl, sym, _∙_, ap, subst}
 use mathlib.Core.Bool.{Bool, true, false}
 use Prim.Native.Nat.{ℕ, _<_, _≤_, _^_}

@@ -1,5 +1,5 @@
--- `tuples::write_tuples` meets its contract: a walk of its MIR, by hand. `new_page` gives the page, the loop adds each entry of the list to it by `add_tuple`, and `put_page` puts it into the buffer. All that the proof knows of the three is that they meet their contracts.
--- The loop's invariant is `State`: with the entries to come the page is the page of them all. The list's and the bodies' slices are Copy. The buffer's borrow is given to `put_page` for good.
+-- `tuples::write_tuples` meets its contract: a walk of its MIR, by hand. `new_page` gives the page, the loop adds each entry of the list to it by `add_tuple`, and `put_page` puts it into the buffer to fill. All that the proof knows of the three is that they meet their contracts.
+-- The loop's invariant is `State`: with the entries to come the page is the page of them all. The list's and the bodies' slices are Copy. The borrow of the buffer to fill is given to `put_page` for good.
 use mathlib.Core.Path.{_≡_, refl, sym, _∙_, ap, subst}
 use mathlib.Core.Bool.{Bool, true, false}
 use mathlib.Core.WellFounded.{WellFounded, InvImage·wf}
@@ -267,7 +267,7 @@ module _ {M : Type 1} (𝓤 : URA M) (H : Heap 𝓤) (A : Atoms 𝓤) (W : Given
         assigns ! (of-opd ! (load ! (from ! (hop ! (look ! 12 refl) (stop !))) (look-raw ! 0 refl))) (from ! (stop !)) (init ! 10 refl typed) $
         assigns ! (of-opd ! (load ! (from ! (stop !)) (look ! 10 refl))) (from ! (stop !)) (init ! 18 refl typed) $
         elem-back ! E.the-row q′ es (x .k) noEntry (E′.lowered e ∷ []) b₀ o₀ k-less $ shuts-slice ! tt E.the-row q′ es b₀ o₀ $ move ! (1 ∷ []) $ leave ! $
-        -- [the token; what the list owns; _12; …; _0; …; what the bodies own; the token; what the buffer owns; the token]
+        -- [the token; what the list owns; _12; …; _0; …; what the bodies own; the token; what the buffer to fill owns; the token]
         move ! (28 ∷ 29 ∷ []) $ use2 W (raw (Add 𝓤 H A mem run .pre (to-add (x .w) e)) ⊛ ‵ Bod) (goes-add (x .w) e (x .gw) ge) $ split ! $
         calls-at ! (fmOf 𝓤 H (W .laws) 𝓣) (Add 𝓤 H A mem run) known-add (to-add (x .w) e) (and-then ! (load ! (from ! (stop !)) (look ! 20 refl)) (and-then ! (load ! (from ! (stop !)) (look ! 16 refl)) (and-then ! (load ! (from ! (stop !)) (look ! 24 refl)) (no-more !)))) (λ u.
         use1 W (later (some (λ (r : Page). ((‵ (flft κ₁ q₁) ⊛ ‵ ftrue) ⊛ ‵ (P.the-row .own r (u ∷ []))) ⊛ raw (ensured 𝓤 H A add.ended (add.clauses 𝓤 H A mem run) (κ₁, tt) (x .w, (e, (bodies, tt))) tt r)))) (id⊢ 𝓤 _) $ await ! tt $ pick ! (λ r.
@@ -276,7 +276,7 @@ module _ {M : Type 1} (𝓤 : URA M) (H : Heap 𝓤) (A : Atoms 𝓤) (W : Given
         let told = LL.tells P.the-type P′.the-laws r _ is in
         land ! (from ! (stop !)) (store ! 21 refl (LL.lawful P.the-type P′.the-laws 𝓤 H A W .typed r _ is .0)) $
         rewrite ! 21 (λ (v : Val). ‵ (fat fullShare P′.mir l₄ 0 v)) (ap only told) refl $ leave ! $ split ! $
-        -- [the token; true; what the bodies own; the token; what the list owns; _12; …; _0; …; what the buffer owns; the token]
+        -- [the token; true; what the bodies own; the token; what the list owns; _12; …; _0; …; what the buffer to fill owns; the token]
         assigns-last ! (bin ! (load ! (from ! (stop !)) (look ! 19 refl)) (lit ! tt) (record { fits = k1 })) (from ! (stop !)) (store ! 19 refl (tt, record { fits = k1 })) $
         forget ! 9 refl $ forget ! 11 refl $ forget ! 13 refl $ forget ! 15 refl $ forget ! 17 refl $
         keep ! (5 ∷ 6 ∷ 7 ∷ 8 ∷ 9 ∷ 10 ∷ 11 ∷ 12 ∷ 13 ∷ 14 ∷ 15 ∷ 16 ∷ 17 ∷ 18 ∷ 19 ∷ 20 ∷ 21 ∷ 22 ∷ 23 ∷ 24 ∷ 25 ∷ 26 ∷ 27 ∷ 28 ∷ 29 ∷ 30 ∷ 4 ∷ 3 ∷ 2 ∷ 0 ∷ 31 ∷ 32 ∷ []) $
@@ -318,7 +318,7 @@ module _ {M : Type 1} (𝓤 : URA M) (H : Heap 𝓤) (A : Atoms 𝓤) (W : Given
   walk 𝓣 known-new known-add known-put room₀ room₁ room₂ =
       qed W ((‵ (flft κ₀ q₀) ⊛ (‵ (flft κ₁ q₁) ⊛ (‵ (flft κ₂ q₂) ⊛ ‵ ftrue))) ∷ ‵ (owns (ShrSlice (named 0) κ₀ E.the-row ∷ ShrSlice (named 1) κ₁ u8 ∷ MutSlice (named 2) κ₂ u8 ∷ []) a at) ∷ []) ∵
       split ! $ move ! (1 ∷ []) $ split ! $ move ! (1 ∷ []) $ split ! $ move ! (4 ∷ []) $ fsplit ! $ move ! (1 ∷ []) $ fsplit ! $ move ! (1 ∷ []) $ fsplit ! $
-      -- [what the buffer owns; true; what the bodies own; what the list owns; the token of the buffer; true; of the bodies; of the list]
+      -- [what the buffer to fill owns; true; what the bodies own; what the list owns; the token of the buffer to fill; true; of the bodies; of the list]
       keep ! (3 ∷ 7 ∷ 2 ∷ 6 ∷ 0 ∷ 4 ∷ []) $
       enter ! (𝓣 .C) (𝓣 .Λ) code.function (v₀ ∷ v₁ ∷ v₂ ∷ []) _ $
       alloc1 ! (λ l₀. alloc1 ! (λ l₁. alloc1 ! (λ l₂. alloc1 ! (λ l₃. alloc1 ! (λ l₄. alloc1 ! (λ l₅. alloc1 ! (λ l₆. alloc1 ! (λ l₇. alloc1 ! (λ l₈. alloc1 ! (λ l₉. alloc1 ! (λ l₁₀. alloc1 ! (λ l₁₁. alloc1 ! (λ l₁₂. alloc0 ! $ params1 ! $
