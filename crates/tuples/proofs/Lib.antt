@@ -10,3 +10,4 @@ pub mod RoundTrip
 pub mod Theorems
 pub mod LinkFF
 pub mod OnlyOne
+pub mod Arrays
