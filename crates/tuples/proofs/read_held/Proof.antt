@@ -54,7 +54,7 @@ use Rattle.answers.proofs.Outcome.Laws as O′
 use Rattle.tuples.specs.Read.{Reads, heldAfter}
 use Rattle.tuples.specs.declared.Entry.{Entry}
 use Rattle.tuples.specs.declared.Handed.{Handed}
-use Rattle.tuples.proofs.Arrays.{word, bytesTy, entriesTy, arrayTy, arrayRefTy, bare, cell, asks, Least, Most, to-most, goes-most, said-most, arrayOf, array-of, array-in, array-out}
+use Rattle.tuples.proofs.Arrays.{word, bytesTy, entriesTy, arrayTy, arrayRefTy, bare, cell, asks, said, Least, Most, to-most, goes-most, arrayOf, array-of, array-in, array-out}
 use Rattle.tuples.proofs.Doors.{held-entry, held-outcome}
 use Rattle.tuples.proofs.Entry as E
 use Rattle.tuples.proofs.Entry.Laws as E′
@@ -211,14 +211,14 @@ module _ {M : Type 1} (𝓤 : URA M) (H : Heap 𝓤) (A : Atoms 𝓤) (W : Given
       use0 W (raw (Most 𝓤 H A mem run .pre (to-most 𝓤 H A mem run places 256))) (goes-most 𝓤 H A mem run W places 256 gl (lit< tt)) $
       calls-at ! fm (Most 𝓤 H A mem run) known-most (to-most 𝓤 H A mem run places 256) (and-then ! (load ! (from ! (stop !)) (look ! 27 refl)) (and-then ! (lit ! tt) (no-more !))) (λ un.
       use1 W (later (some (λ (k : ℕ). (‵ ftrue ⊛ ‵ (usize .own k (un ∷ []))) ⊛ raw (ensured 𝓤 H A most.ended (most.clauses 𝓤 H A mem run) tt (places, (256, tt)) tt k)))) (id⊢ 𝓤 _) $ await ! tt $ pick ! (λ n.
-      split ! $ move ! (1 ∷ []) $ use1 W (raw (fact 𝓤 (Least places 256 n))) (said-most 𝓤 H A mem run places 256 n) $ heard ! (Least places 256 n) (λ ln. split ! $ leave ! $
+      split ! $ move ! (1 ∷ []) $ use1 W (raw (fact 𝓤 (Least places 256 n))) (said 𝓤 H A (lasts most.ended tt (places, (256, tt))) (Least places 256 n)) $ heard ! (Least places 256 n) (λ ln. split ! $ leave ! $
       peeks ! usize (Is usize) (shows 𝓤 H A usize) n (un ∷ []) (λ is-n.
       land ! (from ! (stop !)) (init ! 21 refl (uint-lawful 𝓤 H A W w64 .typed n _ is-n .0)) $
       rewrite ! 21 (λ (v : Val). ‵ (fat fullShare (tyInt w64) l₅ 0 v)) (ap only (uint-tells w64 n _ is-n)) refl $ leave ! $
       use0 W (raw (Most 𝓤 H A mem run .pre (to-most 𝓤 H A mem run i 255))) (goes-most 𝓤 H A mem run W i 255 gi (lit< tt)) $
       calls-at ! fm (Most 𝓤 H A mem run) known-most (to-most 𝓤 H A mem run i 255) (and-then ! (load ! (from ! (stop !)) (look ! 23 refl)) (and-then ! (lit ! tt) (no-more !))) (λ up.
       use1 W (later (some (λ (k : ℕ). (‵ ftrue ⊛ ‵ (usize .own k (up ∷ []))) ⊛ raw (ensured 𝓤 H A most.ended (most.clauses 𝓤 H A mem run) tt (i, (255, tt)) tt k)))) (id⊢ 𝓤 _) $ await ! tt $ pick ! (λ p.
-      split ! $ move ! (1 ∷ []) $ use1 W (raw (fact 𝓤 (Least i 255 p))) (said-most 𝓤 H A mem run i 255 p) $ heard ! (Least i 255 p) (λ lp. split ! $ leave ! $
+      split ! $ move ! (1 ∷ []) $ use1 W (raw (fact 𝓤 (Least i 255 p))) (said 𝓤 H A (lasts most.ended tt (i, (255, tt))) (Least i 255 p)) $ heard ! (Least i 255 p) (λ lp. split ! $ leave ! $
       peeks ! usize (Is usize) (shows 𝓤 H A usize) p (up ∷ []) (λ is-p.
       land ! (from ! (stop !)) (init ! 19 refl (uint-lawful 𝓤 H A W w64 .typed p _ is-p .0)) $
       rewrite ! 19 (λ (v : Val). ‵ (fat fullShare (tyInt w64) l₆ 0 v)) (ap only (uint-tells w64 p _ is-p)) refl $ leave ! $
