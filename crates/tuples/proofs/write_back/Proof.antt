@@ -84,12 +84,12 @@ use Rattle.tuples.proofs.write_tuples.Symbol as write-def
 use Rattle.tuples.proofs.write_tuples.Symbol.{name as #tuples·write-tuples}
 use Rattle.tuples.proofs.write_tuples.Met as write-thm
 use Rattle.tuples.proofs.write_back.Key.{name as #tuples·write-back}
-use Rattle.tuples.proofs.write_back as back
+use Rattle.tuples.proofs.write_back as write-back
 use Rattle.tuples.proofs.write_back.Statement as stated
 use Rattle.tuples.proofs.write_back.Code as code
 use Rattle.tuples.proofs.write_back.Code.Mir as mir′
 
-abbrev stayed : Stays (back.ended .signature .params) (back.ended .kept)
+abbrev stayed : Stays (write-back.ended .signature .params) (write-back.ended .kept)
 stayed = (stay-none-slice (0 ∷ []) tt (plain (λ _. u8)) yes, (gave-slice (1 ∷ []) tt (plain (λ _. u8)), tt))
 
 module _ {M : Type 1} (𝓤 : URA M) (H : Heap 𝓤) (A : Atoms 𝓤) (mem : Memory → SProp 𝓤) (run : Routine → Fun 𝓤) where
@@ -119,11 +119,11 @@ module _ {M : Type 1} (𝓤 : URA M) (H : Heap 𝓤) (A : Atoms 𝓤) (W : Given
   abbrev v₂ : Val
   v₂ = sliceVal (b₂, o₂) (length os)
 
-  abbrev at : Vals back.signature (κ, (κ′, tt))
+  abbrev at : Vals write-back.signature (κ, (κ′, tt))
   at = (vb ∷ [], (v₂ ∷ [], tt))
 
   abbrev Post : Val → SProp 𝓤
-  Post = walkOf 𝓤 H A back.ended stayed (back.clauses 𝓤 H A mem run) .post (((κ, (κ′, tt)), (q, (q′, tt)), tt, (buf, (out, tt)), at), tt)
+  Post = walkOf 𝓤 H A write-back.ended stayed (write-back.clauses 𝓤 H A mem run) .post (((κ, (κ′, tt)), (q, (q′, tt)), tt, (buf, (out, tt)), at), tt)
 
   abbrev Buf : Fml
   Buf = ShrSlice (named 0) κ u8 .own buf (vb ∷ [])
@@ -137,23 +137,17 @@ module _ {M : Type 1} (𝓤 : URA M) (H : Heap 𝓤) (A : Atoms 𝓤) (W : Given
       qed W (‵ Out ∷ []) ∵ fsplit ! $ leave ! $ fsplit ! $ move ! (1 ∷ []) $ leave ! $
       use1 W (‵ (fres γ₂ (codedHoleys u8 .code (heres u8 os)))) (W .names .obs-res γ₂ (codedHoleys u8 .code (heres u8 os))) $ by ! (res-finally 𝓤 H A W (named 1) κ′ u8 γ₂ os)
 
-  -- what the two that take the answer are passed
-  abbrev to-test : Outcome → Test 𝓤 H A mem run .Ghost
-  to-test r = ((tt, tt, tt, (r, tt), (O′.lowered r ∷ [], tt)), tt)
+  -- what `is_refused` is passed, and `count_of` too: the answer alone
+  abbrev to-answer : Outcome → Test 𝓤 H A mem run .Ghost
+  to-answer r = ((tt, tt, tt, (r, tt), (O′.lowered r ∷ [], tt)), tt)
 
-  goes-test : (r : Outcome) → Is O.the-row r (O′.lowered r ∷ []) → ent 𝓤 (emp 𝓤) (Test 𝓤 H A mem run .pre (to-test r))
-  goes-test r go = qed W [] ∵ nothing ! $ owned ! O.the-row (Is O.the-row) (EL.makes O.the-type O′.the-plain 𝓤 H A) r _ go $ fjoin ! $ nothing ! $ join ! $ frame ! $ done !
-
-  abbrev to-count : Outcome → Count 𝓤 H A mem run .Ghost
-  to-count r = ((tt, tt, tt, (r, tt), (O′.lowered r ∷ [], tt)), tt)
-
-  goes-count : (r : Outcome) → Is O.the-row r (O′.lowered r ∷ []) → ent 𝓤 (emp 𝓤) (Count 𝓤 H A mem run .pre (to-count r))
-  goes-count r go = qed W [] ∵ nothing ! $ owned ! O.the-row (Is O.the-row) (EL.makes O.the-type O′.the-plain 𝓤 H A) r _ go $ fjoin ! $ nothing ! $ join ! $ frame ! $ done !
+  goes-answer : (r : Outcome) → Is O.the-row r (O′.lowered r ∷ []) → ent 𝓤 (emp 𝓤) (Test 𝓤 H A mem run .pre (to-answer r))
+  goes-answer r go = qed W [] ∵ nothing ! $ owned ! O.the-row (Is O.the-row) (EL.makes O.the-type O′.the-plain 𝓤 H A) r _ go $ fjoin ! $ nothing ! $ join ! $ frame ! $ done !
 
   exits : (r : Outcome) (u : Val) (z : List ℕ) → WritesBack s os r z → length z ≡ length os → ent 𝓤 (⋆ 𝓤 H A (‵ (flft κ q) ∷ ‵ (flft κ′ q′) ∷ ‵ Buf ∷ ‵ (finally u8 γ₂ z) ∷ ‵ (O.the-row .own r (u ∷ [])) ∷ [])) (Post u)
   exits r u z e len =
       qed W (‵ (flft κ q) ∷ ‵ (flft κ′ q′) ∷ ‵ Buf ∷ ‵ (finally u8 γ₂ z) ∷ ‵ (O.the-row .own r (u ∷ [])) ∷ []) ∵
-      suffices ! _ (ends-at 𝓤 H A back.ended stayed (back.clauses 𝓤 H A mem run) W (((κ, (κ′, tt)), (q, (q′, tt)), tt, (buf, (out, tt)), at), tt) u r (tt, (z, tt)) (tt, (len, tt))) $ says ! e $
+      suffices ! _ (ends-at 𝓤 H A write-back.ended stayed (write-back.clauses 𝓤 H A mem run) W (((κ, (κ′, tt)), (q, (q′, tt)), tt, (buf, (out, tt)), at), tt) u r (tt, (z, tt)) (tt, (len, tt))) $ says ! e $
       nothing ! $ move ! (2 ∷ 0 ∷ []) $ join ! $ move ! (1 ∷ 0 ∷ []) $ join ! $ frame ! $ nothing ! $ move ! (2 ∷ 0 ∷ []) $ fjoin ! $ move ! (1 ∷ 0 ∷ []) $ fjoin ! $ done !
 
   module _ (C : Calls 𝓤 H) (Λ : Loops 𝓤 H) (fm : FmC 𝓤 H (W .laws) C) (known-read : Triple 𝓤 (C #tuples·read-tuples) (Read 𝓤 H A mem run)) (known-test : Triple 𝓤 (C #tuples·is-refused) (Test 𝓤 H A mem run))
@@ -187,25 +181,20 @@ module _ {M : Type 1} (𝓤 : URA M) (H : Heap 𝓤) (A : Atoms 𝓤) (W : Given
     module _ (zs : List Entry) (long : length zs ≡ 127) (r : Outcome) (go : Is O.the-row r (O′.lowered r ∷ [])) (er : r ≡ readOutcome s 127) where
       -- the part of m entries is lent to the writer
       module _ (m : ℕ) (m-fits : m < 2 ^ 64) (few : m ≤ 127) (writes-back : (r′ : Outcome) (z : List ℕ) → Writes s (take m zs) os r′ z → WritesBack s os r′ z) where
-        len-ts : length (take m zs) ≡ m
-        len-ts = length-take-le m zs (omega (arith, long))
-
-        room-ts : Room E.the-row (length (take m zs))
-        room-ts = room-take E.the-row 127 m zs long (lit< tt, lit< tt)
-
         abbrev to-write : ℕ → GName → Write 𝓤 H A mem run .Ghost
         to-write ν δ = ((((ν ∷ []), (κ, (κ′, tt))), (fullShare, (q, (q′, tt))), tt, (part zs m l₄ δ, (buf, (out, tt))), (partVal zs m l₄ ∷ [], (vb ∷ [], (v₂ ∷ [], tt)))), tt)
 
         written : Sq W (Locals zs 127 (cell tyBool l₉ (vbool false)) (cell word l₆ (vint w64 m)) (cell O′.mir l₅ (O′.lowered r))) (runs C Λ En mir′.t-9 (atRet En Post))
         written =
+            let size : length (take m zs) ≡ m = length-take-le m zs (omega (arith, long)) in
             assigns ! (addr ! (from ! (stop !))) (from ! (stop !)) (init ! 7 refl (tt, tt)) $
             assigns ! (agg ! (and-then ! (load ! (from ! (stop !)) (look ! 7 refl)) (and-then ! (load ! (from ! (stop !)) (look ! 15 refl)) (no-more !)))) (from ! (stop !)) (init ! 5 refl (tt, (tt, (record { fits = m-fits }, tt)))) $
-            rewrite ! 5 (λ (j : ℕ). ‵ (fat fullShare (entriesTy erased imm) l₁₁ 0 (sliceVal (l₄, 0) j))) (sym len-ts) refl $
+            rewrite ! 5 (λ (j : ℕ). ‵ (fat fullShare (entriesTy erased imm) l₁₁ 0 (sliceVal (l₄, 0) j))) (sym size) refl $
             assigns ! (addr ! (from ! (fld ! refl (hop ! (look-in ! 22 (sub ! 0 refl (whole !))) (stop !))))) (from ! (stop !)) (init ! 3 refl (tt, tt)) $
             assigns ! (agg ! (and-then ! (load ! (from ! (stop !)) (look ! 3 refl)) (and-then ! (load ! (from ! (fld ! refl (stop !))) (look-in ! 22 (sub ! 1 refl (whole !)))) (no-more !)))) (from ! (stop !)) (init ! 1 refl (tt, (tt, (record { fits = room₂ .0 }, tt)))) $
             -- the array is cut in two, and the first part is lent
             use1 W (‵ (Kept zs m l₄) ⊛ ‵ (Others zs m l₄)) (part-cut zs m l₄ 𝓤 H A W) $ split ! $
-            lft-new ! tt (λ ν. move ! (1 ∷ []) $ use1 W (later (some (λ (δ : GName). ‵ (Part zs m l₄ ν δ) ⊛ ‵ (flent (ν ∷ []) (Kept zs m l₄))))) (lends-shr-slice 𝓤 H A W E.the-row (named 0) (ν ∷ []) fullShare (take m zs) l₄ 0 room-ts) $ await ! tt $ pick ! (λ δ. split ! $
+            lft-new ! tt (λ ν. move ! (1 ∷ []) $ use1 W (later (some (λ (δ : GName). ‵ (Part zs m l₄ ν δ) ⊛ ‵ (flent (ν ∷ []) (Kept zs m l₄))))) (lends-shr-slice 𝓤 H A W E.the-row (named 0) (ν ∷ []) fullShare (take m zs) l₄ 0 (room-take E.the-row 127 m zs long (lit< tt, lit< tt))) $ await ! tt $ pick ! (λ δ. split ! $
             -- [the part; the lender's part; the token ν; the other entries; _13; … (31) Buf; κ; Out; κ′]
             move ! (31 ∷ []) $ use1 W (‵ Buf ⊛ ‵ Buf) (shr-slice-copy 𝓤 H A W (named 0) κ u8 .twice buf (vb ∷ [])) $ split ! $
             -- [Buf; Buf; the part; the lender's part; ν; the others; _13 (6); … ; κ (33); Out (34); κ′ (35)]
@@ -245,8 +234,8 @@ module _ {M : Type 1} (𝓤 : URA M) (H : Heap 𝓤) (A : Atoms 𝓤) (W : Given
       by-branch ls len e false h =
           first ! $ branches ! (load ! (from ! (stop !)) (look ! 9 refl)) (λ z. absurd z)
           (λ _. skips ! $ exec ! C Λ En mir′.t-8 (atRet En Post) $
-          use0 W (raw (Count 𝓤 H A mem run .pre (to-count r))) (goes-count r go) $
-          calls-at ! fm (Count 𝓤 H A mem run) known-count (to-count r) (and-then ! (load ! (from ! (stop !)) (look ! 18 refl)) (no-more !)) (λ u.
+          use0 W (raw (Count 𝓤 H A mem run .pre (to-answer r))) (goes-answer r go) $
+          calls-at ! fm (Count 𝓤 H A mem run) known-count (to-answer r) (and-then ! (load ! (from ! (stop !)) (look ! 18 refl)) (no-more !)) (λ u.
           use1 W (later (some (λ (m : ℕ). (‵ ftrue ⊛ ‵ (usize .own m (u ∷ []))) ⊛ raw (ensured 𝓤 H A count.ended (count.clauses 𝓤 H A mem run) tt (r, tt) tt m)))) (id⊢ 𝓤 _) $ await ! tt $ pick ! (λ m.
           split ! $ move ! (1 ∷ []) $ use1 W (raw (fact 𝓤 (m ≡ outcomeValue r))) (said 𝓤 H A (lasts count.ended tt (r, tt)) (m ≡ outcomeValue r)) $ heard ! (m ≡ outcomeValue r) (λ em. split ! $ leave ! $
           peeks ! usize (Is usize) (shows 𝓤 H A usize) m (u ∷ []) (λ is.
@@ -259,8 +248,8 @@ module _ {M : Type 1} (𝓤 : URA M) (H : Heap 𝓤) (A : Atoms 𝓤) (W : Given
 
       decide : (ls : List Entry) → length ls ≡ 127 → Reads s ls r zs → Sq W (Locals zs 127 (bare tyBool l₉) (bare word l₆) (cell O′.mir l₅ (O′.lowered r))) (runs C Λ En mir′.t-6 (atRet En Post))
       decide ls len e =
-          use0 W (raw (Test 𝓤 H A mem run .pre (to-test r))) (goes-test r go) $
-          calls-at ! fm (Test 𝓤 H A mem run) known-test (to-test r) (and-then ! (load ! (from ! (stop !)) (look ! 18 refl)) (no-more !)) (λ u.
+          use0 W (raw (Test 𝓤 H A mem run .pre (to-answer r))) (goes-answer r go) $
+          calls-at ! fm (Test 𝓤 H A mem run) known-test (to-answer r) (and-then ! (load ! (from ! (stop !)) (look ! 18 refl)) (no-more !)) (λ u.
           use1 W (later (some (λ (t : Bool). (‵ ftrue ⊛ ‵ (Boolean .own t (u ∷ []))) ⊛ raw (ensured 𝓤 H A test.ended (test.clauses 𝓤 H A mem run) tt (r, tt) tt t)))) (id⊢ 𝓤 _) $ await ! tt $ pick ! (λ t.
           split ! $ move ! (1 ∷ []) $ use1 W (raw (fact 𝓤 (t ≡ refused r))) (said 𝓤 H A (lasts test.ended tt (r, tt)) (t ≡ refused r)) $ heard ! (t ≡ refused r) (λ et. split ! $ leave ! $
           peeks ! Boolean (Is Boolean) (shows 𝓤 H A Boolean) t (u ∷ []) (λ is.
@@ -310,7 +299,7 @@ module _ {M : Type 1} (𝓤 : URA M) (H : Heap 𝓤) (A : Atoms 𝓤) (W : Given
 
   walk : (C : Calls 𝓤 H) (Λ : Loops 𝓤 H) (fm : FmC 𝓤 H (W .laws) C) (known-read : Triple 𝓤 (C #tuples·read-tuples) (Read 𝓤 H A mem run)) (known-test : Triple 𝓤 (C #tuples·is-refused) (Test 𝓤 H A mem run))
       (known-count : Triple 𝓤 (C #tuples·count-of) (Count 𝓤 H A mem run)) (known-write : Triple 𝓤 (C #tuples·write-tuples) (Write 𝓤 H A mem run)) → Room u8 (length s) → Room u8 (length os)
-      → ent 𝓤 (onEntry 𝓤 H A back.signature (κ, (κ′, tt)) (q, (q′, tt)) (buf, (out, tt)) at) (WpFn 𝓤 H C Λ code.function (vb ∷ v₂ ∷ []) Post)
+      → ent 𝓤 (onEntry 𝓤 H A write-back.signature (κ, (κ′, tt)) (q, (q′, tt)) (buf, (out, tt)) at) (WpFn 𝓤 H C Λ code.function (vb ∷ v₂ ∷ []) Post)
   walk C Λ fm known-read known-test known-count known-write room₁ room₂ =
       let g0 : Is E.the-row none (E′.lowered none ∷ []) = LL.owes E.the-type E′.the-laws none ((refl, lit< tt), ((refl, lit< tt), ((refl, lit< tt), tt))) in
       qed W ((‵ (flft κ q) ⊛ (‵ (flft κ′ q′) ⊛ ‵ ftrue)) ∷ ‵ (owns (ShrSlice (named 0) κ u8 ∷ MutSlice (named 1) κ′ u8 ∷ []) (buf, (out, tt)) at) ∷ []) ∵ split ! $ move ! (1 ∷ []) $ split ! $ move ! (3 ∷ []) $ fsplit ! $ move ! (1 ∷ []) $ fsplit ! $
@@ -332,21 +321,21 @@ module _ {M : Type 1} (𝓤 : URA M) (H : Heap 𝓤) (A : Atoms 𝓤) (W : Given
 
 module _ {M : Type 1} (𝓤 : URA M) (H : Heap 𝓤) (A : Atoms 𝓤) (W : Given 𝓤 H A) (mem : Memory → SProp 𝓤) (run : Routine → Fun 𝓤) (𝓣 : Tables 𝓤 H) (known-read : Triple 𝓤 (𝓣 .C #tuples·read-tuples) (Read 𝓤 H A mem run))
     (known-test : Triple 𝓤 (𝓣 .C #tuples·is-refused) (Test 𝓤 H A mem run)) (known-count : Triple 𝓤 (𝓣 .C #tuples·count-of) (Count 𝓤 H A mem run)) (known-write : Triple 𝓤 (𝓣 .C #tuples·write-tuples) (Write 𝓤 H A mem run)) where
-  back-walks : Walks 𝓤 H A back.ended stayed (WpFn 𝓤 H (𝓣 .C) (𝓣 .Λ) code.function) (back.clauses 𝓤 H A mem run)
-  back-walks = walked 𝓤 H A back.ended stayed (back.clauses 𝓤 H A mem run) (WpFn 𝓤 H (𝓣 .C) (𝓣 .Λ) code.function) (λ κs. (slice-vals, (slice-vals, tt))) (λ κs. (shr-slice-tells (named 0) (κs .0) u8, (mut-slice-tells (named 1) (κs .1 .0) u8, tt)))
+  write-back-walks : Walks 𝓤 H A write-back.ended stayed (WpFn 𝓤 H (𝓣 .C) (𝓣 .Λ) code.function) (write-back.clauses 𝓤 H A mem run)
+  write-back-walks = walked 𝓤 H A write-back.ended stayed (write-back.clauses 𝓤 H A mem run) (WpFn 𝓤 H (𝓣 .C) (𝓣 .Λ) code.function) (λ κs. (slice-vals, (slice-vals, tt))) (λ κs. (shr-slice-tells (named 0) (κs .0) u8, (mut-slice-tells (named 1) (κs .1 .0) u8, tt)))
       (λ κs qs bounds a g are. via 𝓤 _ (fst∗ 𝓤 _ (emp 𝓤)) (walk 𝓤 H A W mem run (κs .0) (κs .1 .0) (qs .0) (qs .1 .0) (a .0 .ptr .0) (a .0 .ptr .1) (a .0 .name) (a .0 .now) (a .1 .0 .ptr .0) (a .1 .0 .ptr .1) (a .1 .0 .name) (a .1 .0 .now)
       (𝓣 .C) (𝓣 .Λ) (fmOf 𝓤 H (W .laws) 𝓣) known-read known-test known-count known-write (are .0 .0 .1) (are .1 .0 .0 .1)))
 
-  back-meets : Meets 𝓤 H A back.signature (WpFn 𝓤 H (𝓣 .C) (𝓣 .Λ) code.function) (back.spec 𝓤 H A mem run)
-  back-meets = walk-meets 𝓤 H A back.ended stayed W (goes-none-slice 𝓤 H A W 2 (0 ∷ []) tt (plain (λ _. u8)) yes, (goes-gave-slice 𝓤 H A W 2 1 tt (plain (λ _. u8)), tt))
-      (back.clauses 𝓤 H A mem run) (WpFn 𝓤 H (𝓣 .C) (𝓣 .Λ) code.function) (WpFn-mono 𝓤 H (W .laws) 𝓣 code.function) back-walks
+  write-back-meets : Meets 𝓤 H A write-back.signature (WpFn 𝓤 H (𝓣 .C) (𝓣 .Λ) code.function) (write-back.spec 𝓤 H A mem run)
+  write-back-meets = walk-meets 𝓤 H A write-back.ended stayed W (goes-none-slice 𝓤 H A W 2 (0 ∷ []) tt (plain (λ _. u8)) yes, (goes-gave-slice 𝓤 H A W 2 1 tt (plain (λ _. u8)), tt))
+      (write-back.clauses 𝓤 H A mem run) (WpFn 𝓤 H (𝓣 .C) (𝓣 .Λ) code.function) (WpFn-mono 𝓤 H (W .laws) 𝓣 code.function) write-back-walks
 
 pub write-back-spec : {M : Type 1} → stated.statement M
 unfolding code.routine tablesOf
 write-back-spec 𝓤 H 𝓜 𝓖 𝓡 =
-    entered 𝓤 H (tripleOf 𝓤 H (𝓖 .A) back.signature (back.spec 𝓤 H (𝓖 .A) (𝓜 .mem) (𝓡 .run)))
+    entered 𝓤 H (tripleOf 𝓤 H (𝓖 .A) write-back.signature (write-back.spec 𝓤 H (𝓖 .A) (𝓜 .mem) (𝓡 .run)))
     (tables 𝓤 H 𝓜 𝓡 code.env .C) (tables 𝓤 H 𝓜 𝓡 code.env .Λ) #tuples·write-back code.function (code.unfolded 𝓤 H 𝓜 𝓡)
-    (back-meets 𝓤 H (𝓖 .A) (givenOf 𝓤 H 𝓜 𝓖) (𝓜 .mem) (𝓡 .run) (tablesOf 𝓤 H 𝓜 (tables 𝓤 H 𝓜 𝓡 code.env))
+    (write-back-meets 𝓤 H (𝓖 .A) (givenOf 𝓤 H 𝓜 𝓖) (𝓜 .mem) (𝓡 .run) (tablesOf 𝓤 H 𝓜 (tables 𝓤 H 𝓜 𝓡 code.env))
     (cited 𝓤 H (Read 𝓤 H (𝓖 .A) (𝓜 .mem) (𝓡 .run)) 𝓜 𝓡 code.env #tuples·read-tuples read-def.routine code.calls-tuples·read-tuples (read-thm.met 𝓤 H 𝓜 𝓖 𝓡))
     (cited 𝓤 H (Test 𝓤 H (𝓖 .A) (𝓜 .mem) (𝓡 .run)) 𝓜 𝓡 code.env #tuples·is-refused test-def.routine code.calls-tuples·is-refused (test-thm.met 𝓤 H 𝓜 𝓖 𝓡))
     (cited 𝓤 H (Count 𝓤 H (𝓖 .A) (𝓜 .mem) (𝓡 .run)) 𝓜 𝓡 code.env #tuples·count-of count-def.routine code.calls-tuples·count-of (count-thm.met 𝓤 H 𝓜 𝓖 𝓡))

@@ -144,12 +144,6 @@ module _ {M : Type 1} (𝓤 : URA M) (H : Heap 𝓤) (A : Atoms 𝓤) (W : Given
       long : length zs ≡ 256
       long = length-set ls k y ∙ len
 
-      len-ts : length (take n zs) ≡ n
-      len-ts = length-take-le n zs (omega (arith, long, ln .1))
-
-      room-ts : Room E.the-row (length (take n zs))
-      room-ts = room-take E.the-row 256 n zs long (lit< tt, lit< tt)
-
       -- the part that is lent is the list that was asked for
       those : take n zs ≡ made (min c 256) x y
       those =
@@ -167,6 +161,7 @@ module _ {M : Type 1} (𝓤 : URA M) (H : Heap 𝓤) (A : Atoms 𝓤) (W : Given
           ++ ‵ Bod ∷ ‵ (flft κ q) ∷ ‵ Out ∷ ‵ (flft κ′ q′) ∷ []) (runs C Λ En mir′.t-4 (atRet En Post))
       onto =
           let k6 : k * 6 < 2 ^ 64 = omega (arith, lk .1) in
+          let size : length (take n zs) ≡ n = length-take-le n zs (omega (arith, long, ln .1)) in
           let inside : k < length ls = omega (arith, len, lk .1) in
           let typed-y = LL.lawful E.the-type E′.the-laws 𝓤 H A W .typed y _ gy .0 in
           assigns ! (bin ! (load ! (from ! (stop !)) (look ! 16 refl)) (lit ! tt) (record { fits = k6 })) (from ! (stop !)) (init ! 13 refl (tt, record { fits = k6 })) $
@@ -179,13 +174,13 @@ module _ {M : Type 1} (𝓤 : URA M) (H : Heap 𝓤) (A : Atoms 𝓤) (W : Given
           move ! (1 ∷ []) $ leave ! $ owned ! E.the-row (Is E.the-row) (LL.makes E.the-type E′.the-plain 𝓤 H A) y _ gy $ move ! (1 ∷ 0 ∷ []) $ elem-put ! E.the-row fullShare ls k y (E′.lowered y ∷ []) l₈ 0 inside $
           assigns ! (addr ! (from ! (stop !))) (from ! (stop !)) (init ! 7 refl (tt, tt)) $
           assigns ! (agg ! (and-then ! (load ! (from ! (stop !)) (look ! 7 refl)) (and-then ! (load ! (from ! (stop !)) (look ! 18 refl)) (no-more !)))) (from ! (stop !)) (init ! 5 refl (tt, (tt, (record { fits = n-fits }, tt)))) $
-          rewrite ! 5 (λ (j : ℕ). ‵ (fat fullShare (entriesTy erased imm) l₁₃ 0 (sliceVal (l₈, 0) j))) (sym len-ts) refl $
+          rewrite ! 5 (λ (j : ℕ). ‵ (fat fullShare (entriesTy erased imm) l₁₃ 0 (sliceVal (l₈, 0) j))) (sym size) refl $
           assigns ! (addr ! (from ! (fld ! refl (hop ! (look-in ! 20 (sub ! 0 refl (whole !))) (stop !))))) (from ! (stop !)) (init ! 3 refl (tt, tt)) $
           assigns ! (agg ! (and-then ! (load ! (from ! (stop !)) (look ! 3 refl)) (and-then ! (load ! (from ! (fld ! refl (stop !))) (look-in ! 20 (sub ! 1 refl (whole !)))) (no-more !)))) (from ! (stop !)) (init ! 1 refl (tt, (tt, (record { fits = room₂ .0 }, tt)))) $
           -- the array is cut in two, and the first part is lent
           use1 W (‵ (cells (memOf E.the-row) zs l₈ 0)) (whole-in 𝓤 H A W E.the-row zs l₈ 0) $
           use1 W (‵ (Kept zs n l₈) ⊛ ‵ (Others zs n l₈)) (part-cut zs n l₈ 𝓤 H A W) $ split ! $
-          lft-new ! tt (λ ν. move ! (1 ∷ []) $ use1 W (later (some (λ (δ : GName). ‵ (Part zs n l₈ ν δ) ⊛ ‵ (flent (ν ∷ []) (Kept zs n l₈))))) (lends-shr-slice 𝓤 H A W E.the-row (named 0) (ν ∷ []) fullShare (take n zs) l₈ 0 room-ts) $ await ! tt $ pick ! (λ δ. split ! $
+          lft-new ! tt (λ ν. move ! (1 ∷ []) $ use1 W (later (some (λ (δ : GName). ‵ (Part zs n l₈ ν δ) ⊛ ‵ (flent (ν ∷ []) (Kept zs n l₈))))) (lends-shr-slice 𝓤 H A W E.the-row (named 0) (ν ∷ []) fullShare (take n zs) l₈ 0 (room-take E.the-row 256 n zs long (lit< tt, lit< tt))) $ await ! tt $ pick ! (λ δ. split ! $
           -- [the part; the lender's part; the token ν; the other entries; _15 (4); …; Bod (35); …]
           move ! (35 ∷ []) $ use1 W (‵ Bod ⊛ ‵ Bod) (shr-slice-copy 𝓤 H A W (named 0) κ u8 .twice bodies (vb ∷ [])) $ split ! $
           -- [Bod; Bod; the part; the lender's part; ν; the others; _15 (6); … ; κ (37); Out (38); κ′ (39)]
