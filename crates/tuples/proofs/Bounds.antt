@@ -3,7 +3,7 @@
 --     read-well     an accepted reading: the three tests passed, and the count is that of the entries
 --     bounds        the reader's count is within the entries and within the list, where it is not 0 the buffer has 256 bytes, and the list that has so many entries is the reader's
 use mathlib.Core.Path.{_≡_, refl, sym, _∙_, ap}
-use mathlib.Core.Bool.{Bool, true, false, false≢true}
+use mathlib.Core.Bool.{true, false, false≢true}
 use mathlib.Core.List.{List, _∷_, _++_, []}
 use Prim.Native.Nat.{ℕ, zero, suc, _+_, _*_, _<_, _≤_}
 use native.Mathlib.Omega.{arith}
@@ -11,7 +11,6 @@ use lib.ListN.{length, take, drop}
 use lib.Seq.{take-all}
 use lib.Dec.{leb, eqb}
 use borrow.Author.Tests.{leb-true, eqb-true}
-use Rattle.ground.specs.Choice.{pick}
 use Rattle.answers.specs.Answers.{outcomeValue}
 use Rattle.answers.specs.declared.Outcome.{Outcome}
 use Rattle.answers.specs.declared.Outcome.the-variants.{Accepted, Refused}
@@ -48,16 +47,15 @@ pub record ReadWell (s : List ℕ) (places n : ℕ) : Type 0 where
   pub ended : chainAt s 0 .ended ≡ true
   pub count : n ≡ length (all s)
 
-read-by : (s : List ℕ) (places n : ℕ) (t u v : Bool) → eqb (length s) 256 ≡ t → leb 127 places ≡ u → chainAt s 0 .ended ≡ v
-    → pick t (pick u (pick v (Accepted (length (all s))) (Refused ChainBroken)) (Refused ListTooShort)) (Refused TupleBufferLength) ≡ Accepted n → ReadWell s places n
-read-by s places n true true true a b c p = let q : length (all s) ≡ n = cc in record { sized = eqb-true (length s) 256 a; enough = leb-true 127 places b; ended = c; count = sym q }
-read-by s places n true true false a b c p = accepts-not n ChainBroken (sym p)
-read-by s places n true false v a b c p = accepts-not n ListTooShort (sym p)
-read-by s places n false u v a b c p = accepts-not n TupleBufferLength (sym p)
-
 pub read-well : (s : List ℕ) (places n : ℕ) → readOutcome s places ≡ Accepted n → ReadWell s places n
 unfolding readOutcome counted
-read-well s places n p = read-by s places n (eqb (length s) 256) (leb 127 places) (chainAt s 0 .ended) refl refl refl p
+read-well s places n =
+    let P : Outcome → Type 0 = λ o. o ≡ Accepted n → ReadWell s places n in
+    pick-elim P (eqb (length s) 256) _ _
+    (λ a. pick-elim P (leb 127 places) _ _
+    (λ b. pick-elim P (chainAt s 0 .ended) _ _
+    (λ c p. let q : length (all s) ≡ n = cc in record { sized = eqb-true (length s) 256 a; enough = leb-true 127 places b; ended = c; count = sym q })
+    (λ _ p. accepts-not n ChainBroken (sym p))) (λ _ p. accepts-not n ListTooShort (sym p))) (λ _ p. accepts-not n TupleBufferLength (sym p))
 
 -- ---- the reader's answer
 pub record Bounds (s : List ℕ) (ls : List Entry) (o : Outcome) : Type 0 where

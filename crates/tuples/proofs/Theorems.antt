@@ -3,16 +3,16 @@
 --     read-then-written-back  "writing back equals the chain up to its end mark, null (00H) tuples dropped"; `door-written-back`: the function that does both does it
 --     most-read               at most 127 entries in 256 bytes
 use mathlib.Core.Path.{_≡_, refl, sym, _∙_, ap, subst}
-use mathlib.Core.Bool.{Bool, true, false}
+use mathlib.Core.Bool.{true}
 use mathlib.Core.List.{List, _++_, map, []}
 use Prim.Native.Nat.{ℕ, suc, _≤_, _-_}
 use native.Mathlib.Omega.{arith}
 use lib.ListN.{length, take, replicate, length-append, length-replicate}
 use lib.Dec.{leb, eqb}
 use borrow.Author.Tests.{leb-true, le-leb, eq-eqb}
-use Rattle.ground.specs.Choice.{pick}
+use Rattle.ground.proofs.Picks.{pick-elim}
 use Rattle.answers.specs.declared.Outcome.{Outcome}
-use Rattle.answers.specs.declared.Outcome.the-variants.{Accepted, Refused}
+use Rattle.answers.specs.declared.Outcome.the-variants.{Accepted}
 use Rattle.answers.specs.declared.Refusal.the-variants.{TupleBufferLength, TuplesTooLong, TupleBad}
 use Rattle.tuples.specs.Chain.{Chain, chainFrom, chainAt}
 use Rattle.tuples.specs.Read.{readOutcome, counted, unlessRefused, Reads}
@@ -30,16 +30,14 @@ record WrittenWell (bs : List ℕ) (es : List Entry) : Type 0 where
   all-good : allGood bs es ≡ true
   short : length (tupleBytes bs es) ≤ 255
 
-write-by : (bs : List ℕ) (es : List Entry) (v : ℕ) (t g l : Bool) → allGood bs es ≡ g → leb (length (tupleBytes bs es)) 255 ≡ l
-    → pick t (pick g (pick l (Accepted 0) (Refused TuplesTooLong)) (Refused TupleBad)) (Refused TupleBufferLength) ≡ Accepted v → WrittenWell bs es
-write-by bs es v true true true a b p = record { all-good = a; short = leb-true (length (tupleBytes bs es)) 255 b }
-write-by bs es v true true false a b p = accepts-not v TuplesTooLong (sym p)
-write-by bs es v true false l a b p = accepts-not v TupleBad (sym p)
-write-by bs es v false g l a b p = accepts-not v TupleBufferLength (sym p)
-
 written-well : (bs : List ℕ) (es : List Entry) (places v : ℕ) → writeOutcome bs es places ≡ Accepted v → WrittenWell bs es
 unfolding writeOutcome
-written-well bs es places v p = write-by bs es v (eqb places 256) (allGood bs es) (leb (length (tupleBytes bs es)) 255) refl refl p
+written-well bs es places v =
+    let P : Outcome → Type 0 = λ o. o ≡ Accepted v → WrittenWell bs es in
+    pick-elim P (eqb places 256) _ _
+    (λ _. pick-elim P (allGood bs es) _ _
+    (λ g. pick-elim P (leb (length (tupleBytes bs es)) 255) _ _ (λ h p. record { all-good = g; short = leb-true (length (tupleBytes bs es)) 255 h })
+    (λ _ p. accepts-not v TuplesTooLong (sym p))) (λ _ p. accepts-not v TupleBad (sym p))) (λ _ p. accepts-not v TupleBufferLength (sym p))
 
 -- ---- what was written reads back
 written-chain : (bs : List ℕ) (es : List Entry) → allGood bs es ≡ true → length (tupleBytes bs es) ≤ 255 → chainAt (filledUp (tupleBytes bs es)) 0 ≡ whole (laid 0 es)
