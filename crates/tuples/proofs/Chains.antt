@@ -1,5 +1,5 @@
 -- Laws of a tuple chain.
---     skip          the chain of bytes of which the first k are a body is the chain of what comes after them
+--     skip          the chain of bytes of which the first k are a body is the chain of what comes after them; `after-body`: at a place of a buffer
 --     chain-step    the chain at a place, by what `stepAt` finds there; `past`: beyond the buffer it is broken; `chain-found`: by a step that was found
 --     forward       a step goes forward
 use mathlib.Core.Path.{_≡_, refl, sym, _∙_, ap}
@@ -26,8 +26,8 @@ skip (suc k) [] at = refl
 skip (suc k) (b ∷ r) at = skip k r (at + 1) ∙ ap (chainFrom 0 (drop k r)) (omega arith)
 
 -- the chain after a body of n bytes that starts at a
-pub body : (s : List ℕ) (a n : ℕ) → chainFrom n (drop a s) a ≡ chainAt s (a + n)
-body s a n = skip n (drop a s) a ∙ ap (λ (l : List ℕ). chainFrom 0 l (a + n)) (drop-drop n a s)
+pub after-body : (s : List ℕ) (a n : ℕ) → chainFrom n (drop a s) a ≡ chainAt s (a + n)
+after-body s a n = skip n (drop a s) a ∙ ap (λ (l : List ℕ). chainFrom 0 l (a + n)) (drop-drop n a s)
 
 -- beyond the buffer the chain is broken
 pub past : (s : List ℕ) (at : ℕ) → length s ≤ at → chainAt s at ≡ stop false
@@ -69,7 +69,7 @@ inner s at h =
     (ap (λ (l : List ℕ). chainFrom 0 l (at + 1)) (sym (drop-cons s (at + 1) 0 h ∙ ap (λ (k : ℕ). n ∷ drop k s) more)))
     ∙ ap (λ (t : Bool). pick (eqb b 255) (stop true) (pick (eqb b 0) (chainAt s (at + 1)) (pick t (grow (entry b (at + 2) n) (chainFrom n (drop (at + 2) s) (at + 2))) (stop false))))
     (fits-by s (at + 2) n (omega arith) (leb (at + 2 + n) (length s)) refl)
-    ∙ ap (λ (X : Chain). pick (eqb b 255) (stop true) (pick (eqb b 0) (chainAt s (at + 1)) (pick (leb (at + 2 + n) (length s)) (grow (entry b (at + 2) n) X) (stop false)))) (body s (at + 2) n)
+    ∙ ap (λ (X : Chain). pick (eqb b 255) (stop true) (pick (eqb b 0) (chainAt s (at + 1)) (pick (leb (at + 2 + n) (length s)) (grow (entry b (at + 2) n) X) (stop false)))) (after-body s (at + 2) n)
     ∙ simp (pick-of (after s at))
 
 -- the last byte

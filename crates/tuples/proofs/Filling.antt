@@ -13,7 +13,7 @@ use Rattle.ground.proofs.Picks.{pick-elim}
 use Rattle.tuples.specs.Chain.{Chain, entry, noEntry, endOf, chainFrom, chainAt, nextAt, firstFound, found}
 use Rattle.tuples.specs.declared.Entry.{Entry}
 use Rattle.tuples.specs.declared.Found.{Found}
-use Rattle.tuples.proofs.Chains.{body}
+use Rattle.tuples.proofs.Chains.{after-body}
 
 abbrev pub all : List ℕ → List Entry
 all s = chainAt s 0 .entries
@@ -35,7 +35,7 @@ of-tuple s at b n r d e es p =
     let first : entry b (at + 2) n ≡ e = cc in
     let others : chainFrom n r (at + 2) .entries ≡ es = cc in
     ap (λ (x : Entry). chainAt s (endOf x) .entries) (sym first)
-    ∙ sym (ap (λ (c : Chain). c .entries) (ap (λ (l : List ℕ). chainFrom n l (at + 2)) (sym d) ∙ body s (at + 2) n)) ∙ others
+    ∙ sym (ap (λ (c : Chain). c .entries) (ap (λ (l : List ℕ). chainFrom n l (at + 2)) (sym d) ∙ after-body s (at + 2) n)) ∙ others
 
 onward-by : (s r : List ℕ) (at : ℕ) → drop at s ≡ r → Onward s (chainFrom 0 r at .entries)
 unfolding chainFrom

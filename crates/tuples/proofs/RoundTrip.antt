@@ -31,14 +31,14 @@ whole es = record { entries = es; ended = true }
 over-body : (body rest : List ℕ) (n at : ℕ) → length body ≡ n → chainFrom n (body ++ rest) at ≡ chainFrom 0 rest (at + n)
 over-body body rest n at e = skip n (body ++ rest) at ∙ ap (λ (l : List ℕ). chainFrom 0 l (at + n)) (drop-at body rest n e)
 
-ends : (m at : ℕ) → chainFrom 0 (replicate (suc m) 255) at ≡ whole []
+end-mark : (m at : ℕ) → chainFrom 0 (replicate (suc m) 255) at ≡ whole []
 unfolding chainFrom
-ends zero at = refl
-ends (suc m) at = refl
+end-mark zero at = refl
+end-mark (suc m) at = refl
 
 pub reads-back : (bs : List ℕ) (es : List Entry) (m at : ℕ) → allGood bs es ≡ true → chainFrom 0 (tupleBytes bs es ++ replicate (suc m) 255) at ≡ whole (laid at es)
 unfolding tupleBytes allGood laid chainFrom
-reads-back bs [] m at p = ends m at
+reads-back bs [] m at p = end-mark m at
 reads-back bs (e ∷ es) m at p =
     let gs = both-of (good bs e) (allGood bs es) p in
     let g = is-good bs e (gs .0) in
@@ -75,14 +75,14 @@ same-bodies bs (e ∷ es) p q at l h =
     let n = e .length in
     let head = p ++ (e .code ∷ (n ∷ [])) in
     let rest = tupleBytes bs es ++ q in
-    let all = p ++ (tupleBytes bs (e ∷ es) ++ q) in
+    let bytes = p ++ (tupleBytes bs (e ∷ es) ++ q) in
     let long : length head ≡ at + 2 = omega (arith, length-append p (e .code ∷ (n ∷ [])), l) in
     let longer : length (head ++ body) ≡ at + 2 + n = omega (arith, length-append head body, long, long-body bs e g) in
-    let split : all ≡ head ++ (body ++ rest) = ap (λ (t : List ℕ). p ++ (e .code ∷ (n ∷ t))) (append-assoc body (tupleBytes bs es) q) ∙ sym (append-assoc p (e .code ∷ (n ∷ [])) (body ++ rest)) in
-    let split2 : all ≡ (head ++ body) ++ rest = split ∙ sym (append-assoc head body rest) in
-    let here : bodyOf all (entry (e .code) (at + 2) n) ≡ body =
+    let split : bytes ≡ head ++ (body ++ rest) = ap (λ (t : List ℕ). p ++ (e .code ∷ (n ∷ t))) (append-assoc body (tupleBytes bs es) q) ∙ sym (append-assoc p (e .code ∷ (n ∷ [])) (body ++ rest)) in
+    let split2 : bytes ≡ (head ++ body) ++ rest = split ∙ sym (append-assoc head body rest) in
+    let here : bodyOf bytes (entry (e .code) (at + 2) n) ≡ body =
     ap (λ (t : List ℕ). take n (drop (at + 2) t)) split ∙ ap (take n) (drop-at head (body ++ rest) (at + 2) long) ∙ take-at body rest n (long-body bs e g) in
-    ap (λ (b : List ℕ). b ∷ map (bodyOf all) (laid (at + 2 + n) es)) here
+    ap (λ (b : List ℕ). b ∷ map (bodyOf bytes) (laid (at + 2 + n) es)) here
     ∙ ap (λ (ls : List (List ℕ)). body ∷ ls) (ap (λ (t : List ℕ). map (bodyOf t) (laid (at + 2 + n) es)) split2 ∙ same-bodies bs es (head ++ body) q (at + 2 + n) longer (gs .1))
 
 -- ---- writing what was read

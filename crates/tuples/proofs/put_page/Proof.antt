@@ -75,8 +75,8 @@ returns-4 c =
     let w = a .w in
     let long : length (w .bytes) ≡ 256 = search needs in
     let e : l .j ≡ 256 = omega arith in
-    let all : l .out ≡ w .bytes = copy-all 256 (w .bytes) (l .out) (omega arith) (omega arith) (rw e at (l .inv .2)) in
-    puts-by w (a .out .now) _ _ (simp (eq-eqb _ _ (c3 .before .before .if1 .left), c3 .before .if2 .left, c3 .if3 .left)) all
+    let copied : l .out ≡ w .bytes = copy-all 256 (w .bytes) (l .out) (omega arith) (omega arith) (rw e at (l .inv .2)) in
+    puts-by w (a .out .now) _ _ (simp (eq-eqb _ _ (c3 .before .before .if1 .left), c3 .before .if2 .left, c3 .if3 .left)) copied
 
 pub put-page-spec : {M : Type 1} → statement M
 put-page-spec =
