@@ -1,5 +1,5 @@
 -- `tuples::write_back` meets its contract: a walk of its MIR, by hand. A local array of 127 entries is lent to `read_tuples`; where the reading is refused its answer is returned; else the array's first entries, as many as were read, are lent to `write_tuples`, over the same bytes.
---     ends        from any way out: the array's local is put together again, and the locals are freed
+--     ends        from any way out: the array's local is room again, and the locals are freed
 --     written     after `count_of`: the part is lent, the writer is called, and the array is whole again
 --     by-branch   the branch: a refused reading is the answer, and else `count_of` is called
 --     decide, onto     the call of `is_refused`; the call of the reader
@@ -155,7 +155,7 @@ module _ {M : Type 1} (𝓤 : URA M) (H : Heap 𝓤) (A : Atoms 𝓤) (W : Given
     abbrev En : Env 𝓤 H
     En = (O′.mir, l₀) ∷ (bytesTy (named 0) imm, l₁) ∷ (bytesTy (named 1) mut, l₂) ∷ (E′.mir, l₃) ∷ (arrayTy 127, l₄) ∷ (O′.mir, l₅) ∷ (word, l₆) ∷ (arrayRefTy mut 127, l₇) ∷ (entriesTy erased mut, l₈) ∷ (tyBool, l₉) ∷ (arrayRefTy imm 127, l₁₀) ∷ (entriesTy erased imm, l₁₁) ∷ (byteRefTy, l₁₂) ∷ (bytesTy erased mut, l₁₃) ∷ []
 
-    -- the array's entries, and the locals while it is lent: whether the flag, the count and the answer are known yet is told
+    -- the array's entries zs, the locals, where the flag, the count and the answer are free or known, and what is had
     abbrev Locals : List Entry → ℕ → List (Item 𝓤) → List (Item 𝓤) → List (Item 𝓤) → List (Item 𝓤)
     Locals zs j flag count answer =
         ‵ (cells (memOf E.the-row) zs l₄ 0) ∷ bare (bytesTy erased mut) l₁₃ ++ bare byteRefTy l₁₂ ++ bare (entriesTy erased imm) l₁₁ ++ bare (arrayRefTy imm 127) l₁₀ ++ flag

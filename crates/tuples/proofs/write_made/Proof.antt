@@ -78,7 +78,7 @@ abbrev stayed : Stays (write-made.ended .signature .params) (write-made.ended .k
 stayed = (stay-none (λ _. E.the-row) yes, (stay-none (λ _. E.the-row) yes, (stay-none (λ _. usize) yes, (stay-none-slice (0 ∷ []) tt (plain (λ _. u8)) yes, (gave-slice (1 ∷ []) tt (plain (λ _. u8)), tt)))))
 
 module _ {M : Type 1} (𝓤 : URA M) (H : Heap 𝓤) (A : Atoms 𝓤) (mem : Memory → SProp 𝓤) (run : Routine → Fun 𝓤) where
-  -- the contracts that the proof cites
+  -- the contracts that the proof cites, beside `Most`
   abbrev Last : Contract 𝓤
   Last = tripleOf 𝓤 H A last-place.signature (last-place.spec 𝓤 H A mem run)
 
@@ -202,7 +202,7 @@ module _ {M : Type 1} (𝓤 : URA M) (H : Heap 𝓤) (A : Atoms 𝓤) (W : Given
           move ! (1 ∷ []) $ split ! $ move ! (1 ∷ []) $ split ! $
           -- [the token; true; the token; the entries; the result; the last list; true; Bod; _15 (8); …]
           returns ! (look ! 37 refl) $ forget ! 8 refl $ forget ! 10 refl $ forget ! 12 refl $ forget ! 14 refl $ forget ! 16 refl $ forget ! 18 refl $ forget ! 20 refl $ forget ! 23 refl $ forget ! 25 refl $ forget ! 27 refl $ forget ! 29 refl $ forget ! 31 refl $ forget ! 33 refl $ forget ! 35 refl $ forget ! 37 refl $
-          -- the array's local is put together again
+          -- the array's local is room again
           move ! (3 ∷ []) $ use1 W (‵ (row E.the-row fullShare zs l₈ 0)) (whole-out 𝓤 H A W E.the-row zs l₈ 0) $
           use1 W (‵ (froom (arrayTy 256) l₈ 0)) (array-out 𝓤 H A W 256 zs l₈ long) $
           move ! (37 ∷ 38 ∷ []) $ free1 ! $ move ! (35 ∷ 36 ∷ []) $ free1 ! $ move ! (33 ∷ 34 ∷ []) $ free1 ! $ move ! (31 ∷ 32 ∷ []) $ free1 ! $ move ! (29 ∷ 30 ∷ []) $ free1 ! $ move ! (27 ∷ 28 ∷ []) $ free1 ! $ move ! (25 ∷ 26 ∷ []) $ free1 ! $ move ! (23 ∷ 24 ∷ []) $ free1 ! $ move ! (0 ∷ 22 ∷ []) $ free1 ! $

@@ -209,7 +209,7 @@ module _ {M : Type 1} (𝓤 : URA M) (H : Heap 𝓤) (A : Atoms 𝓤) (W : Given
     abbrev En : Env 𝓤 H
     En = (O′.mir, l₀) ∷ (entriesTy (named 0) imm, l₁) ∷ (bytesTy (named 1) imm, l₂) ∷ (bytesTy (named 2) mut, l₃) ∷ (P′.mir, l₄) ∷ (word, l₅) ∷ (E′.mir, l₆) ∷ (word, l₇) ∷ (tyBool, l₈) ∷ (tyPtr, l₉) ∷ (E′.mir, l₁₀) ∷ (byteRefTy, l₁₁) ∷ (bytesTy erased mut, l₁₂) ∷ []
 
-    -- the locals, where the count is free or known, and the page is w; what is had; the loop's invariant
+    -- the locals at the page w, where the count is free or known, and what is had; the loop's invariant
     abbrev Locals : List (Item 𝓤) → Page → List (Item 𝓤)
     Locals count w =
         bare (bytesTy erased mut) l₁₂ ++ bare byteRefTy l₁₁ ++ bare E′.mir l₁₀ ++ bare tyPtr l₉ ++ bare tyBool l₈ ++ bare word l₇ ++ bare E′.mir l₆ ++ count ++ cell P′.mir l₄ (vp w)
