@@ -35,16 +35,18 @@ end-requires c κs = search needs
 
 loop-less : tie.Need-loop-less Inv-loop μ-loop
 loop-less c =
-    let s = c .before .before .before .before .before .before .before .before .args .buffer .now in
-    let at = c .before .before .before .before .before .before .loop .at in
-    let p = sym (c .before .before .before .before .step-at .ensures) ∙ c .before .before .entry .given .1 in
+    let c4 = c .before .before .before .before in
+    let s = c4 .before .before .before .before .args .buffer .now in
+    let at = c4 .before .before .loop .at in
+    let p = sym (c4 .step-at .ensures) ∙ c .before .before .entry .given .1 in
     omega (arith, rw p at (forward s at), c .end .ensures)
 
 loop-again : tie.Need-loop-again Inv-loop μ-loop
 loop-again c =
-    let s = c .before .before .before .before .before .before .before .before .args .buffer .now in
-    let l = c .before .before .before .before .before .before .loop in
-    let p = sym (c .before .before .before .before .step-at .ensures) ∙ c .before .before .entry .given .1 in
+    let c4 = c .before .before .before .before in
+    let s = c4 .before .before .before .before .args .buffer .now in
+    let l = c4 .before .before .loop in
+    let p = sym (c4 .step-at .ensures) ∙ c .before .before .entry .given .1 in
     (omega (arith, rw p at (forward s (l .at)), c .end .ensures), rw (c .end .ensures) (counts s (l .at) (l .count) _ p ∙ l .inv .1))
 
 enum-told : tie.Need-enum-told Inv-loop μ-loop
@@ -58,9 +60,10 @@ loop-less-2 c = search needs
 
 loop-again-2 : tie.Need-loop-again-2 Inv-loop μ-loop
 loop-again-2 c =
-    let s = c .before .before .before .before .before .before .args .buffer .now in
-    let l = c .before .before .before .before .loop in
-    let p = chain-found s (l .at) (c .before .before .step-at .ensures) (c .enum-told .given .1) in
+    let c2 = c .before .before in
+    let s = c2 .before .before .before .before .args .buffer .now in
+    let l = c2 .before .before .loop in
+    let p = chain-found s (l .at) (c2 .step-at .ensures) (c .enum-told .given .1) in
     (omega arith, ap (added (l .count)) p ∙ l .inv .1)
 
 enum-told-2 : tie.Need-enum-told-2 Inv-loop μ-loop
@@ -68,9 +71,10 @@ enum-told-2 c = search needs
 
 returns : tie.Need-returns Inv-loop μ-loop
 returns c =
-    let s = c .before .before .before .before .before .before .args .buffer .now in
-    let l = c .before .before .before .before .loop in
-    let p = chain-found s (l .at) (c .before .before .step-at .ensures) (c .enum-told2 .given .1) in
+    let c2 = c .before .before in
+    let s = c2 .before .before .before .before .args .buffer .now in
+    let l = c2 .before .before .loop in
+    let p = chain-found s (l .at) (c2 .step-at .ensures) (c .enum-told2 .given .1) in
     ap Accepted (sym (add-zero _)) ∙ ap (added (l .count)) p ∙ l .inv .1
 
 enum-told-3 : tie.Need-enum-told-3 Inv-loop μ-loop
@@ -78,9 +82,10 @@ enum-told-3 c = search needs
 
 returns-2 : tie.Need-returns-2 Inv-loop μ-loop
 returns-2 c =
-    let s = c .before .before .before .before .before .before .args .buffer .now in
-    let l = c .before .before .before .before .loop in
-    let p = chain-found s (l .at) (c .before .before .step-at .ensures) (c .enum-told3 .given .1) in
+    let c2 = c .before .before in
+    let s = c2 .before .before .before .before .args .buffer .now in
+    let l = c2 .before .before .loop in
+    let p = chain-found s (l .at) (c2 .step-at .ensures) (c .enum-told3 .given .1) in
     ap (added (l .count)) p ∙ l .inv .1
 
 returns-3 : tie.Need-returns-3 Inv-loop μ-loop

@@ -33,9 +33,10 @@ end-requires c κs = search needs
 
 returns : tie.Need-returns Inv-loop μ-loop
 returns c =
-    let a = c .before .before .before .before .before .before .before .before .args in
-    let l = c .before .before .before .before .before .before .loop in
-    let p = chain-found (a .buffer .now) (l .at) (c .before .before .before .before .step-at .ensures) (c .before .before .entry .given .1) in
+    let c4 = c .before .before .before .before in
+    let a = c4 .before .before .before .before .args in
+    let l = c4 .before .before .loop in
+    let p = chain-found (a .buffer .now) (l .at) (c4 .step-at .ensures) (c .before .before .entry .given .1) in
     ap (found _) (c .end .ensures) ∙ found-by (a .buffer .now) (a .from) (l .at) p (l .inv)
 
 enum-told : tie.Need-enum-told Inv-loop μ-loop
@@ -49,9 +50,10 @@ loop-less c = search needs
 
 loop-again : tie.Need-loop-again Inv-loop μ-loop
 loop-again c =
-    let s = c .before .before .before .before .before .before .args .buffer .now in
-    let l = c .before .before .before .before .loop in
-    let p = chain-found s (l .at) (c .before .before .step-at .ensures) (c .enum-told .given .1) in
+    let c2 = c .before .before in
+    let s = c2 .before .before .before .before .args .buffer .now in
+    let l = c2 .before .before .loop in
+    let p = chain-found s (l .at) (c2 .step-at .ensures) (c .enum-told .given .1) in
     p ∙ l .inv
 
 enum-told-2 : tie.Need-enum-told-2 Inv-loop μ-loop
@@ -62,9 +64,10 @@ nothing-requires c κs = search needs
 
 returns-2 : tie.Need-returns-2 Inv-loop μ-loop
 returns-2 c =
-    let a = c .before .before .before .before .before .before .before .args in
-    let l = c .before .before .before .before .before .loop in
-    let p = chain-found (a .buffer .now) (l .at) (c .before .before .before .step-at .ensures) (c .before .enum-told2 .given .1) in
+    let c3 = c .before .before .before in
+    let a = c3 .before .before .before .before .args in
+    let l = c3 .before .before .loop in
+    let p = chain-found (a .buffer .now) (l .at) (c3 .step-at .ensures) (c .before .enum-told2 .given .1) in
     c .nothing .ensures ∙ found-by (a .buffer .now) (a .from) (l .at) p (l .inv)
 
 enum-told-3 : tie.Need-enum-told-3 Inv-loop μ-loop
@@ -75,9 +78,10 @@ nothing-requires-2 c κs = search needs
 
 returns-3 : tie.Need-returns-3 Inv-loop μ-loop
 returns-3 c =
-    let a = c .before .before .before .before .before .before .before .args in
-    let l = c .before .before .before .before .before .loop in
-    let p = chain-found (a .buffer .now) (l .at) (c .before .before .before .step-at .ensures) (c .before .enum-told3 .given .1) in
+    let c3 = c .before .before .before in
+    let a = c3 .before .before .before .before .args in
+    let l = c3 .before .before .loop in
+    let p = chain-found (a .buffer .now) (l .at) (c3 .step-at .ensures) (c .before .enum-told3 .given .1) in
     c .nothing2 .ensures ∙ found-by (a .buffer .now) (a .from) (l .at) p (l .inv)
 
 nothing-requires-3 : tie.Need-nothing-requires-3 Inv-loop μ-loop

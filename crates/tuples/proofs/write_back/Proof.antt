@@ -153,7 +153,9 @@ module _ {M : Type 1} (𝓤 : URA M) (H : Heap 𝓤) (A : Atoms 𝓤) (W : Given
   module _ (C : Calls 𝓤 H) (Λ : Loops 𝓤 H) (fm : FmC 𝓤 H (W .laws) C) (known-read : Triple 𝓤 (C #tuples·read-tuples) (Read 𝓤 H A mem run)) (known-test : Triple 𝓤 (C #tuples·is-refused) (Test 𝓤 H A mem run))
       (known-count : Triple 𝓤 (C #tuples·count-of) (Count 𝓤 H A mem run)) (known-write : Triple 𝓤 (C #tuples·write-tuples) (Write 𝓤 H A mem run)) (room₂ : Room u8 (length os)) (l₀ l₁ l₂ l₃ l₄ l₅ l₆ l₇ l₈ l₉ l₁₀ l₁₁ l₁₂ l₁₃ : ℕ) where
     abbrev En : Env 𝓤 H
-    En = (O′.mir, l₀) ∷ (bytesTy (named 0) imm, l₁) ∷ (bytesTy (named 1) mut, l₂) ∷ (E′.mir, l₃) ∷ (arrayTy 127, l₄) ∷ (O′.mir, l₅) ∷ (word, l₆) ∷ (arrayRefTy mut 127, l₇) ∷ (entriesTy erased mut, l₈) ∷ (tyBool, l₉) ∷ (arrayRefTy imm 127, l₁₀) ∷ (entriesTy erased imm, l₁₁) ∷ (byteRefTy, l₁₂) ∷ (bytesTy erased mut, l₁₃) ∷ []
+    En =
+        (O′.mir, l₀) ∷ (bytesTy (named 0) imm, l₁) ∷ (bytesTy (named 1) mut, l₂) ∷ (E′.mir, l₃) ∷ (arrayTy 127, l₄) ∷ (O′.mir, l₅) ∷ (word, l₆)
+        ∷ (arrayRefTy mut 127, l₇) ∷ (entriesTy erased mut, l₈) ∷ (tyBool, l₉) ∷ (arrayRefTy imm 127, l₁₀) ∷ (entriesTy erased imm, l₁₁) ∷ (byteRefTy, l₁₂) ∷ (bytesTy erased mut, l₁₃) ∷ []
 
     -- the array's entries zs, the locals, where the flag, the count and the answer are free or known, and what is had
     abbrev Locals : List Entry → ℕ → List (Item 𝓤) → List (Item 𝓤) → List (Item 𝓤) → List (Item 𝓤)

@@ -134,7 +134,9 @@ module _ {M : Type 1} (𝓤 : URA M) (H : Heap 𝓤) (A : Atoms 𝓤) (W : Given
   module _ (C : Calls 𝓤 H) (Λ : Loops 𝓤 H) (fm : FmC 𝓤 H (W .laws) C) (known-write : Triple 𝓤 (C #tuples·write-tuples) (Write 𝓤 H A mem run)) (room₂ : Room u8 (length os)) (n : ℕ) (ln : Least c 256 n) (n-fits : n < 2 ^ 64) (k : ℕ) (lk : LastIs k)
       (l₀ l₁ l₂ l₃ l₄ l₅ l₆ l₇ l₈ l₉ l₁₀ l₁₁ l₁₂ l₁₃ l₁₄ l₁₅ : ℕ) where
     abbrev En : Env 𝓤 H
-    En = (O′.mir, l₀) ∷ (E′.mir, l₁) ∷ (E′.mir, l₂) ∷ (word, l₃) ∷ (bytesTy (named 0) imm, l₄) ∷ (bytesTy (named 1) mut, l₅) ∷ (word, l₆) ∷ (word, l₇) ∷ (arrayTy 256, l₈) ∷ (word, l₉) ∷ (tyPtr, l₁₀) ∷ (tyPtr, l₁₁) ∷ (arrayRefTy imm 256, l₁₂) ∷ (entriesTy erased imm, l₁₃) ∷ (byteRefTy, l₁₄) ∷ (bytesTy erased mut, l₁₅) ∷ []
+    En =
+        (O′.mir, l₀) ∷ (E′.mir, l₁) ∷ (E′.mir, l₂) ∷ (word, l₃) ∷ (bytesTy (named 0) imm, l₄) ∷ (bytesTy (named 1) mut, l₅) ∷ (word, l₆) ∷ (word, l₇)
+        ∷ (arrayTy 256, l₈) ∷ (word, l₉) ∷ (tyPtr, l₁₀) ∷ (tyPtr, l₁₁) ∷ (arrayRefTy imm 256, l₁₂) ∷ (entriesTy erased imm, l₁₃) ∷ (byteRefTy, l₁₄) ∷ (bytesTy erased mut, l₁₅) ∷ []
 
     -- from the store on, at any list of 256 entries
     module _ (ls : List Entry) (len : length ls ≡ 256) (all-x : ls ≡ replicate 256 x) where
