@@ -46,7 +46,7 @@ tens-count n =
     (λ h. let d = carries (n / 10 / 10 / 10) (ltb-false _ _ h) in rw (a .0, a .1, b .0, b .1, c .0, c .1, d .1) refl))))
 
 -- one up, with the carries
-pub digits-up : (n : ℕ) → lineNumber (n + 1) ≡ digitsUp (lineNumber n) (n + 1)
+digits-up : (n : ℕ) → lineNumber (n + 1) ≡ digitsUp (lineNumber n) (n + 1)
 digits-up n = by-tens (n + 1) ∙ tens-count n ∙ ap (λ (f : LineNumber). digitsUp f (n + 1)) (sym (by-tens n))
 
 -- numbers of 64 bits go round
@@ -93,3 +93,10 @@ short n h =
 pub numeral-of : (n : ℕ) → numeral (lineNumber n) ≡ decimal n
 unfolding numeral
 numeral-of n = pick-elim (λ (t : List ℕ). t ≡ decimal n) (ltb n 10000) _ _ (λ e. short n (ltb-true _ _ e)) (λ e. refl)
+
+pub digits-print : (f : LineNumber) → f ≡ lineNumber (f .value) → numeral f ≡ decimal (f .value)
+digits-print f e = ap numeral e ∙ numeral-of (f .value)
+
+-- what has a number's digits has those of its own
+pub own-number : (f : LineNumber) (n : ℕ) → f ≡ lineNumber n → f ≡ lineNumber (f .value)
+own-number f n e = e ∙ ap (λ (g : LineNumber). lineNumber (g .value)) (sym e)

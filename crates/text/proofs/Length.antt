@@ -10,7 +10,7 @@ use Rattle.answers.specs.declared.Refusal.{Refusal}
 use Rattle.answers.specs.declared.Outcome.{Outcome}
 use Rattle.answers.specs.Answers.{numberOf, outcomeNumber}
 use Rattle.answers.proofs.Outcomes.{number-range}
-use Rattle.text.specs.Text.{furtherDigits, decimal, letter, hexFour, line, bad, unopened}
+use Rattle.text.specs.Text.{furtherDigits, decimal, hexFour, blank, newline, letter, line, bad, unopened}
 use Rattle.text.proofs.Texts.{further-small, last-length}
 
 -- numbers below a bound have at most so many digits more than one; those below ten times the bound one more
@@ -53,19 +53,19 @@ line-length number write o value h =
     let d = decimal-length number 10000 3 four-digits h in
     let a = decimal-length (outcomeNumber o) 100 1 two-digits (answer-below o) in
     rw (
-      length-append (decimal number) (letter write ++ (decimal (outcomeNumber o) ++ ((32 ∷ []) ++ (hexFour value ++ (10 ∷ []))))),
-      length-append (decimal (outcomeNumber o)) ((32 ∷ []) ++ (hexFour value ++ (10 ∷ []))),
+      length-append (decimal number) (letter write ++ (decimal (outcomeNumber o) ++ ((blank ∷ []) ++ (hexFour value ++ (newline ∷ []))))),
+      length-append (decimal (outcomeNumber o)) ((blank ∷ []) ++ (hexFour value ++ (newline ∷ []))),
     )
     (omega arith)
 
 pub bad-length : (place : ℕ) → place < 100000 → length (bad place) ≤ 10
 bad-length place h =
     let d = decimal-length place 100000 4 five-digits h in
-    let e = length-append (decimal place) (10 ∷ []) in
+    let e = length-append (decimal place) (newline ∷ []) in
     omega arith
 
 pub unopened-length : (r : Refusal) → length (unopened (numberOf r)) ≤ 8
 unopened-length r =
     let d = decimal-length (numberOf r) 100 1 two-digits (omega (arith, number-range r)) in
-    let e = length-append (decimal (numberOf r)) (10 ∷ []) in
+    let e = length-append (decimal (numberOf r)) (newline ∷ []) in
     omega arith

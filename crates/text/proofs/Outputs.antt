@@ -1,5 +1,5 @@
 -- Laws of text that is written into bytes.
-use Prim.Native.Nat.{ℕ, suc, _+_, _-_, _<_, _≤_, min}
+use Prim.Native.Nat.{ℕ, suc, _+_, _<_, _≤_, min}
 use native.Mathlib.Nat.{min-eq-left, min-eq-right, le-of-lt, le-refl}
 use mathlib.Core.Bool.{Bool, true, false}
 use mathlib.Core.Path.{_≡_, refl, sym, ap, _∙_}
@@ -13,7 +13,7 @@ use borrow.Author.Tests.{lt-ltb, le-ltb, leb-true, leb-false}
 use Rattle.text.specs.Output.{Output, output, putByte, put, written, Wrote, holding}
 
 -- one text after another
-pub written-then : (s t b : List ℕ) (at : ℕ) → written b at (s ++ t) ≡ written (written b at s) (at + length s) t
+written-then : (s t b : List ℕ) (at : ℕ) → written b at (s ++ t) ≡ written (written b at s) (at + length s) t
 unfolding written
 written-then [] t b at = let e : at + 0 ≡ at = omega arith in rw e
 written-then (x ∷ s) t b at = let e : at + suc (length s) ≡ at + 1 + length s = omega arith in rw e (written-then s t (set b at x) (at + 1))
@@ -26,7 +26,7 @@ wrote-then {b} {at} {s} {b′} {next} {t} {b″} {last} p q =
     }
 
 -- a byte that is written before the text in front of it
-pub written-set : (s b : List ℕ) (at k x : ℕ) → at + length s ≤ k → written (set b k x) at s ≡ set (written b at s) k x
+written-set : (s b : List ℕ) (at k x : ℕ) → at + length s ≤ k → written (set b k x) at s ≡ set (written b at s) k x
 unfolding written
 written-set [] b at k x h = refl
 written-set (y ∷ s) b at k x h =
@@ -38,7 +38,7 @@ unfolding written
 written-last s b at x = written-then s (x ∷ []) b at ∙ sym (written-set s b at (at + length s) x (omega arith))
 
 -- the first bytes, once a text was written at their end
-pub written-front : (t b : List ℕ) (at : ℕ) → at + length t ≤ length b → take (at + length t) (written b at t) ≡ take at b ++ t
+written-front : (t b : List ℕ) (at : ℕ) → at + length t ≤ length b → take (at + length t) (written b at t) ≡ take at b ++ t
 unfolding written
 written-front [] b at h = let e : at + 0 ≡ at = omega arith in rw e (sym (append-nil (take at b)))
 written-front (x ∷ t) b at h =
@@ -46,7 +46,7 @@ written-front (x ∷ t) b at h =
     let l = length-set b at x in
     rw e (written-front t (set b at x) (at + 1) (omega arith) ∙ rw (add-one at, take-suc-set b at x (omega arith)) (append-snoc (take at b) x t))
 
-pub written-whole : (t b : List ℕ) → length t ≤ length b → take (length t) (written b 0 t) ≡ t
+written-whole : (t b : List ℕ) → length t ≤ length b → take (length t) (written b 0 t) ≡ t
 written-whole t b h =
     let e : 0 + length t ≡ length t = omega arith in
     rw e at (written-front t b 0 (rw e h))
@@ -63,7 +63,10 @@ unfolding put
 put-then [] t o = refl
 put-then (x ∷ s) t o = put-then s t (putByte o x)
 
-pub put-room : (t b : List ℕ) (at : ℕ) → at + length t ≤ length b → put (output b at) t ≡ output (written b at t) (at + length t)
+pub put-both : (s t : List ℕ) (o p q : Output) → p ≡ put o s → q ≡ put p t → q ≡ put o (s ++ t)
+put-both s t o p q e f = f ∙ ap (λ (x : Output). put x t) e ∙ sym (put-then s t o)
+
+put-room : (t b : List ℕ) (at : ℕ) → at + length t ≤ length b → put (output b at) t ≡ output (written b at t) (at + length t)
 unfolding put written putByte
 put-room [] b at h = let e : at + 0 ≡ at = omega arith in rw e
 put-room (x ∷ t) b at h =
@@ -86,7 +89,7 @@ unfolding put
 put-end i t o h = rw (drop-of-length-le t h)
 
 -- what lies past a text stays
-pub written-back : (t b : List ℕ) (at : ℕ) → drop (at + length t) (written b at t) ≡ drop (at + length t) b
+written-back : (t b : List ℕ) (at : ℕ) → drop (at + length t) (written b at t) ≡ drop (at + length t) b
 unfolding written
 written-back [] b at = refl
 written-back (x ∷ t) b at =

@@ -1,6 +1,6 @@
 // What is printed, as bytes in a lent output. A line is written where there is room for it, else as far as the output goes.
 ghost use mathlib.Core.Path.{_≡_};
-ghost use Prim.Native.Nat.{_+_, _%_, _≤_, _<_};
+ghost use Prim.Native.Nat.{_+_, _≤_, _<_};
 ghost use mathlib.Core.List.{[], _∷_, _++_};
 ghost use lib.ListN.{length};
 ghost use lib.Dec.{leb};
@@ -122,19 +122,19 @@ fn short_numeral(out: &mut [u8], at: usize, number: LineNumber) -> usize
     ensures { λ r. ⌜ Wrote (now (out .entry)) at (shortNumeral number) (now (out .exit)) r × (r ≤ at + 4) ⌝ }
 {
     if number.thousands != 48 {
-        let second = byte(out, at, number.thousands);
-        let third = byte(out, second, number.hundreds);
-        let last = byte(out, third, number.tens);
-        return byte(out, last, number.ones);
+        let after_thousands = byte(out, at, number.thousands);
+        let after_hundreds = byte(out, after_thousands, number.hundreds);
+        let after_tens = byte(out, after_hundreds, number.tens);
+        return byte(out, after_tens, number.ones);
     }
     if number.hundreds != 48 {
-        let second = byte(out, at, number.hundreds);
-        let third = byte(out, second, number.tens);
-        return byte(out, third, number.ones);
+        let after_hundreds = byte(out, at, number.hundreds);
+        let after_tens = byte(out, after_hundreds, number.tens);
+        return byte(out, after_tens, number.ones);
     }
     if number.tens != 48 {
-        let second = byte(out, at, number.tens);
-        return byte(out, second, number.ones);
+        let after_tens = byte(out, at, number.tens);
+        return byte(out, after_tens, number.ones);
     }
     byte(out, at, number.ones)
 }

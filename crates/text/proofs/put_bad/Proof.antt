@@ -1,8 +1,4 @@
-use mathlib.Core.Path.{sym, ap, _∙_}
-use mathlib.Core.List.{[], _∷_, _++_}
-use Rattle.text.specs.Text.{decimal, newline}
-use Rattle.text.specs.Output.{Output, put}
-use Rattle.text.proofs.Outputs.{put-then}
+use Rattle.text.proofs.Outputs.{put-both}
 use borrow.Author.Needs.{needs}
 use Rattle.text.proofs.put_bad.Statement.{statement}
 use Rattle.text.proofs.put_bad.Tie as tie
@@ -21,9 +17,7 @@ same-length c = search needs
 
 returns : tie.Need-returns
 returns c =
-    let c6 = c .before .before .before .before .before .before in
-    let c10 = c6 .before .before .before .before in
-    c .before .before .put-number .ensures ∙ ap (λ (o : Output). put o (decimal (c10 .args .place) ++ (newline ∷ []))) (c6 .put .ensures) ∙ sym (put-then _ _ _)
+    put-both _ _ _ _ _ (c .before .before .before .before .before .before .put .ensures) (c .before .before .put-number .ensures)
 
 pub put-bad-spec : {M : Type 1} → statement M
 put-bad-spec =

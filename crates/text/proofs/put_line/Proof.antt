@@ -1,4 +1,4 @@
-use Prim.Native.Nat.{_+_, _-_, _≤_}
+use Prim.Native.Nat.{_+_, _≤_}
 use native.Mathlib.Nat.{le-trans}
 use lib.ListN.{length}
 use lib.Seq.{length-take-le}
@@ -6,7 +6,6 @@ use Rattle.text.specs.Output.{put}
 use Rattle.text.proofs.Outputs.{put-wrote, written-text}
 use mathlib.Core.Path.{sym, ap, _∙_}
 use borrow.Author.Tests.{leb-true}
-use Rattle.text.proofs.Outputs.{put-wrote}
 use borrow.Author.Needs.{needs}
 use Rattle.text.proofs.put_line.Statement.{statement}
 use Rattle.text.proofs.put_line.Tie as tie

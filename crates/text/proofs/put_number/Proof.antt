@@ -1,6 +1,6 @@
 use mathlib.Core.Path.{sym, ap, _∙_}
 use native.Mathlib.Omega.{arith}
-use Prim.Native.Nat.{_-_, _≤_}
+use Prim.Native.Nat.{_≤_}
 use lib.Seq.{length-take-le}
 use Rattle.text.specs.Output.{put}
 use Rattle.text.proofs.Outputs.{wrote-then, written-text}
