@@ -21,8 +21,8 @@ Inside write q left r = afterOf r ≡ After.Access write q → sizeOf write ≤ 
 stopped : (write : Bool) (q : Asked) (left : ℕ) (why : Break) → Inside write q left (Broken why)
 stopped write q left why e = let z : _≡_ {A = ℕ} 0 1 = cc in absurd (omega arith)
 
-access-inside : (write w : Bool) (q a : Asked) (left : ℕ) → sizeOf w ≤ left → Inside write q left (Access w a)
-access-inside write w q a left h e = let f : w ≡ write = cc in rw f at h
+given-inside : (write w : Bool) (q a : Asked) (left : ℕ) → sizeOf w ≤ left → Inside write q left (Access w a)
+given-inside write w q a left h e = let f : w ≡ write = cc in rw f at h
 
 fields-inside : (write w : Bool) (q a : Asked) (left : ℕ) → sizeOf w ≤ left → Inside write q left (fieldsTested w a)
 unfolding fieldsTested
@@ -32,14 +32,14 @@ fields-inside write w q a left h =
     (λ _. pick-elim (Inside write q left) (leb (a .width) 2) _ _
     (λ _. pick-elim (Inside write q left) (valueAbove (a .width) (a .value)) _ _
     (λ _. stopped write q left Break.Value)
-    (λ _. access-inside write w q a left h))
+    (λ _. given-inside write w q a left h))
     (λ _. stopped write q left Break.Width))
     (λ _. stopped write q left Break.Width))
     (λ _. stopped write q left Break.Space)
 
-record-of-access-inside : (write w : Bool) (q : Asked) (file : List ℕ) (at size left : ℕ) → size ≤ left → Inside write q left (accessAt file at size w false)
+access-inside : (write w : Bool) (q : Asked) (file : List ℕ) (at size left : ℕ) → size ≤ left → Inside write q left (accessAt file at size w false)
 unfolding accessAt
-record-of-access-inside write w q file at size left h =
+access-inside write w q file at size left h =
     pick-elim (Inside write q left) (eqb size (sizeOf w)) _ _
     (λ e. fields-inside write w q (askedAt file at w) left (rw (eqb-true size (sizeOf w) e) at h))
     (λ _. stopped write q left Break.Length)
@@ -50,9 +50,9 @@ kind-inside write q file at size left h =
     pick-elim (Inside write q left) (eqb (wordAt file (at + 2)) 1) _ _
     (λ _. stopped write q left Break.Misplaced)
     (λ _. pick-elim (Inside write q left) (eqb (wordAt file (at + 2)) 2) _ _
-    (λ _. record-of-access-inside write true q file at size left h)
+    (λ _. access-inside write true q file at size left h)
     (λ _. pick-elim (Inside write q left) (eqb (wordAt file (at + 2)) 3) _ _
-    (λ _. record-of-access-inside write false q file at size left h)
+    (λ _. access-inside write false q file at size left h)
     (λ _. stopped write q left Break.Kind)))
 
 record-inside : (write : Bool) (q : Asked) (file : List ℕ) (at : ℕ) → Inside write q (length file - at) (recordAt file at false)

@@ -13,7 +13,9 @@ size-of-requires c κs = search needs
 
 returns-2 : tie.Need-returns-2
 unfolding accessAt
-returns-2 c = let e = rw (c .before .size-of .ensures .0) at (c .if2 .taken) in simp (c .before .before .if1 .left, ne-eqb _ _ e)
+returns-2 c =
+    let e = rw (c .before .size-of .ensures .0) at (c .if2 .taken) in
+    simp (c .before .before .if1 .left, ne-eqb _ _ e)
 
 add-space : tie.Need-add-space
 add-space c = search needs
@@ -41,7 +43,12 @@ fields-tested-requires c κs = search needs
 
 returns-3 : tie.Need-returns-3
 unfolding accessAt
-returns-3 c = let e = rw (c .before .before .before .before .before .before .size-of .ensures .0) at (c .before .before .before .before .before .if2 .left) in simp (c .before .before .before .before .before .before .before .if1 .left, eq-eqb _ _ e, c .fields-tested .ensures, c .before .value-at .ensures, c .before .before .word-at .ensures)
+returns-3 c =
+    let c5 = c .before .before .before .before .before in
+    let c6 = c5 .before in
+    let c7 = c6 .before in
+    let e = rw (c6 .size-of .ensures .0) at (c5 .if2 .left) in
+    simp (c7 .if1 .left, eq-eqb _ _ e, c .fields-tested .ensures, c .before .value-at .ensures, c .before .before .word-at .ensures)
 
 pub access-at-spec : {M : Type 1} → statement M
 access-at-spec =

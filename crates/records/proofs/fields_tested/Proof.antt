@@ -23,11 +23,19 @@ value-above-requires c κs = search needs
 
 returns-4 : tie.Need-returns-4
 unfolding fieldsTested
-returns-4 c = let w = sym (c .before .value-above .ensures) ∙ c .if4 .taken in simp (le-leb _ _ (c .before .before .before .before .before .before .if1 .left), le-leb _ _ (c .before .before .before .before .if2 .left), le-leb _ _ (c .before .before .if3 .left), w)
+returns-4 c =
+    let c4 = c .before .before .before .before in
+    let c6 = c4 .before .before in
+    let w = sym (c .before .value-above .ensures) ∙ c .if4 .taken in
+    simp (le-leb _ _ (c6 .if1 .left), le-leb _ _ (c4 .if2 .left), le-leb _ _ (c .before .before .if3 .left), w)
 
 returns-5 : tie.Need-returns-5
 unfolding fieldsTested
-returns-5 c = let w = sym (c .before .value-above .ensures) ∙ c .if4 .left in simp (le-leb _ _ (c .before .before .before .before .before .before .if1 .left), le-leb _ _ (c .before .before .before .before .if2 .left), le-leb _ _ (c .before .before .if3 .left), w)
+returns-5 c =
+    let c4 = c .before .before .before .before in
+    let c6 = c4 .before .before in
+    let w = sym (c .before .value-above .ensures) ∙ c .if4 .left in
+    simp (le-leb _ _ (c6 .if1 .left), le-leb _ _ (c4 .if2 .left), le-leb _ _ (c .before .before .if3 .left), w)
 
 pub fields-tested-spec : {M : Type 1} → statement M
 fields-tested-spec =

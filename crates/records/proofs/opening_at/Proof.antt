@@ -39,7 +39,11 @@ word-at-requires-4 c κs = search needs
 
 returns-3 : tie.Need-returns-3
 unfolding openingAt
-returns-3 c = simp (un-not (c .before .before .before .before .before .before .before .args .first) _ (c .before .before .before .before .before .if1 .left), eq-eqb _ _ (c .before .before .before .before .if2 .left), c .word-at4 .ensures, c .before .word-at3 .ensures, c .before .before .word-at2 .ensures, c .before .before .before .word-at .ensures)
+returns-3 c =
+    let c4 = c .before .before .before .before in
+    let c5 = c4 .before in
+    let c7 = c5 .before .before in
+    simp (un-not (c7 .args .first) _ (c5 .if1 .left), eq-eqb _ _ (c4 .if2 .left), c .word-at4 .ensures, c .before .word-at3 .ensures, c .before .before .word-at2 .ensures, c .before .before .before .word-at .ensures)
 
 pub opening-at-spec : {M : Type 1} → statement M
 opening-at-spec =

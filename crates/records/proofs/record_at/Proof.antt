@@ -29,18 +29,29 @@ cast-if3 c = search needs
 
 returns-3 : tie.Need-returns-3
 unfolding recordAt
-returns-3 c = let e = rw (c .before .word-at .ensures) at (c .if3 .taken) in simp (le-ltb _ _ (c .before .before .if2 .left), lt-ltb _ _ e)
+returns-3 c =
+    let e = rw (c .before .word-at .ensures) at (c .if3 .taken) in
+    simp (le-ltb _ _ (c .before .before .if2 .left), lt-ltb _ _ e)
 
 returns-4 : tie.Need-returns-4
 unfolding recordAt
-returns-4 c = let e = rw (c .before .before .word-at .ensures) at (c .before .if3 .left) in let f = rw (c .before .before .word-at .ensures) at (c .if4 .taken) in simp (le-ltb _ _ (c .before .before .before .if2 .left), le-ltb _ _ e, lt-ltb _ _ f)
+returns-4 c =
+    let w = c .before .before .word-at .ensures in
+    let e = rw w at (c .before .if3 .left) in
+    let f = rw w at (c .if4 .taken) in
+    simp (le-ltb _ _ (c .before .before .before .if2 .left), le-ltb _ _ e, lt-ltb _ _ f)
 
 kind-at-requires : tie.Need-kind-at-requires
 kind-at-requires c κs = search needs
 
 returns-5 : tie.Need-returns-5
 unfolding recordAt
-returns-5 c = let e = rw (c .before .before .before .word-at .ensures) at (c .before .before .if3 .left) in let f = rw (c .before .before .before .word-at .ensures) at (c .before .if4 .left) in simp (le-ltb _ _ (c .before .before .before .before .if2 .left), le-ltb _ _ e, le-ltb _ _ f, c .kind-at .ensures, c .before .before .before .word-at .ensures)
+returns-5 c =
+    let c4 = c .before .before .before .before in
+    let w = c .before .before .before .word-at .ensures in
+    let e = rw w at (c .before .before .if3 .left) in
+    let f = rw w at (c .before .if4 .left) in
+    simp (le-ltb _ _ (c4 .if2 .left), le-ltb _ _ e, le-ltb _ _ f, c .kind-at .ensures, w)
 
 pub record-at-spec : {M : Type 1} → statement M
 record-at-spec =
