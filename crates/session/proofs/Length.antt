@@ -1,5 +1,5 @@
 -- The text of any file has at most 61,438 bytes: the header's 18, 15 for each of at most 4,094 accesses, and 10 for `bad`.
-use Prim.Native.Nat.{ℕ, zero, suc, _+_, _*_, _-_, _<_, _≤_}
+use Prim.Native.Nat.{ℕ, zero, suc, _+_, _*_, _<_, _≤_}
 use mathlib.Core.Bool.{Bool, true, false}
 use mathlib.Core.Path.{_≡_, refl, sym, subst}
 use mathlib.Core.List.{List, [], _∷_}
@@ -34,15 +34,15 @@ use Rattle.records.proofs.Fits.{access-fits}
 abbrev Short : ℕ → ℕ → Script → Type 0
 Short bound at s = (at + 8 * length (s .accesses) ≤ bound) × (s .place ≤ bound)
 
-wide : (write : Bool) → 8 ≤ sizeOf write
-wide true = omega arith
-wide false = omega arith
+size-least : (write : Bool) → 8 ≤ sizeOf write
+size-least true = omega arith
+size-least false = omega arith
 
 turn-short : (t : After) (bound : ℕ) (part tuples : List ℕ) (rest : ℕ → Script) (at : ℕ) → length part ≤ bound → at < length part → afterOf (recordAt part at false) ≡ t →
     ((next : ℕ) → next ≤ bound → Short bound next (rest next)) → Short bound at (byTurn t rest tuples at)
 turn-short (After.Access write q) bound part tuples rest at h g e ih =
     let f = access-fits write q part at g e in
-    let w = wide write in
+    let w = size-least write in
     let i = ih (at + sizeOf write) (omega arith) in
     (omega (arith, i .0), i .1)
 turn-short (After.Stop why) bound part tuples rest at h g e ih = (omega arith, omega arith)

@@ -21,14 +21,14 @@ abbrev toldIn : Printed → Told
 toldIn p = record { place = p .place; done = p .done; end = p .end; text = p .out .at }
 
 -- `run` and `run_from`: the answer, the store, the marks and the output
-pub run-only-one : (d : Shown) (r s : Ran) (store store′ marks marks′ bytes bytes′ : List ℕ) → ranAs r store marks bytes ≡ d → ranAs s store′ marks′ bytes′ ≡ d →
+pub only-ran : (d : Shown) (r s : Ran) (store store′ marks marks′ bytes bytes′ : List ℕ) → ranAs r store marks bytes ≡ d → ranAs s store′ marks′ bytes′ ≡ d →
     (r ≡ s) × (store ≡ store′) × (marks ≡ marks′) × (bytes ≡ bytes′)
-run-only-one d r s store store′ marks marks′ bytes bytes′ p q =
+only-ran d r s store store′ marks marks′ bytes bytes′ p q =
     let e = p ∙ sym q in
     (ap ranIn e, ap (λ (x : Shown). x .machine .store) e, ap (λ (x : Shown). x .machine .marks) e, ap (λ (x : Shown). x .out .bytes) e)
 
 -- `play`: the answer and the output
-pub play-only-one : (d : Printed) (r s : Told) (bytes bytes′ : List ℕ) → toldAs r bytes ≡ d → toldAs s bytes′ ≡ d → (r ≡ s) × (bytes ≡ bytes′)
-play-only-one d r s bytes bytes′ p q =
+pub only-told : (d : Printed) (r s : Told) (bytes bytes′ : List ℕ) → toldAs r bytes ≡ d → toldAs s bytes′ ≡ d → (r ≡ s) × (bytes ≡ bytes′)
+only-told d r s bytes bytes′ p q =
     let e = p ∙ sym q in
     (ap toldIn e, ap (λ (x : Printed). x .out .bytes) e)

@@ -3,7 +3,7 @@ use Prim.Native.Nat.{ℕ, _+_, _-_, _≤_, min}
 use mathlib.Core.Path.{_≡_, refl, sym, ap, _∙_}
 use mathlib.Core.List.{List}
 use native.Mathlib.Omega.{arith}
-use native.Mathlib.Nat.{min-le-left, min-le-right, min-eq-left, min-eq-right, le-of-lt}
+use native.Mathlib.Nat.{min-le-right, min-eq-left, min-eq-right, le-of-lt}
 use lib.Dec.{leb}
 use lib.Seq.{length-take-le}
 use borrow.Author.Tests.{leb-true, leb-false}
@@ -42,7 +42,6 @@ holding-length bytes text =
     let e = length-append (take (length bytes) text) (drop (length text) bytes) in
     let t = length-take (length bytes) text in
     let d = length-drop (length text) bytes in
-    let a = min-le-left (length bytes) (length text) in
     rw (e, t, d) (min-sub (length bytes) (length text))
 
 -- the bytes that are told lie in the output

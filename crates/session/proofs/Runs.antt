@@ -19,7 +19,7 @@ use Rattle.session.specs.declared.Ending.the-variants.{Whole, Broken}
 use Rattle.records.specs.Record.{recordAt, afterOf, sizeOf}
 use Rattle.text.specs.Text.{bad}
 use Rattle.text.specs.Output.{Output, put}
-use Rattle.session.specs.Run.{Script, ends, asks, accessOf, scriptFrom, wrapped, lineText, endText, Result, resultOf, shown}
+use Rattle.session.specs.Run.{Script, ends, asks, accessOf, scriptFrom, wrapped, lineText, endText, Result, resultOf, shownAt}
 use Rattle.text.proofs.Outputs.{put-then}
 
 -- the part's end, a broken record, an access
@@ -61,39 +61,40 @@ result-asks first number done m a s =
     let z : done + suc (length (s .accesses)) ≡ done + 1 + length (s .accesses) = omega arith in
     simp (z, append-assoc)
 
-shown-ahead : (o : Output) (text : List ℕ) (r : Result) → shown o (ahead text r) ≡ shown (put o text) r
+shown-ahead : (o : Output) (text : List ℕ) (r : Result) → shownAt o (ahead text r) ≡ shownAt (put o text) r
 shown-ahead o text r = simp put-then
 
-pub lines-whole : (o : Output) (first number done n at : ℕ) (part tuples : List ℕ) (m : Machine) → scriptFrom n part tuples at ≡ ends at Whole →
-    shown o (resultOf first number done m (scriptFrom n part tuples at)) ≡ record { machine = m; place = wrapped (first + at); done = done; end = Whole; out = o }
-unfolding put
-lines-whole o first number done n at part tuples m e =
-    ap (λ (s : Script). shown o (resultOf first number done m s)) e ∙ ap (shown o) (result-ends first number done m at Whole)
+-- a run that comes to its end here
+lines-ended : (o : Output) (first number done n at : ℕ) (part tuples : List ℕ) (m : Machine) (e : Ending) → scriptFrom n part tuples at ≡ ends at e →
+    shownAt o (resultOf first number done m (scriptFrom n part tuples at)) ≡ record { machine = m; place = wrapped (first + at); done = done; end = e; out = put o (endText e (wrapped (first + at))) }
+lines-ended o first number done n at part tuples m e f =
+    ap (λ (s : Script). shownAt o (resultOf first number done m s)) f ∙ ap (shownAt o) (result-ends first number done m at e)
 
 pub lines-end : (o : Output) (first number done n at : ℕ) (part tuples : List ℕ) (m : Machine) → length part ≤ at →
-    shown o (resultOf first number done m (scriptFrom n part tuples at)) ≡ record { machine = m; place = wrapped (first + at); done = done; end = Whole; out = o }
-lines-end o first number done n at part tuples m h = lines-whole o first number done n at part tuples m (script-end n part tuples at h)
+    shownAt o (resultOf first number done m (scriptFrom n part tuples at)) ≡ record { machine = m; place = wrapped (first + at); done = done; end = Whole; out = o }
+unfolding put
+lines-end o first number done n at part tuples m h = lines-ended o first number done n at part tuples m Whole (script-end n part tuples at h)
 
 pub lines-none : (o : Output) (first number done n at : ℕ) (part tuples : List ℕ) (m : Machine) → n ≤ 0 →
-    shown o (resultOf first number done m (scriptFrom n part tuples at)) ≡ record { machine = m; place = wrapped (first + at); done = done; end = Whole; out = o }
-lines-none o first number done n at part tuples m h = lines-whole o first number done n at part tuples m (script-none n part tuples at h)
+    shownAt o (resultOf first number done m (scriptFrom n part tuples at)) ≡ record { machine = m; place = wrapped (first + at); done = done; end = Whole; out = o }
+unfolding put
+lines-none o first number done n at part tuples m h = lines-ended o first number done n at part tuples m Whole (script-none n part tuples at h)
 
 pub lines-stop : (o : Output) (first number done n at : ℕ) (part tuples : List ℕ) (m : Machine) (why : Break) → 0 < n → at < length part → afterOf (recordAt part at false) ≡ After.Stop why →
-    shown o (resultOf first number done m (scriptFrom n part tuples at)) ≡ record { machine = m; place = wrapped (first + at); done = done; end = Broken why; out = put o (bad (wrapped (first + at))) }
-lines-stop o first number done n at part tuples m why h g e =
-    ap (λ (s : Script). shown o (resultOf first number done m s)) (script-stop n part tuples at why h g e) ∙ ap (shown o) (result-ends first number done m at (Broken why))
+    shownAt o (resultOf first number done m (scriptFrom n part tuples at)) ≡ record { machine = m; place = wrapped (first + at); done = done; end = Broken why; out = put o (bad (wrapped (first + at))) }
+lines-stop o first number done n at part tuples m why h g e = lines-ended o first number done n at part tuples m (Broken why) (script-stop n part tuples at why h g e)
 
 pub lines-turn : (o o′ : Output) (first number done n at : ℕ) (part tuples : List ℕ) (m : Machine) (write : Bool) (q : Asked) (s : Stepped) →
     0 < n → at < length part → afterOf (recordAt part at false) ≡ After.Access write q → s ≡ step m (accessOf write q tuples) →
     o′ ≡ put o (lineText number (accessOf write q tuples) (s .outcome)) →
-    shown o′ (resultOf first (wrapped (number + 1)) (done + 1) (s .next) (scriptFrom (n - 1) part tuples (at + sizeOf write)))
-    ≡ shown o (resultOf first number done m (scriptFrom n part tuples at))
+    shownAt o′ (resultOf first (wrapped (number + 1)) (done + 1) (s .next) (scriptFrom (n - 1) part tuples (at + sizeOf write)))
+    ≡ shownAt o (resultOf first number done m (scriptFrom n part tuples at))
 lines-turn o o′ first number done n at part tuples m write q s h g e f p =
     let a = accessOf write q tuples in
     let rest = scriptFrom (n - 1) part tuples (at + sizeOf write) in
     let after : Stepped → Result = λ (s : Stepped). resultOf first (wrapped (number + 1)) (done + 1) (s .next) rest in
-    ap (λ (x : Output). shown x (after s)) p
-    ∙ ap (λ (s : Stepped). shown (put o (lineText number a (s .outcome))) (after s)) f
+    ap (λ (x : Output). shownAt x (after s)) p
+    ∙ ap (λ (s : Stepped). shownAt (put o (lineText number a (s .outcome))) (after s)) f
     ∙ sym (shown-ahead o (lineText number a (step m a .outcome)) (after (step m a)))
-    ∙ ap (shown o) (sym (result-asks first number done m a rest))
-    ∙ ap (λ (s : Script). shown o (resultOf first number done m s)) (sym (script-access n part tuples at write q h g e))
+    ∙ ap (shownAt o) (sym (result-asks first number done m a rest))
+    ∙ ap (λ (s : Script). shownAt o (resultOf first number done m s)) (sym (script-access n part tuples at write q h g e))

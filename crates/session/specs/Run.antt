@@ -94,15 +94,15 @@ pub record Shown : Type 0 where
   pub end : Ending
   pub out : Output
 
-abbrev pub inOutput : Output → Result → Shown
-inOutput o r = record { machine = r .machine; place = r .place; done = r .done; end = r .end; out = o }
+abbrev pub shownIn : Output → Result → Shown
+shownIn o r = record { machine = r .machine; place = r .place; done = r .done; end = r .end; out = o }
 
-abbrev pub shown : Output → Result → Shown
-shown o r = inOutput (put o (r .text)) r
+abbrev pub shownAt : Output → Result → Shown
+shownAt o r = shownIn (put o (r .text)) r
 
 -- of an output from its start
-abbrev pub held : List ℕ → Result → Shown
-held bytes r = inOutput (output (holding bytes (r .text)) (min (length (r .text)) (length bytes))) r
+abbrev pub shown : List ℕ → Result → Shown
+shown bytes r = shownIn (output (holding bytes (r .text)) (min (length (r .text)) (length bytes))) r
 
 -- all that a run leaves, of its answer and what was lent
 abbrev pub ranAs : Ran → List ℕ → List ℕ → List ℕ → Shown

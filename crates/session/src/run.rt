@@ -16,7 +16,7 @@ ghost use Rattle.answers.specs.Answers.{outcomeNumber};
 ghost use Rattle.text.specs.Text.{line, shownValue};
 ghost use Rattle.text.specs.Digits.{lineNumber};
 ghost use Rattle.text.specs.Output.{output, put};
-ghost use Rattle.session.specs.Run.{wrapped, scriptFrom, resultOf, shown, held, ranAs};
+ghost use Rattle.session.specs.Run.{wrapped, scriptFrom, resultOf, shownAt, shown, ranAs};
 ghost use Rattle.card.specs.Verdict.{verdictOf};
 
 fn written_or_read(write: bool, value: u16, read: u16) -> u16
@@ -100,7 +100,7 @@ fn lines(
     start: usize,
 ) -> Ran
     requires { ⌜ verdict ≡ verdictOf (card .phase) (card .state) (now store) (now marks) (now tuples) ⌝ }
-    ensures { λ r. ⌜ ranAs r (now (store .exit)) (now (marks .exit)) (now (out .exit)) ≡ shown (output (now (out .entry)) start) (resultOf first number 0 (machineOf card (now (store .entry)) (now (marks .entry))) (scriptFrom (length (now (part .entry))) (now (part .entry)) (now (tuples .entry)) from)) ⌝ }
+    ensures { λ r. ⌜ ranAs r (now (store .exit)) (now (marks .exit)) (now (out .exit)) ≡ shownAt (output (now (out .entry)) start) (resultOf first number 0 (machineOf card (now (store .entry)) (now (marks .entry))) (scriptFrom (length (now (part .entry))) (now (part .entry)) (now (tuples .entry)) from)) ⌝ }
 {
     let mut buffer = card.buffer;
     let phase = card.phase;
@@ -168,7 +168,7 @@ pub fn run_from(
     out: &mut [u8],
     start: usize,
 ) -> Ran
-    ensures { λ r. ⌜ ranAs r (now (store .exit)) (now (marks .exit)) (now (out .exit)) ≡ shown (output (now (out .entry)) start) (resultOf first number 0 (machineOf card (now (store .entry)) (now (marks .entry))) (scriptFrom (length (now (part .entry))) (now (part .entry)) (now (tuples .entry)) from)) ⌝ }
+    ensures { λ r. ⌜ ranAs r (now (store .exit)) (now (marks .exit)) (now (out .exit)) ≡ shownAt (output (now (out .entry)) start) (resultOf first number 0 (machineOf card (now (store .entry)) (now (marks .entry))) (scriptFrom (length (now (part .entry))) (now (part .entry)) (now (tuples .entry)) from)) ⌝ }
 {
     let phase = card.phase;
     let state = card.state;
@@ -203,7 +203,7 @@ pub fn run(
     tuples: &[u8],
     out: &mut [u8],
 ) -> Ran
-    ensures { λ r. ⌜ ranAs r (now (store .exit)) (now (marks .exit)) (now (out .exit)) ≡ held (now (out .entry)) (resultOf first number 0 (machineOf card (now (store .entry)) (now (marks .entry))) (scriptFrom (length (now (part .entry))) (now (part .entry)) (now (tuples .entry)) 0)) ⌝ }
+    ensures { λ r. ⌜ ranAs r (now (store .exit)) (now (marks .exit)) (now (out .exit)) ≡ shown (now (out .entry)) (resultOf first number 0 (machineOf card (now (store .entry)) (now (marks .entry))) (scriptFrom (length (now (part .entry))) (now (part .entry)) (now (tuples .entry)) 0)) ⌝ }
 {
     run_from(card, part, 0, first, number, store, marks, tuples, out, 0)
 }

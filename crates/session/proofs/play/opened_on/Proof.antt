@@ -1,12 +1,24 @@
-use mathlib.Core.Path.{sym, ap, _∙_}
+use Prim.Native.Nat.{ℕ}
+use mathlib.Core.Path.{_≡_, sym, ap, _∙_}
+use mathlib.Core.List.{List}
 use Rattle.answers.specs.declared.Outcome.{Outcome}
 use Rattle.card.specs.declared.Answer.{Answer}
+use Rattle.card.specs.Opening.{opened}
+use Rattle.records.specs.declared.Sizes.{Sizes}
 use Rattle.text.specs.Output.{output}
 use Rattle.session.specs.Run.{Shown}
-use Rattle.session.specs.Play.{opensAs, openedOn, printedAt}
+use Rattle.session.specs.Play.{geometryOf, opensAs, openedOn, printedAt}
 use borrow.Author.Needs.{needs}
 use Rattle.session.proofs.play.opened_on.Statement.{statement}
 use Rattle.session.proofs.play.opened_on.Tie as tie
+
+-- the opening's answer, once its outcome is known
+as-opened : (s : Sizes) (file store marks tuples : List ℕ) (r : Answer) (x : Outcome) → r ≡ opened (geometryOf s) (s .mode) store marks tuples → r .outcome ≡ x →
+    opensAs x (r .card) file store marks tuples ≡ openedOn s file store marks tuples
+unfolding openedOn
+as-opened s file store marks tuples r x e f =
+    ap (λ (y : Outcome). opensAs y (r .card) file store marks tuples) (sym f)
+    ∙ ap (λ (y : Answer). opensAs (y .outcome) (y .card) file store marks tuples) e
 
 open-requires : tie.Need-open-requires
 open-requires c κs = search needs
@@ -33,17 +45,14 @@ same-length-3 : tie.Need-same-length-3
 same-length-3 c = search needs
 
 returns : tie.Need-returns
-unfolding openedOn
 returns c =
     let c6 = c .before .before .before .before .before .before in
     let c10 = c6 .before .before .before .before in
     let c13 = c10 .before .before .before in
     let c21 = c13 .before .before .before .before .before .before .before .before in
     let a = c21 .args in
-    let o = output (a .out .now) (a .at) in
     ap (λ (s : Shown). record { place = s .place; done = s .done; end = s .end; out = s .out }) (c6 .run-from .ensures)
-    ∙ ap (λ (x : Outcome). printedAt o (opensAs x (c13 .«open» .result .card) (a .file .now) (a .store .now) (a .marks .now) (a .tuples .now))) (sym (c10 .enum-told .given .1))
-    ∙ ap (λ (x : Answer). printedAt o (opensAs (x .outcome) (x .card) (a .file .now) (a .store .now) (a .marks .now) (a .tuples .now))) (c13 .«open» .ensures .0)
+    ∙ ap (printedAt (output (a .out .now) (a .at))) (as-opened (a .sizes) (a .file .now) (a .store .now) (a .marks .now) (a .tuples .now) _ _ (c13 .«open» .ensures .0) (c10 .enum-told .given .1))
 
 same-length-4 : tie.Need-same-length-4
 same-length-4 c = search needs
@@ -55,16 +64,13 @@ same-length-6 : tie.Need-same-length-6
 same-length-6 c = search needs
 
 returns-2 : tie.Need-returns-2
-unfolding openedOn
 returns-2 c =
     let c5 = c .before .before .before .before .before in
     let c8 = c5 .before .before .before in
     let c16 = c8 .before .before .before .before .before .before .before .before in
     let a = c16 .args in
-    let o = output (a .out .now) (a .at) in
     c .before .before .unopened .ensures
-    ∙ ap (λ (x : Outcome). printedAt o (opensAs x (c8 .«open» .result .card) (a .file .now) (a .store .now) (a .marks .now) (a .tuples .now))) (sym (c5 .outcome .given .1))
-    ∙ ap (λ (x : Answer). printedAt o (opensAs (x .outcome) (x .card) (a .file .now) (a .store .now) (a .marks .now) (a .tuples .now))) (c8 .«open» .ensures .0)
+    ∙ ap (printedAt (output (a .out .now) (a .at))) (as-opened (a .sizes) (a .file .now) (a .store .now) (a .marks .now) (a .tuples .now) _ _ (c8 .«open» .ensures .0) (c5 .outcome .given .1))
 
 pub opened-on-spec : {M : Type 1} → statement M
 opened-on-spec =

@@ -1,10 +1,23 @@
-use mathlib.Core.Path.{sym, ap, _∙_}
+use mathlib.Core.Path.{_≡_, sym, ap, _∙_}
+use mathlib.Core.List.{List}
+use Prim.Native.Nat.{ℕ}
 use borrow.Author.Tests.{eq-eqb, ne-eqb, lt-ltb, le-ltb}
+use Rattle.records.specs.declared.First.{First}
 use Rattle.records.specs.Record.{firstOf}
-use Rattle.session.specs.Play.{sessionOf}
+use Rattle.session.specs.Play.{byFirst, sessionOf}
 use borrow.Author.Needs.{needs}
 use Rattle.session.proofs.play.session.Statement.{statement}
 use Rattle.session.proofs.play.session.Tie as tie
+
+-- the file, and what its first record comes to
+abbrev fileIn : tie.After-first → List ℕ
+fileIn c = c .before .before .before .before .before .before .args .file .now
+
+by-record : (c : tie.After-first) (x : First) → c .first .result ≡ x → sessionOf (fileIn c) ≡ byFirst x (fileIn c)
+unfolding sessionOf
+by-record c x e =
+    let f = sym (ap firstOf (c .before .first-record .ensures)) ∙ sym (c .first .ensures) ∙ e in
+    simp (le-ltb _ _ (c .before .before .before .if1 .left), ne-eqb _ _ (c .before .before .if2 .left), f)
 
 bad-requires : tie.Need-bad-requires
 bad-requires c κs = search needs
@@ -51,27 +64,17 @@ same-length-3 : tie.Need-same-length-3
 same-length-3 c = search needs
 
 returns-3 : tie.Need-returns-3
-unfolding sessionOf
 returns-3 c =
     let c5 = c .before .before .before .before .before in
-    let c7 = c5 .before .before in
-    let c8 = c7 .before in
-    let c9 = c8 .before in
-    let c10 = c9 .before in
-    let e = sym (ap firstOf (c8 .first-record .ensures)) ∙ sym (c7 .first .ensures) ∙ c5 .sizes .given .1 in simp (le-ltb _ _ (c10 .if1 .left), ne-eqb _ _ (c9 .if2 .left), e) (c .before .before .opening .ensures)
+    rw (by-record (c5 .before .before) _ (c5 .sizes .given .1)) (c .before .before .opening .ensures)
 
 same-length-4 : tie.Need-same-length-4
 same-length-4 c = search needs
 
 returns-4 : tie.Need-returns-4
-unfolding sessionOf
 returns-4 c =
     let c5 = c .before .before .before .before .before in
-    let c7 = c5 .before .before in
-    let c8 = c7 .before in
-    let c9 = c8 .before in
-    let c10 = c9 .before in
-    let e = sym (ap firstOf (c8 .first-record .ensures)) ∙ sym (c7 .first .ensures) ∙ c5 .why .given .1 in simp (le-ltb _ _ (c10 .if1 .left), ne-eqb _ _ (c9 .if2 .left), e) (c .before .before .bad3 .ensures)
+    rw (by-record (c5 .before .before) _ (c5 .why .given .1)) (c .before .before .bad3 .ensures)
 
 pub session-spec : {M : Type 1} → statement M
 session-spec =

@@ -1,24 +1,27 @@
+use mathlib.Core.Bool.{false}
 use mathlib.Core.Path.{_≡_, refl, sym, ap, _∙_}
+use mathlib.Core.List.{List}
 use borrow.Author.Needs.{needs}
 use native.Mathlib.Omega.{arith}
-use Prim.Native.Nat.{ℕ, _+_, _-_, _^_, _<_, _≤_}
+use Prim.Native.Nat.{ℕ, _+_, _^_, _<_, _≤_}
 use lib.ListN.{length}
 use Rattle.registers.specs.Machine.{machine}
 use Rattle.session.specs.declared.Ending.the-variants.{Broken}
-use Rattle.records.specs.Record.{afterOf}
-use Rattle.text.specs.declared.LineNumber.{LineNumber}
+use Rattle.records.specs.declared.After.{After}
+use Rattle.records.specs.Record.{recordAt, afterOf}
 use Rattle.text.specs.Text.{bad}
 use Rattle.text.specs.Digits.{lineNumber, nextNumber}
 use Rattle.text.specs.Output.{Output, output, put}
 use Rattle.card.specs.Verdict.{verdictOf}
-use Rattle.session.specs.Run.{accessOf, wrapped, scriptFrom, resultOf, shown}
-use Rattle.text.proofs.Digits.{next-number}
+use Rattle.session.specs.Run.{accessOf, wrapped, scriptFrom, resultOf, shownAt}
+use Rattle.text.proofs.Digits.{next-number, own-number}
 use Rattle.records.proofs.Fits.{access-fits}
 use Rattle.session.proofs.Verdicts.{steady}
 use Rattle.session.proofs.Runs.{lines-end, lines-none, lines-stop, lines-turn}
 use Rattle.session.proofs.run.lines.Statement.{statement}
 use Rattle.session.proofs.run.lines.Tie as tie
 
+-- in order: the accesses left, the part's length, the lengths of store, marks and output, the verdict, the counter's bound, its digits, and what is still to be done
 abbrev Inv-loop : tie.InvT-loop
 Inv-loop verdict part from first number store₀ marks₀ tuples out₀ start buffer₀ core₀ at₀ counter₀ done₀ text₀ left₀ store marks out buffer core at counter done text left =
     (done + left ≤ length part)
@@ -29,10 +32,34 @@ Inv-loop verdict part from first number store₀ marks₀ tuples out₀ start bu
     × (verdict ≡ verdictOf (core .phase) (core .state) store marks tuples)
     × (counter .value < 2 ^ 64)
     × (counter ≡ lineNumber (counter .value))
-    × (shown (output out text) (resultOf first (counter .value) done (machine core buffer store marks) (scriptFrom left part tuples at)) ≡ shown (output out₀ text₀) (resultOf first number done₀ (machine core₀ buffer₀ store₀ marks₀) (scriptFrom left₀ part tuples at₀)))
+    × (shownAt (output out text) (resultOf first (counter .value) done (machine core buffer store marks) (scriptFrom left part tuples at)) ≡ shownAt (output out₀ text₀) (resultOf first number done₀ (machine core₀ buffer₀ store₀ marks₀) (scriptFrom left₀ part tuples at₀)))
 
 abbrev μ-loop : tie.MeasureT-loop
 μ-loop verdict part from first number store₀ marks₀ tuples out₀ start buffer₀ core₀ at₀ counter₀ done₀ text₀ left₀ store marks out buffer core at counter done text left = left
+
+-- a turn whose record is an access: where the record is known, where the turn began, and the part
+abbrev known : tie.After-put-answer Inv-loop μ-loop → tie.After-write Inv-loop μ-loop
+known c = c .before .before .before .before .before .before .before .before .before .before .before .before .before .before .before
+
+abbrev began : tie.After-write Inv-loop μ-loop → tie.In-loop Inv-loop μ-loop
+began c = c .before .before .before .before .before
+
+abbrev partIn : tie.After-write Inv-loop μ-loop → List ℕ
+partIn c = began c .before .before .before .before .before .before .before .before .before .before .args .part .now
+
+asked : (c : tie.After-write Inv-loop μ-loop) →
+    (began c .before .loop .at < length (partIn c))
+    × (afterOf (recordAt (partIn c) (began c .before .loop .at) false) ≡ After.Access (c .write .given .0 .0) (c .write .given .0 .1 .0))
+asked c =
+    let c3 = c .before .before .before in
+    (c3 .before .if1 .left, sym (ap afterOf (c3 .record-at .ensures)) ∙ sym (c .before .before .after .ensures) ∙ c .write .given .1)
+
+-- such a turn has an access left, and can count it
+turn : (c : tie.After-put-answer Inv-loop μ-loop) → (0 < began (known c) .before .loop .left) × (began (known c) .before .loop .done + 1 < 2 ^ 64)
+turn c =
+    let b = began (known c) in
+    let i = b .before .loop .inv in
+    (b .loop-test .taken, omega (arith, i .0, i .1, b .loop-test .taken))
 
 of-requires : tie.Need-of-requires Inv-loop μ-loop
 of-requires c κs = search needs
@@ -41,7 +68,7 @@ loop-holds : tie.Need-loop-holds Inv-loop μ-loop
 loop-holds c =
     let c8 = c .before .before .before .before .before .before .before .before in
     let e = c .of .ensures in
-    (search needs, search needs, refl, refl, refl, c8 .pre, rw e (search needs), e ∙ ap (λ (f : LineNumber). lineNumber (f .value)) (sym e), rw e refl)
+    (search needs, search needs, refl, refl, refl, c8 .pre, rw e (search needs), own-number _ _ e, rw e refl)
 
 ran-requires : tie.Need-ran-requires Inv-loop μ-loop
 ran-requires c κs = search needs
@@ -59,7 +86,8 @@ returns : tie.Need-returns Inv-loop μ-loop
 returns c =
     let l = c .before .before .before .loop in
     let a = c .before .before .before .before .before .before .before .before .before .before .before .before .args in
-    rw (c .ran .ensures) (sym (lines-end (output (l .out) (l .text)) (a .first) (l .counter .value) (l .done) (l .left) (l .at) (a .part .now) (a .tuples .now) (machine (l .core) (l .buffer) (l .store) (l .marks)) (c .before .if1 .taken)) ∙ l .inv .8)
+    let m = machine (l .core) (l .buffer) (l .store) (l .marks) in
+    rw (c .ran .ensures) (sym (lines-end (output (l .out) (l .text)) (a .first) (l .counter .value) (l .done) (l .left) (l .at) (a .part .now) (a .tuples .now) m (c .before .if1 .taken)) ∙ l .inv .8)
 
 record-at-requires : tie.Need-record-at-requires Inv-loop μ-loop
 record-at-requires c κs = search needs
@@ -139,64 +167,42 @@ cast-at c = search needs
 
 add-at : tie.Need-add-at Inv-loop μ-loop
 add-at c =
-    let c19 = c .before .before .before .before .before .before .before .before .before .before .before .before .before .before .before .before .before .before .before in
-    let c21 = c19 .before .before in
-    let c22 = c21 .before in
-    let c23 = c22 .before in
-    let c25 = c23 .before .before in
-    let c34 = c25 .before .before .before .before .before .before .before .before .before in
-    let l = c25 .loop in
-    let f = access-fits _ _ (c34 .args .part .now) (l .at) (c23 .if1 .left) (sym (ap afterOf (c22 .record-at .ensures)) ∙ sym (c21 .after .ensures) ∙ c19 .write .given .1) in
+    let k = known (c .before .before .before .before) in
+    let l = began k .before .loop in
+    let f = access-fits _ _ (partIn k) (l .at) (asked k .0) (asked k .1) in
     omega (arith, f, c .size-of .ensures .0, l .inv .1)
 
 add-done : tie.Need-add-done Inv-loop μ-loop
-add-done c =
-    let c24 = c .before .before .before .before .before .before .before .before .before .before .before .before .before .before .before .before .before .before .before .before .before .before .before .before in
-    let c25 = c24 .before in
-    omega (arith, c25 .loop .inv .0, c25 .loop .inv .1, c24 .loop-test .taken)
+add-done c = omega (arith, turn (c .before .before .before .before) .1)
 
 sub-left : tie.Need-sub-left Inv-loop μ-loop
-sub-left c =
-    let c24 = c .before .before .before .before .before .before .before .before .before .before .before .before .before .before .before .before .before .before .before .before .before .before .before .before in
-    let c25 = c24 .before in
-    omega (arith, c25 .loop .inv .0, c25 .loop .inv .1, c24 .loop-test .taken)
+sub-left c = omega (arith, turn (c .before .before .before .before) .0)
 
 loop-less : tie.Need-loop-less Inv-loop μ-loop
-loop-less c =
-    let c24 = c .before .before .before .before .before .before .before .before .before .before .before .before .before .before .before .before .before .before .before .before .before .before .before .before in
-    let c25 = c24 .before in
-    omega (arith, c25 .loop .inv .0, c25 .loop .inv .1, c24 .loop-test .taken)
+loop-less c = omega (arith, turn (c .before .before .before .before) .0)
 
 loop-again : tie.Need-loop-again Inv-loop μ-loop
 loop-again c =
     let c4 = c .before .before .before .before in
     let c11 = c4 .before .before .before .before .before .before .before in
     let c15 = c11 .before .before .before .before in
-    let c16 = c15 .before in
-    let c19 = c16 .before .before .before in
-    let c21 = c19 .before .before in
-    let c22 = c21 .before in
-    let c23 = c22 .before in
-    let c24 = c23 .before in
-    let c25 = c24 .before in
-    let c34 = c25 .before .before .before .before .before .before .before .before .before in
-    let l = c25 .loop in
-    let a = c34 .args in
+    let q = known c4 in
+    let l = began q .before .loop in
+    let a = began q .before .before .before .before .before .before .before .before .before .before .args in
     let r = c11 .by-verdict in
     let k = r .kept .1 .1 .1 .1 .1 .1 .1 .1 in
-    let o = output (l .out) (l .text) in
-    let e = sym (ap afterOf (c22 .record-at .ensures)) ∙ sym (c21 .after .ensures) ∙ c19 .write .given .1 in
-    let t = steady (a .verdict) (machine (l .core) (l .buffer) (l .store) (l .marks)) (accessOf _ _ (a .tuples .now)) _ (l .inv .5) (c15 .count-known .ensures) (c16 .length-known .ensures) (r .ensures) in
+    let m = machine (l .core) (l .buffer) (l .store) (l .marks) in
+    let t = steady (a .verdict) m (accessOf _ _ (a .tuples .now)) _ (l .inv .5) (c15 .count-known .ensures) (c15 .before .length-known .ensures) (r .ensures) in
     let g = c .before .next .ensures ∙ ap nextNumber (l .inv .7) ∙ sym (next-number (l .counter .value) (l .inv .6)) in
-    let f = lines-turn o _ (a .first) (l .counter .value) (l .done) (l .left) (l .at) (a .part .now) (a .tuples .now) (machine (l .core) (l .buffer) (l .store) (l .marks)) _ _ _ (c24 .loop-test .taken) (c23 .if1 .left) e (t .0) (c4 .put-answer .ensures) in (
-      omega (arith, l .inv .0, c24 .loop-test .taken),
+    let f = lines-turn (output (l .out) (l .text)) _ (a .first) (l .counter .value) (l .done) (l .left) (l .at) (a .part .now) (a .tuples .now) m _ _ _ (turn c4 .0) (asked q .0) (asked q .1) (t .0) (c4 .put-answer .ensures) in (
+      omega (arith, l .inv .0, turn c4 .0),
       l .inv .1,
       k .0 ∙ l .inv .2,
       k .1 .0 ∙ l .inv .3,
       c4 .put-answer .kept .0 ∙ l .inv .4,
       t .1,
       rw g (omega arith),
-      g ∙ ap (λ (f : LineNumber). lineNumber (f .value)) (sym g),
+      own-number _ _ g,
       rw (g, c .size-of .ensures .0) (f ∙ l .inv .8),
     )
 
@@ -216,7 +222,8 @@ returns-3 : tie.Need-returns-3 Inv-loop μ-loop
 returns-3 c =
     let l = c .before .before .loop in
     let a = c .before .before .before .before .before .before .before .before .before .before .before .args in
-    rw (c .ran3 .ensures) (sym (lines-none (output (l .out) (l .text)) (a .first) (l .counter .value) (l .done) (l .left) (l .at) (a .part .now) (a .tuples .now) (machine (l .core) (l .buffer) (l .store) (l .marks)) (c .before .loop-test .left)) ∙ l .inv .8)
+    let m = machine (l .core) (l .buffer) (l .store) (l .marks) in
+    rw (c .ran3 .ensures) (sym (lines-none (output (l .out) (l .text)) (a .first) (l .counter .value) (l .done) (l .left) (l .at) (a .part .now) (a .tuples .now) m (c .before .loop-test .left)) ∙ l .inv .8)
 
 pub lines-spec : {M : Type 1} → statement M
 lines-spec =

@@ -1,14 +1,7 @@
-use mathlib.Core.Path.{_≡_, ap, _∙_}
-use Rattle.text.specs.declared.LineNumber.{LineNumber}
-use Rattle.text.specs.Text.{decimal}
-use Rattle.text.specs.Digits.{lineNumber, numeral}
-use Rattle.text.proofs.Digits.{numeral-of}
+use Rattle.text.proofs.Digits.{digits-print}
 use borrow.Author.Needs.{needs}
 use Rattle.session.proofs.run.put_answer.Statement.{statement}
 use Rattle.session.proofs.run.put_answer.Tie as tie
-
-digits-print : (f : LineNumber) → f ≡ lineNumber (f .value) → numeral f ≡ decimal (f .value)
-digits-print f e = ap numeral e ∙ numeral-of (f .value)
 
 enum-known-outcome : tie.Need-enum-known-outcome
 enum-known-outcome c = search needs

@@ -2,7 +2,7 @@ use mathlib.Core.Path.{ap, _∙_}
 use lib.ListN.{length}
 use Rattle.card.specs.Doors.{machineOf}
 use Rattle.text.specs.Output.{Output}
-use Rattle.session.specs.Run.{scriptFrom, resultOf, inOutput}
+use Rattle.session.specs.Run.{scriptFrom, resultOf, shownIn}
 use Rattle.text.proofs.Outputs.{put-holds}
 use borrow.Author.Needs.{needs}
 use Rattle.session.proofs.run.run.Statement.{statement}
@@ -24,7 +24,7 @@ returns : tie.Need-returns
 returns c =
     let a = c .before .before .before .before .before .before .before .before .before .before .before .before .before .before .before .args in
     let r = resultOf (a .first) (a .number) 0 (machineOf (a .card) (a .store .now) (a .marks .now)) (scriptFrom (length (a .part .now)) (a .part .now) (a .tuples .now) 0) in
-    c .before .before .before .before .before .before .run-from .ensures ∙ ap (λ (o : Output). inOutput o r) (put-holds (r .text) (a .out .now))
+    c .before .before .before .before .before .before .run-from .ensures ∙ ap (λ (o : Output). shownIn o r) (put-holds (r .text) (a .out .now))
 
 pub run-spec : {M : Type 1} → statement M
 run-spec = tie.close (tie.spec run-from-requires same-length same-length-2 same-length-3 returns)
