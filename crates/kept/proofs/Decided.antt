@@ -15,7 +15,7 @@ use Rattle.maps.specs.declared.Target.the-variants.{Tuple, Option, Named, Data}
 use Rattle.maps.specs.declared.Standing.{Standing}
 use Rattle.maps.specs.Spaces.{answersAt}
 use Rattle.maps.specs.Maps.{standsAt}
-use Rattle.maps.proofs.Standings.{Fits, stands-fits}
+use Rattle.maps.proofs.Standings.{Known, stands-known}
 use Rattle.registers.specs.declared.State.{State}
 use Rattle.registers.specs.State.{sresetIn, indexIn, totalIn}
 use Rattle.registers.specs.Machine.{Machine}
@@ -85,7 +85,7 @@ free : (option space address : ℕ) → (space ≡ 0 → ⊥) → heldAway optio
 unfolding heldAway
 free option space address n e = not-away (sresetIn option) (rw (ne-eqb space 0 n) at e)
 
-stands-allowed : (t : Standing) (s : State) (a : Access) → Fits t (a .space) (a .width) (a .write) (a .value) →
+stands-allowed : (t : Standing) (s : State) (a : Access) → Known (a .space) (a .width) (a .write) (a .value) t →
     heldAway (s .option) (a .space) (a .address) ≡ false →
     answersAt (a .space) (s .made .mode) (indexIn (s .option)) ≡ true →
     Allowed (standing t (a .write) (a .value) (a .tuples)) s
@@ -105,7 +105,7 @@ pub decided-allowed : (s : State) (a : Access) → Allowed (decided s a) s
 decided-allowed s a =
     decided-elim (λ (k : Meaning). Allowed k s) s a tt tt
     (λ h e. stands-allowed (standsAt (a .space) (indexIn (s .option)) (a .address) (a .width) (a .write) (a .value)) s a
-    (stands-fits (a .space) (indexIn (s .option)) (a .address) (a .width) (a .write) (a .value)) h e)
+    (stands-known (a .space) (indexIn (s .option)) (a .address) (a .width) (a .write) (a .value) _ refl) h e)
 
 pub meaning-allowed : (m : Machine) (a : Access) → Allowed (meaning m a) (m .state)
 meaning-allowed m a = meaning-elim (λ (k : Meaning). Allowed k (m .state)) m a tt tt tt tt (λ w s k t. decided-allowed (m .state) a)

@@ -1,7 +1,7 @@
 -- Device Control as a method is the byte write to its register: the same answer, the same line, the same card, and what is lent as it was.
 use Prim.Native.Nat.{ℕ, zero, suc, _*_, _%_, _<_, _≤_}
 use native.Mathlib.Omega.{arith}
-use mathlib.Core.Path.{_≡_, refl, subst, _∙_}
+use mathlib.Core.Path.{_≡_, refl, _∙_}
 use mathlib.Core.Bool.{Bool, true, false}
 use mathlib.Core.List.{List}
 use lib.ListN.{length}
@@ -11,13 +11,12 @@ use Rattle.maps.specs.declared.Mode.{Mode}
 use Rattle.maps.specs.declared.Mode.the-variants.{PcCard, TrueIde}
 use Rattle.maps.specs.declared.Register.the-variants.{AlternateControl}
 use Rattle.maps.specs.declared.Target.the-variants.{Named}
-use Rattle.maps.specs.declared.Standing.{Standing}
 use Rattle.maps.specs.declared.Standing.the-variants.{There}
 use Rattle.maps.specs.Spaces.{cardAnswers, answersAt}
 use Rattle.maps.specs.Offsets.{memoryAt, within, windowAt, ioAt, offsetAt}
 use Rattle.maps.specs.Places.{misfits, byteAt, evenData, namedAt, placeAt, registerAt}
 use Rattle.maps.specs.Maps.{standsAt}
-use Rattle.maps.proofs.Standings.{Fits, stands-fits}
+use Rattle.maps.proofs.Standings.{Known, stands-known}
 use Rattle.registers.specs.declared.State.{State}
 use Rattle.registers.specs.State.{sresetIn, indexIn, totalIn}
 use Rattle.registers.specs.WellMade.{indexFits, wellMade}
@@ -39,16 +38,14 @@ controlMeaning true v = Meaning.Refused HeldBySreset
 controlMeaning false v = WriteRegister AlternateControl v
 
 -- it is in no attribute memory, and its value is a byte
-reaches-fits : (s : State) (a : Access) → Reaches s a → Fits (There (Named AlternateControl)) (a .space) (a .width) (a .write) (a .value)
-reaches-fits s a r =
-    subst (λ (x : Standing). Fits x (a .space) (a .width) (a .write) (a .value)) (r .stands)
-    (stands-fits (a .space) (indexIn (s .option)) (a .address) (a .width) (a .write) (a .value))
+reaches-known : (s : State) (a : Access) → Reaches s a → Known (a .space) (a .width) (a .write) (a .value) (There (Named AlternateControl))
+reaches-known s a r = stands-known (a .space) (indexIn (s .option)) (a .address) (a .width) (a .write) (a .value) _ (r .stands)
 
 control-decided : (b : Bool) (s : State) (a : Access) → Reaches s a → sresetIn (s .option) ≡ b → decided s a ≡ controlMeaning b (a .value)
 unfolding decided heldAway
-control-decided true s a r e = rw (e, ne-eqb (a .space) 0 (reaches-fits s a r .0))
+control-decided true s a r e = rw (e, ne-eqb (a .space) 0 (reaches-known s a r .0))
 control-decided false s a r e =
-    let l : a .value ≤ 255 = reaches-fits s a r .1 .small (r .write) in
+    let l : a .value ≤ 255 = reaches-known s a r .1 .small (r .write) in
     let n : a .value % 256 ≡ a .value = omega arith in
     rw (e, r .answers, r .stands, r .write, n)
 

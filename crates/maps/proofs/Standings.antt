@@ -31,14 +31,14 @@ pub record Byte (width : ℕ) (write : Bool) (value : ℕ) : Type 0 where
 abbrev pub ofMaps : Refusal → Bool
 ofMaps refusal = eqb (numberOf refusal) 6 || (eqb (numberOf refusal) 9 || eqb (numberOf refusal) 10)
 
-abbrev pub Fits : Standing → ℕ → ℕ → Bool → ℕ → Type 0
-Fits (There (Tuple number)) space width write value = (space ≡ 0) × (number ≤ 255) × (write ≡ false) × Byte width write value
-Fits (There Option) space width write value = (space ≡ 0) × (write ≡ true → value % 64 ≤ 3) × Byte width write value
-Fits (There (Named register)) space width write value = (space ≡ 0 → ⊥) × Byte width write value
-Fits (There (Data Even)) space width write value = (space ≡ 0 → ⊥) × Byte width write value
-Fits (There (Data Odd)) space width write value = (space ≡ 0 → ⊥) × Byte width write value
-Fits (There (Data Word)) space width write value = (space ≡ 0 → ⊥) × (width ≡ 2)
-Fits (Refused refusal) space width write value = ofMaps refusal ≡ true
+abbrev pub Known : ℕ → ℕ → Bool → ℕ → Standing → Type 0
+Known space width write value (There (Tuple number)) = (space ≡ 0) × (number ≤ 255) × (write ≡ false) × Byte width write value
+Known space width write value (There Option) = (space ≡ 0) × (write ≡ true → value % 64 ≤ 3) × Byte width write value
+Known space width write value (There (Named register)) = (space ≡ 0 → ⊥) × Byte width write value
+Known space width write value (There (Data Even)) = (space ≡ 0 → ⊥) × Byte width write value
+Known space width write value (There (Data Odd)) = (space ≡ 0 → ⊥) × Byte width write value
+Known space width write value (There (Data Word)) = (space ≡ 0 → ⊥) × (width ≡ 2)
+Known space width write value (Refused refusal) = ofMaps refusal ≡ true
 
 -- what is left when row 9 does not apply and no word is taken
 byte-fits : (even : Bool) (width : ℕ) (write : Bool) (value : ℕ) → pick (eqb width 2) (not even) true ≡ true → misfits even width write value ≡ false → Byte width write value
@@ -51,44 +51,44 @@ byte-fits even width write value one =
 no-word : (width : ℕ) → pick (eqb width 2) (not false) true ≡ true
 no-word width = pick-elim (λ (t : Bool). t ≡ true) (eqb width 2) _ _ (λ e. refl) (λ e. refl)
 
-byte-at-fits : (target : Target) (space width : ℕ) (write : Bool) (value : ℕ) → (Byte width write value → Fits (There target) space width write value) → Fits (byteAt target width write value) space width write value
+byte-at-known : (target : Target) (space width : ℕ) (write : Bool) (value : ℕ) → (Byte width write value → Known space width write value (There target)) → Known space width write value (byteAt target width write value)
 unfolding byteAt
-byte-at-fits target space width write value f =
-    pick-elim (λ (s : Standing). Fits s space width write value) (misfits false width write value) _ _
+byte-at-known target space width write value f =
+    pick-elim (Known space width write value) (misfits false width write value) _ _
     (λ e. refl)
     (λ e. f (byte-fits false width write value (no-word width) e))
 
-tuple-fits : (number space width : ℕ) (write : Bool) (value : ℕ) → space ≡ 0 → number ≤ 255 → Fits (tupleAt number width write value) space width write value
+tuple-known : (number space width : ℕ) (write : Bool) (value : ℕ) → space ≡ 0 → number ≤ 255 → Known space width write value (tupleAt number width write value)
 unfolding tupleAt
-tuple-fits number space width true value z l = refl
-tuple-fits number space width false value z l = byte-at-fits (Tuple number) space width false value (λ b. (z, l, refl, b))
+tuple-known number space width true value z l = refl
+tuple-known number space width false value z l = byte-at-known (Tuple number) space width false value (λ b. (z, l, refl, b))
 
-option-fits : (space width : ℕ) (write : Bool) (value : ℕ) → space ≡ 0 → Fits (optionAt width write value) space width write value
+option-known : (space width : ℕ) (write : Bool) (value : ℕ) → space ≡ 0 → Known space width write value (optionAt width write value)
 unfolding optionAt aboveThree
-option-fits space width write value z =
-    pick-elim (λ (s : Standing). Fits s space width write value) (misfits false width write value) _ _
+option-known space width write value z =
+    pick-elim (Known space width write value) (misfits false width write value) _ _
     (λ e. refl)
-    (λ e. pick-elim (λ (s : Standing). Fits s space width write value) (write && ltb 3 (value % 64)) _ _
+    (λ e. pick-elim (Known space width write value) (write && ltb 3 (value % 64)) _ _
     (λ a. refl)
     (λ a. (z, λ w. ltb-false 3 (value % 64) (rw w at a), byte-fits false width write value (no-word width) e)))
 
-attribute-fits : (space address width : ℕ) (write : Bool) (value : ℕ) → space ≡ 0 → Fits (attributeAt address width write value) space width write value
+attribute-known : (space address width : ℕ) (write : Bool) (value : ℕ) → space ≡ 0 → Known space width write value (attributeAt address width write value)
 unfolding attributeAt
-attribute-fits space address width write value z =
-    pick-elim (λ (s : Standing). Fits s space width write value) (leb address 0x1FE) _ _
-    (λ e. pick-elim (λ (s : Standing). Fits s space width write value) (eqb (address % 2) 0) _ _
-    (λ f. tuple-fits (address / 2) space width write value z (let l : address ≤ 0x1FE = leb-true _ _ e in omega arith))
+attribute-known space address width write value z =
+    pick-elim (Known space width write value) (leb address 0x1FE) _ _
+    (λ e. pick-elim (Known space width write value) (eqb (address % 2) 0) _ _
+    (λ f. tuple-known (address / 2) space width write value z (let l : address ≤ 0x1FE = leb-true _ _ e in omega arith))
     (λ f. refl))
-    (λ e. pick-elim (λ (s : Standing). Fits s space width write value) (eqb address 0x200) _ _
-    (λ f. option-fits space width write value z)
+    (λ e. pick-elim (Known space width write value) (eqb address 0x200) _ _
+    (λ f. option-known space width write value z)
     (λ f. refl))
 
-port-fits : (space width : ℕ) (write : Bool) (value : ℕ) → (space ≡ 0 → ⊥) → Fits (portAt width write value) space width write value
+port-known : (space width : ℕ) (write : Bool) (value : ℕ) → (space ≡ 0 → ⊥) → Known space width write value (portAt width write value)
 unfolding portAt
-port-fits space width write value n =
-    pick-elim (λ (s : Standing). Fits s space width write value) (misfits true width write value) _ _
+port-known space width write value n =
+    pick-elim (Known space width write value) (misfits true width write value) _ _
     (λ e. refl)
-    (λ e. pick-elim (λ (s : Standing). Fits s space width write value) (eqb width 2) _ _
+    (λ e. pick-elim (Known space width write value) (eqb width 2) _ _
     (λ f. (n, eqb-true _ _ f))
     (λ f. (n, byte-fits true width write value (simp f) e)))
 
@@ -108,35 +108,36 @@ named-elim P offset h r n =
     (λ e. pick-elim P (eqb offset 0xE) _ _ (λ e. r _)
     (λ e. pick-elim P (eqb offset 0xF) _ _ (λ e. r _) (λ e. n)))))))))))
 
-register-fits : (offset : Offset) (space width : ℕ) (write : Bool) (value : ℕ) → (space ≡ 0 → ⊥) → Fits (registerAt offset width write value) space width write value
+register-known : (offset : Offset) (space width : ℕ) (write : Bool) (value : ℕ) → (space ≡ 0 → ⊥) → Known space width write value (registerAt offset width write value)
 unfolding registerAt placeAt
-register-fits (At offset) space width write value n =
-    pick-elim (λ (s : Standing). Fits s space width write value) (evenData offset) _ _
-    (λ e. port-fits space width write value n)
-    (λ e. named-elim (λ (s : Standing). Fits (sized s width write value) space width write value) offset
-    (byte-at-fits (Data Odd) space width write value (λ b. (n, b)))
-    (λ register. byte-at-fits (Named register) space width write value (λ b. (n, b)))
+register-known (At offset) space width write value n =
+    pick-elim (Known space width write value) (evenData offset) _ _
+    (λ e. port-known space width write value n)
+    (λ e. named-elim (λ (s : Standing). Known space width write value (sized s width write value)) offset
+    (byte-at-known (Data Odd) space width write value (λ b. (n, b)))
+    (λ register. byte-at-known (Named register) space width write value (λ b. (n, b)))
     refl)
-register-fits Nowhere space width write value n = refl
+register-known Nowhere space width write value n = refl
 
-pub stands-fits : (space index address width : ℕ) (write : Bool) (value : ℕ) → Fits (standsAt space index address width write value) space width write value
+standing-known : (space index address width : ℕ) (write : Bool) (value : ℕ) → Known space width write value (standsAt space index address width write value)
 unfolding standsAt
-stands-fits space index address width write value =
-    pick-elim (λ (s : Standing). Fits s space width write value) (eqb space 0) _ _
-    (λ e. attribute-fits space address width write value (eqb-true _ _ e))
-    (λ e. register-fits (offsetAt space index address) space width write value (eqb-false _ _ e))
+standing-known space index address width write value =
+    pick-elim (Known space width write value) (eqb space 0) _ _
+    (λ e. attribute-known space address width write value (eqb-true _ _ e))
+    (λ e. register-known (offsetAt space index address) space width write value (eqb-false _ _ e))
+
+pub stands-known : (space index address width : ℕ) (write : Bool) (value : ℕ) (s : Standing) → standsAt space index address width write value ≡ s → Known space width write value s
+stands-known space index address width write value s e = subst (Known space width write value) e (standing-known space index address width write value)
 
 -- the Configuration Option Register stands in attribute memory only, and is written with a byte whose index is at most 3
 pub option-written : (space index address width value : ℕ) → standsAt space index address width true value ≡ There Option → (space ≡ 0) × (value % 64 ≤ 3) × (value ≤ 255)
 option-written space index address width value e =
-    let f = subst (λ (s : Standing). Fits s space width true value) e (stands-fits space index address width true value) in
+    let f = stands-known space index address width true value _ e in
     (f .0, f .1 refl, f .2 .small refl)
 
 pub option-space : (space index address width : ℕ) (write : Bool) (value : ℕ) → standsAt space index address width write value ≡ There Option → space ≡ 0
-option-space space index address width write value e =
-    subst (λ (s : Standing). Fits s space width write value) e (stands-fits space index address width write value) .0
+option-space space index address width write value e = stands-known space index address width write value _ e .0
 
 -- no other refusal comes from the maps
 pub refused-rows : (space index address width : ℕ) (write : Bool) (value : ℕ) (refusal : Refusal) → standsAt space index address width write value ≡ Refused refusal → ofMaps refusal ≡ true
-refused-rows space index address width write value refusal e =
-    subst (λ (s : Standing). Fits s space width write value) e (stands-fits space index address width write value)
+refused-rows space index address width write value refusal e = stands-known space index address width write value _ e

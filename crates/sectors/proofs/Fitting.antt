@@ -1,4 +1,4 @@
--- The cases of `marksFit`, for the loop that it is proved of.
+-- The cases of `marksFit`, for the proof of the loop.
 use Prim.Native.Nat.{ℕ, _+_, _<_, _≤_}
 use native.Mathlib.Numerals.{add-one}
 use mathlib.Core.Path.{_≡_}

@@ -1,6 +1,6 @@
 // The sector rules over a lent store and its marks: what a mark allows, a sector read, a sector stored and its mark cleared.
 ghost use mathlib.Core.Path.{_≡_};
-ghost use Prim.Native.Nat.{_+_, _*_, _≤_, _<_};
+ghost use Prim.Native.Nat.{_+_, _*_, _≤_};
 ghost use lib.ListN.{length};
 ghost use Rattle.sectors.specs.Marks.{readable, writable, marksFit};
 ghost use Rattle.sectors.specs.Sectors.{sectorOf, withSector, bufferRead, storeMarks, stored};
@@ -40,7 +40,7 @@ pub fn marks_fit(marks: &[u8]) -> bool
 }
 
 // Sector i comes into the buffer.
-pub fn read_sector(store: &[u8], i: usize, buffer: &mut [u8; 512])
+pub fn load_sector(store: &[u8], i: usize, buffer: &mut [u8; 512])
     ensures { λ _. ⌜ now (buffer .exit) ≡ bufferRead (now (store .entry)) i (now (buffer .entry)) ⌝ }
 {
     let sectors = store.len() / 512;
@@ -68,10 +68,10 @@ fn get_sector(store: &[u8], i: usize, buffer: &mut [u8; 512])
     ensures { λ _. ⌜ now (buffer .exit) ≡ sectorOf (now (store .entry)) i ⌝ }
 {
     ground::length_known(buffer);
-    let a = 512 * i;
+    let start = 512 * i;
     let mut k = 0;
     while k < 512 {
-        buffer[k] = store[a + k];
+        buffer[k] = store[start + k];
         k += 1;
     }
 }
@@ -81,9 +81,9 @@ fn put_sector(store: &mut [u8], i: usize, bytes: &[u8; 512])
     requires { ⌜ 512 * i + 512 ≤ length (now store) ⌝ }
     ensures { λ _. ⌜ now (store .exit) ≡ withSector (now (store .entry)) i (now (bytes .entry)) ⌝ }
 {
-    let a = 512 * i;
-    let e = a + 512;
-    fill(&mut store[a..e], bytes);
+    let start = 512 * i;
+    let end = start + 512;
+    fill(&mut store[start..end], bytes);
 }
 
 // A part of 512 bytes is filled from the buffer.

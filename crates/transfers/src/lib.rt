@@ -257,7 +257,7 @@ pub fn read_sector(
     match sector_test(state, Way::In, marks) {
         Tested::Passes(spot) => {
             let i = spot.index;
-            sectors::read_sector(store, i, buffer);
+            sectors::load_sector(store, i, buffer);
             begun(state, Way::In, Load::Sectors(left), true)
         }
         Tested::Fails(end) => ended(state, end, true),

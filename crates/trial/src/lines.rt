@@ -50,7 +50,7 @@ pub(crate) fn line(pattern: &[u8], numbers: &[u16]) {
     io::write_all(1, &out[..n]);
 }
 
-fn half(byte: u8, i: usize) -> u8 {
+fn byte_digit(byte: u8, i: usize) -> u8 {
     let n = ground::wide(byte);
     if i % 2 == 0 {
         return digit(n / 16);
@@ -64,7 +64,7 @@ pub(crate) fn bytes_line(start: &[u8], bytes: &[u8]) {
     let mut out = [0u8; 2048];
     let mut i: usize = 0;
     while i < n {
-        out[i] = half(ground::byte_or_zero(bytes, i / 2), i);
+        out[i] = byte_digit(ground::byte_or_zero(bytes, i / 2), i);
         i += 1;
     }
     io::write_all(1, start);

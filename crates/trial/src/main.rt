@@ -60,11 +60,7 @@ fn nothing_lent() -> Side {
             tuples: 0,
             bodies: 0,
         },
-        last: Entry {
-            code: 0,
-            start: 0,
-            length: 0,
-        },
+        last: tuples::NO_ENTRY,
     }
 }
 
@@ -90,18 +86,15 @@ fn changed(side: Side, w: Words) -> Side {
     side
 }
 
-fn marked(rows: Rows, at: usize, value: u8) -> Rows {
-    let mut r = rows;
-    if at < 1024 {
-        r.marks[at] = value;
-    }
-    r
-}
-
 // Kinds 2, 9 and 10.
 fn row_record(rows: Rows, w: Words) -> Rows {
     if w.w0 == 2 {
-        return marked(rows, w.w1 as usize, low(w.w2));
+        let mut marks = rows.marks;
+        bytes::set(&mut marks, w.w1 as usize, low(w.w2));
+        return Rows {
+            marks: marks,
+            ..rows
+        };
     }
     if w.w0 == 9 {
         let mut tuples = rows.tuples;

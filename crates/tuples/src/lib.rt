@@ -20,7 +20,7 @@ pub struct Entry {
 }
 
 // No tuple: 00H is no tuple's code.
-const NO_ENTRY: Entry = Entry {
+pub const NO_ENTRY: Entry = Entry {
     code: 0,
     start: 0,
     length: 0,

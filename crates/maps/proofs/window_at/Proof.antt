@@ -1,8 +1,7 @@
-use Rattle.maps.specs.Offsets.{within}
+use Rattle.maps.specs.Offsets.{within, windowAt}
 use Rattle.ground.proofs.Every.{and-left}
 use borrow.Author.Tests.{eq-eqb, ne-eqb, leb-true}
 use mathlib.Core.Path.{sym, _∙_}
-use Rattle.maps.specs.Offsets.{windowAt}
 use borrow.Author.Needs.{needs}
 use Rattle.maps.proofs.window_at.Statement.{statement}
 use Rattle.maps.proofs.window_at.Tie as tie

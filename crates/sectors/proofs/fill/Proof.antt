@@ -33,17 +33,16 @@ loop-less c = search needs
 
 loop-again : tie.Need-loop-again Inv-loop μ-loop
 loop-again c =
-    let i = c .before .before .loop in
-    (search needs, search needs, copy-more (i .i) _ (i .part) (omega arith) (omega arith) (i .inv .2))
+    let l = c .before .before .loop in
+    (search needs, search needs, copy-more (l .i) _ (l .part) (omega arith) (omega arith) (l .inv .2))
 
 same-length : tie.Need-same-length Inv-loop μ-loop
 same-length c = search needs
 
 returns : tie.Need-returns Inv-loop μ-loop
 returns c =
-    let i = c .before .loop in
-    let e : i .i ≡ 512 = omega arith in
-    copy-all 512 _ _ (omega arith) (omega arith) (rw e at (i .inv .2))
+    let l = c .before .loop in
+    copy-all (l .i) _ _ (omega arith) (omega arith) (l .inv .2)
 
 pub fill-spec : {M : Type 1} → statement M
 fill-spec =

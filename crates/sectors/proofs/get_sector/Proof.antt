@@ -10,16 +10,16 @@ use Rattle.sectors.proofs.get_sector.Statement.{statement}
 use Rattle.sectors.proofs.get_sector.Tie as tie
 
 abbrev Inv-loop : tie.InvT-loop
-Inv-loop store i buffer₀ a k₀ buffer k = (k ≤ 512) × (length buffer ≡ 512) × (take k buffer ≡ take k (drop a store))
+Inv-loop store i buffer₀ start k₀ buffer k = (k ≤ 512) × (length buffer ≡ 512) × (take k buffer ≡ take k (drop start store))
 
 abbrev μ-loop : tie.MeasureT-loop
-μ-loop store i buffer₀ a k₀ buffer k = 512 - k
+μ-loop store i buffer₀ start k₀ buffer k = 512 - k
 
 length-known-requires : tie.Need-length-known-requires Inv-loop μ-loop
 length-known-requires c κs = search needs
 
-mul-a : tie.Need-mul-a Inv-loop μ-loop
-mul-a c = search needs
+mul-start : tie.Need-mul-start Inv-loop μ-loop
+mul-start c = search needs
 
 loop-holds : tie.Need-loop-holds Inv-loop μ-loop
 loop-holds c = search needs
@@ -41,17 +41,17 @@ loop-less c = search needs
 
 loop-again : tie.Need-loop-again Inv-loop μ-loop
 loop-again c =
-    let i = c .before .before .loop in
+    let l = c .before .before .loop in
     let a = c .before .before .before .before .before .before .args in
     let s = a .store .now in
-    (search needs, search needs, rw (← getD-drop (512 * a .i) s (i .k) 0) (copy-more (i .k) (drop (512 * a .i) s) (i .buffer) (simp length-drop (omega arith)) (omega arith) (i .inv .2)))
+    (search needs, search needs, rw (← getD-drop (512 * a .i) s (l .k) 0) (copy-more (l .k) (drop (512 * a .i) s) (l .buffer) (simp length-drop (omega arith)) (omega arith) (l .inv .2)))
 
 returns : tie.Need-returns Inv-loop μ-loop
 unfolding sectorOf
 returns c =
-    let i = c .before .loop in
-    let e : i .k ≡ 512 = omega arith in
-    sym (take-all 512 (i .buffer) (omega arith)) ∙ rw e at (i .inv .2)
+    let l = c .before .loop in
+    let e : l .k ≡ 512 = omega arith in
+    sym (take-all 512 (l .buffer) (omega arith)) ∙ rw e at (l .inv .2)
 
 pub get-sector-spec : {M : Type 1} → statement M
 get-sector-spec =
@@ -60,7 +60,7 @@ get-sector-spec =
     Inv-loop
     μ-loop
     length-known-requires
-    mul-a
+    mul-start
     loop-holds
     add-buffer
     shared-slice-read-buffer

@@ -7,11 +7,11 @@ use borrow.Author.Needs.{needs}
 use Rattle.sectors.proofs.put_sector.Statement.{statement}
 use Rattle.sectors.proofs.put_sector.Tie as tie
 
-mul-a : tie.Need-mul-a
-mul-a c = search needs
+mul-start : tie.Need-mul-start
+mul-start c = search needs
 
-add-e : tie.Need-add-e
-add-e c = search needs
+add-end : tie.Need-add-end
+add-end c = search needs
 
 sub-fill : tie.Need-sub-fill
 sub-fill c = search needs
@@ -38,4 +38,4 @@ returns c =
 pub put-sector-spec : {M : Type 1} → statement M
 put-sector-spec =
     tie.close
-    (tie.spec mul-a add-e sub-fill part-fill-start part-fill-end fill-requires same-length returns)
+    (tie.spec mul-start add-end sub-fill part-fill-start part-fill-end fill-requires same-length returns)

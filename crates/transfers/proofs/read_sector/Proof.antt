@@ -10,8 +10,8 @@ sector-test-requires c κs = search needs
 enum-known-spot : tie.Need-enum-known-spot
 enum-known-spot c = search needs
 
-read-sector-requires : tie.Need-read-sector-requires
-read-sector-requires c κs = search needs
+load-sector-requires : tie.Need-load-sector-requires
+load-sector-requires c κs = search needs
 
 begun-requires : tie.Need-begun-requires
 begun-requires c κs = search needs
@@ -26,7 +26,7 @@ returns : tie.Need-returns
 unfolding readSector
 returns c =
     let e = sym (c .before .before .before .before .before .before .sector-test .ensures) ∙ c .before .before .before .before .spot .given .1 in
-    simp (e, c .begun .ensures, c .before .read-sector .ensures)
+    simp (e, c .begun .ensures, c .before .load-sector .ensures)
 
 returns-2 : tie.Need-returns-2
 unfolding readSector
@@ -38,7 +38,7 @@ read-sector-spec =
     (tie.spec
     sector-test-requires
     enum-known-spot
-    read-sector-requires
+    load-sector-requires
     begun-requires
     enum-known-end
     ended-requires

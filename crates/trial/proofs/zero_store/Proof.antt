@@ -8,7 +8,4 @@ returns : tie.Need-returns
 returns c = sym (length-replicate {A = ℕ} 524288 0)
 
 pub zero-store-spec : {M : Type 1} → statement M
-zero-store-spec =
-    tie.close
-    (tie.spec
-    returns)
+zero-store-spec = tie.close (tie.spec returns)

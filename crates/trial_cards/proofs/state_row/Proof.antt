@@ -33,7 +33,9 @@ with-option-requires : tie.Need-with-option-requires
 with-option-requires c κs = search needs
 
 returns : tie.Need-returns
-returns c = simp (c .with-option .ensures, c .before .with-registers .ensures, c .before .before .one-of .ensures .0, c .before .before .before .wide .ensures .0, c .before .before .before .before .with-made .ensures)
+returns c =
+    let c4 = c .before .before .before .before in
+    simp (c .with-option .ensures, c .before .with-registers .ensures, c .before .before .one-of .ensures .0, c .before .before .before .wide .ensures .0, c4 .with-made .ensures)
 
 pub state-row-spec : {M : Type 1} → statement M
 state-row-spec =

@@ -45,7 +45,11 @@ array-write-r-7 : tie.Need-array-write-r-7
 array-write-r-7 c = search needs
 
 returns : tie.Need-returns
-returns c = simp (c .wide7 .ensures .0, c .before .wide6 .ensures .0, c .before .before .wide5 .ensures .0, c .before .before .before .wide4 .ensures .0, c .before .before .before .before .wide3 .ensures .0, c .before .before .before .before .before .wide2 .ensures .0, c .before .before .before .before .before .before .wide .ensures .0)
+returns c =
+    let c4 = c .before .before .before .before in
+    let c5 = c4 .before in
+    let c6 = c5 .before in
+    simp (c .wide7 .ensures .0, c .before .wide6 .ensures .0, c .before .before .wide5 .ensures .0, c .before .before .before .wide4 .ensures .0, c4 .wide3 .ensures .0, c5 .wide2 .ensures .0, c6 .wide .ensures .0)
 
 pub with-registers-spec : {M : Type 1} → statement M
 with-registers-spec =

@@ -1,6 +1,5 @@
 use Rattle.ground.proofs.Tests.{tests}
 use mathlib.Core.Path.{sym, _∙_}
-use borrow.Author.Tests.{ne-eqb}
 use Rattle.identify.specs.Words.{firstWord}
 use borrow.Author.Needs.{needs}
 use Rattle.identify.proofs.Facts.first_word.Statement.{statement}
@@ -53,7 +52,7 @@ returns-8 : tie.Need-returns-8
 unfolding firstWord
 returns-8 c =
     let w = sym (c .before .blank-word .ensures) ∙ c .if7 .left in
-    simp (ne-eqb _ _ (c .before .before .before .before .before .before .before .if1 .left), ne-eqb _ _ (c .before .before .before .before .before .before .if2 .left), ne-eqb _ _ (c .before .before .before .before .before .if3 .left), ne-eqb _ _ (c .before .before .before .before .if4 .left), ne-eqb _ _ (c .before .before .before .if5 .left), ne-eqb _ _ (c .before .before .if6 .left), w)
+    search (tests, w)
 
 pub first-word-spec : {M : Type 1} → statement M
 first-word-spec =

@@ -46,8 +46,7 @@ returns c =
     let l = c .before .loop in
     let f = c .before .before .before .before .args .self in
     let n = identify-length f in
-    let e : l .i ≡ 512 = omega arith in
-    copy-all 512 (identifyBytes f) (l .buffer) (omega arith) (omega arith) (rw e at (l .inv .2))
+    copy-all (l .i) (identifyBytes f) (l .buffer) (omega arith) (omega arith) (l .inv .2)
 
 pub identify-spec : {M : Type 1} → statement M
 identify-spec =

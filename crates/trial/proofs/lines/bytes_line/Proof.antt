@@ -25,8 +25,8 @@ loop-holds c = search needs
 byte-or-zero-requires : tie.Need-byte-or-zero-requires Inv-loop μ-loop
 byte-or-zero-requires c κs = search needs
 
-half-requires : tie.Need-half-requires Inv-loop μ-loop
-half-requires c κs = search needs
+byte-digit-requires : tie.Need-byte-digit-requires Inv-loop μ-loop
+byte-digit-requires c κs = search needs
 
 array-write-out : tie.Need-array-write-out Inv-loop μ-loop
 array-write-out c = search needs
@@ -71,7 +71,7 @@ bytes-line-spec =
     mul-n
     loop-holds
     byte-or-zero-requires
-    half-requires
+    byte-digit-requires
     array-write-out
     add-i
     loop-less
