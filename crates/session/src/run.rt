@@ -3,20 +3,24 @@ use super::Ending;
 use super::Ran;
 use answers::Outcome;
 use card::Card;
+use card::Reply;
 use card::Verdict;
 use records::After;
+use records::Asked;
 use registers::Core;
 use text::LineNumber;
 ghost use mathlib.Core.Path.{_≡_};
 ghost use Prim.Native.Nat.{_+_, _<_};
 ghost use lib.ListN.{length};
 ghost use Rattle.ground.specs.Choice.{pick};
+ghost use Rattle.registers.specs.Machine.{machine};
+ghost use Rattle.card.specs.Step.{replied, step};
 ghost use Rattle.card.specs.Doors.{machineOf, cardOf};
 ghost use Rattle.answers.specs.Answers.{outcomeNumber};
 ghost use Rattle.text.specs.Text.{line, shownValue};
 ghost use Rattle.text.specs.Digits.{lineNumber};
 ghost use Rattle.text.specs.Output.{output, put};
-ghost use Rattle.session.specs.Run.{wrapped, scriptFrom, resultOf, shownAt, shown, ranAs};
+ghost use Rattle.session.specs.Run.{wrapped, accessOf, scriptFrom, resultOf, shownAt, shown, ranAs};
 ghost use Rattle.card.specs.Verdict.{verdictOf};
 
 fn written_or_read(write: bool, value: u16, read: u16) -> u16
@@ -59,6 +63,38 @@ fn ran(
         end: end,
         text: text,
     }
+}
+
+// The answer to what a record asks for, by the verdict on the card, which stands.
+fn answer(
+    verdict: Verdict,
+    core: Core,
+    write: bool,
+    asked: Asked,
+    buffer: &mut [u8; 512],
+    store: &mut [u8],
+    marks: &mut [u8],
+    tuples: &[u8],
+) -> Reply
+    requires { ⌜ verdict ≡ verdictOf (core .phase) (core .state) (now store) (now marks) (now tuples) ⌝ }
+    ensures { λ r. ⌜ replied r (now (buffer .exit)) (now (store .exit)) (now (marks .exit)) ≡ step (machine core (now (buffer .entry)) (now (store .entry)) (now (marks .entry))) (accessOf write asked (now (tuples .entry))) ⌝ }
+    ensures { λ r. ⌜ verdict ≡ verdictOf (r .core .phase) (r .core .state) (now (store .exit)) (now (marks .exit)) (now (tuples .entry)) ⌝ }
+{
+    ground::length_known(buffer);
+    count_known(core);
+    card::by_verdict(
+        verdict,
+        core,
+        asked.space,
+        asked.width,
+        write,
+        asked.address,
+        asked.value,
+        buffer,
+        store,
+        marks,
+        tuples,
+    )
 }
 
 // The line of an access, by its number's last digits.
@@ -126,16 +162,11 @@ fn lines(
                 return ran(core, buffer, first, at, done, Ending::Broken(why), next);
             }
             After::Access(write, asked) => {
-                ground::length_known(&buffer);
-                count_known(core);
-                let reply = card::by_verdict(
+                let reply = answer(
                     verdict,
                     core,
-                    asked.space,
-                    asked.width,
                     write,
-                    asked.address,
-                    asked.value,
+                    asked,
                     &mut buffer,
                     store,
                     marks,

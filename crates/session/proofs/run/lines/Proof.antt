@@ -13,10 +13,9 @@ use Rattle.text.specs.Text.{bad}
 use Rattle.text.specs.Digits.{lineNumber, nextNumber}
 use Rattle.text.specs.Output.{Output, output, put}
 use Rattle.card.specs.Verdict.{verdictOf}
-use Rattle.session.specs.Run.{accessOf, wrapped, scriptFrom, resultOf, shownAt}
+use Rattle.session.specs.Run.{wrapped, scriptFrom, resultOf, shownAt}
 use Rattle.text.proofs.Digits.{next-number, own-number}
 use Rattle.records.proofs.Fits.{access-fits}
-use Rattle.session.proofs.Verdicts.{steady}
 use Rattle.session.proofs.Runs.{lines-end, lines-none, lines-stop, lines-turn}
 use Rattle.session.proofs.run.lines.Statement.{statement}
 use Rattle.session.proofs.run.lines.Tie as tie
@@ -39,7 +38,7 @@ abbrev μ-loop : tie.MeasureT-loop
 
 -- a turn whose record is an access: where the record is known, where the turn began, and the part
 abbrev known : tie.After-put-answer Inv-loop μ-loop → tie.After-write Inv-loop μ-loop
-known c = c .before .before .before .before .before .before .before .before .before .before .before .before .before .before .before
+known c = c .before .before .before .before .before .before .before .before .before .before .before .before
 
 abbrev began : tie.After-write Inv-loop μ-loop → tie.In-loop Inv-loop μ-loop
 began c = c .before .before .before .before .before
@@ -142,19 +141,13 @@ returns-2 c =
 enum-known-write : tie.Need-enum-known-write Inv-loop μ-loop
 enum-known-write c = search needs
 
-length-known-requires : tie.Need-length-known-requires Inv-loop μ-loop
-length-known-requires c κs = search needs
-
-count-known-requires : tie.Need-count-known-requires Inv-loop μ-loop
-count-known-requires c κs = search needs
-
-by-verdict-requires : tie.Need-by-verdict-requires Inv-loop μ-loop
-by-verdict-requires c κs = search needs
+answer-requires : tie.Need-answer-requires Inv-loop μ-loop
+answer-requires c κs = c .before .before .before .before .before .before .before .before .before .before .loop .inv .5
 
 put-answer-requires : tie.Need-put-answer-requires Inv-loop μ-loop
 put-answer-requires c κs =
-    let c20 = c .before .before .before .before .before .before .before .before .before .before .before .before .before .before .before .before .before .before .before .before in
-    c20 .loop .inv .7
+    let c17 = c .before .before .before .before .before .before .before .before .before .before .before .before .before .before .before .before .before in
+    c17 .loop .inv .7
 
 next-requires : tie.Need-next-requires Inv-loop μ-loop
 next-requires c κs = search needs
@@ -184,23 +177,20 @@ loop-less c = omega (arith, turn (c .before .before .before .before) .0)
 loop-again : tie.Need-loop-again Inv-loop μ-loop
 loop-again c =
     let c4 = c .before .before .before .before in
-    let c11 = c4 .before .before .before .before .before .before .before in
-    let c15 = c11 .before .before .before .before in
     let q = known c4 in
     let l = began q .before .loop in
     let a = began q .before .before .before .before .before .before .before .before .before .before .args in
-    let r = c11 .by-verdict in
-    let k = r .kept .1 .1 .1 .1 .1 .1 .1 .1 in
+    let r = c4 .before .before .before .before .before .before .before .answer in
+    let k = r .kept .1 .1 .1 .1 .1 in
     let m = machine (l .core) (l .buffer) (l .store) (l .marks) in
-    let t = steady (a .verdict) m (accessOf _ _ (a .tuples .now)) _ (l .inv .5) (c15 .count-known .ensures) (c15 .before .length-known .ensures) (r .ensures) in
     let g = c .before .next .ensures ∙ ap nextNumber (l .inv .7) ∙ sym (next-number (l .counter .value) (l .inv .6)) in
-    let f = lines-turn (output (l .out) (l .text)) _ (a .first) (l .counter .value) (l .done) (l .left) (l .at) (a .part .now) (a .tuples .now) m _ _ _ (turn c4 .0) (asked q .0) (asked q .1) (t .0) (c4 .put-answer .ensures) in (
+    let f = lines-turn (output (l .out) (l .text)) _ (a .first) (l .counter .value) (l .done) (l .left) (l .at) (a .part .now) (a .tuples .now) m _ _ _ (turn c4 .0) (asked q .0) (asked q .1) (r .ensures .0) (c4 .put-answer .ensures) in (
       omega (arith, l .inv .0, turn c4 .0),
       l .inv .1,
       k .0 ∙ l .inv .2,
       k .1 .0 ∙ l .inv .3,
       c4 .put-answer .kept .0 ∙ l .inv .4,
-      t .1,
+      r .ensures .1,
       rw g (omega arith),
       own-number _ _ g,
       rw (g, c .size-of .ensures .0) (f ∙ l .inv .8),
@@ -249,9 +239,7 @@ lines-spec =
     same-length-6
     returns-2
     enum-known-write
-    length-known-requires
-    count-known-requires
-    by-verdict-requires
+    answer-requires
     put-answer-requires
     next-requires
     size-of-requires
