@@ -90,7 +90,7 @@ short n h =
     (λ e. let a = eqb-false (48 + n / 1000 % 10) 48 e in sym (all-four 16 n (omega (arith, a)) h))
 
 -- a number's own digits print it
-pub numeral-of : (n : ℕ) → numeral (lineNumber n) ≡ decimal n
+numeral-of : (n : ℕ) → numeral (lineNumber n) ≡ decimal n
 unfolding numeral
 numeral-of n = pick-elim (λ (t : List ℕ). t ≡ decimal n) (ltb n 10000) _ _ (λ e. short n (ltb-true _ _ e)) (λ e. refl)
 
