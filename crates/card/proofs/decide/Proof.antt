@@ -1,8 +1,22 @@
-use mathlib.Core.Path.{sym, _∙_}
-use Rattle.card.specs.Access.{decided}
+use mathlib.Core.Bool.{true, false}
+use mathlib.Core.Path.{_≡_, sym, _∙_}
+use Rattle.maps.specs.Spaces.{answersAt}
+use Rattle.registers.specs.State.{indexIn}
+use Rattle.card.specs.Access.{heldAway, decided}
 use borrow.Author.Needs.{needs}
 use Rattle.card.proofs.decide.Statement.{statement}
 use Rattle.card.proofs.decide.Tie as tie
+
+-- past row 8: what was given, and that the access is not held away
+abbrev start : tie.Else1 → tie.Start
+start c = c .before .before .before .before
+
+not-away : (c : tie.Else1) → let a = start c .args in heldAway (a .state .option) (a .space) (a .address) ≡ false
+not-away c = sym (c .before .held-away .ensures) ∙ c .if1 .left
+
+-- past row 7 too
+answering : (c : tie.Then2) → let a = start (c .before .before .before) .args in answersAt (a .space) (a .state .made .mode) (indexIn (a .state .option)) ≡ true
+answering c = simp (c .before .before .index-in .ensures) at (sym (c .before .answers-at .ensures) ∙ c .if2 .taken)
 
 held-away-requires : tie.Need-held-away-requires
 held-away-requires c κs = search needs
@@ -32,25 +46,22 @@ enum-known-refusal c = search needs
 returns-2 : tie.Need-returns-2
 unfolding decided
 returns-2 c =
-    let w = sym (c .before .before .before .before .before .before .before .before .before .held-away .ensures) ∙ c .before .before .before .before .before .before .before .before .if1 .left in
-    let v = simp (c .before .before .before .before .before .before .before .index-in .ensures) at (sym (c .before .before .before .before .before .before .answers-at .ensures) ∙ c .before .before .before .before .before .if2 .taken) in
-    let t = simp (c .before .before .before .before .before .before .before .index-in .ensures) at (sym (c .before .before .before .before .stands-at .ensures) ∙ c .before .before .target .given .1) in
-    simp (w, v, t, c .targeted .ensures)
+    let c5 = c .before .before .before .before .before in
+    let t = simp (c5 .before .before .index-in .ensures) at (sym (c .before .before .before .before .stands-at .ensures) ∙ c .before .before .target .given .1) in
+    simp (not-away (c5 .before .before .before), answering c5, t, c .targeted .ensures)
 
 returns-3 : tie.Need-returns-3
 unfolding decided
 returns-3 c =
-    let w = sym (c .before .before .before .before .before .before .before .before .held-away .ensures) ∙ c .before .before .before .before .before .before .before .if1 .left in
-    let v = simp (c .before .before .before .before .before .before .index-in .ensures) at (sym (c .before .before .before .before .before .answers-at .ensures) ∙ c .before .before .before .before .if2 .taken) in
-    let t = simp (c .before .before .before .before .before .before .index-in .ensures) at (sym (c .before .before .before .stands-at .ensures) ∙ c .before .refusal .given .1) in
-    simp (w, v, t)
+    let c4 = c .before .before .before .before in
+    let t = simp (c4 .before .before .index-in .ensures) at (sym (c .before .before .before .stands-at .ensures) ∙ c .before .refusal .given .1) in
+    simp (not-away (c4 .before .before .before), answering c4, t)
 
 returns-4 : tie.Need-returns-4
 unfolding decided
 returns-4 c =
-    let w = sym (c .before .before .before .before .held-away .ensures) ∙ c .before .before .before .if1 .left in
     let v = simp (c .before .before .index-in .ensures) at (sym (c .before .answers-at .ensures) ∙ c .if2 .left) in
-    simp (w, v)
+    simp (not-away (c .before .before .before), v)
 
 pub decide-spec : {M : Type 1} → statement M
 decide-spec =

@@ -1,10 +1,30 @@
-use mathlib.Core.Path.{sym, _∙_}
+use Prim.Native.Nat.{_*_}
+use mathlib.Core.Bool.{true}
+use mathlib.Core.Path.{_≡_, sym, _∙_}
+use lib.Dec.{eqb}
+use lib.ListN.{length}
+use denote.Ref.{now}
 use borrow.Author.Tests.{eq-eqb, ne-eqb}
 use Rattle.ground.proofs.Picks.{un-not}
+use Rattle.registers.specs.State.{totalIn}
+use Rattle.registers.specs.WellMade.{wellMade}
 use Rattle.card.specs.Verdict.{verdictOf}
 use borrow.Author.Needs.{needs}
 use Rattle.card.proofs.verdict_of.Statement.{statement}
 use Rattle.card.proofs.verdict_of.Tie as tie
+
+-- the tests that were passed before a place
+abbrev start : tie.Else1 → tie.Start
+start c = c .before .before .before .before .before .before .before
+
+well-passed : (c : tie.Else1) → let core = start c .args .core in wellMade (core .phase) (core .state) ≡ true
+well-passed c = sym (c .before .well-made .ensures) ∙ un-not _ _ (c .if1 .left)
+
+store-passed : (c : tie.Else2) → let a = start (c .before) .args in eqb (length (now (a .store))) (512 * totalIn (a .core .state)) ≡ true
+store-passed c = eq-eqb _ _ (rw (c .before .before .before .total .ensures) at (c .if2 .left))
+
+marks-passed : (c : tie.Else3) → let a = start (c .before .before) .args in eqb (length (now (a .marks))) (totalIn (a .core .state)) ≡ true
+marks-passed c = eq-eqb _ _ (rw (c .before .before .before .before .total .ensures) at (c .if3 .left))
 
 total-requires : tie.Need-total-requires
 total-requires c κs = search needs
@@ -19,7 +39,7 @@ returns : tie.Need-returns
 unfolding verdictOf
 returns c =
     let w = sym (c .before .well-made .ensures) ∙ un-not _ _ (c .if1 .taken) in
-    simp (w)
+    simp w
 
 mul-if2 : tie.Need-mul-if2
 mul-if2 c = search needs
@@ -27,35 +47,22 @@ mul-if2 c = search needs
 returns-2 : tie.Need-returns-2
 unfolding verdictOf
 returns-2 c =
-    let w = sym (c .before .before .well-made .ensures) ∙ un-not _ _ (c .before .if1 .left) in
-    let h2 = rw (c .before .before .before .total .ensures) at (c .if2 .taken) in
-    simp (w, ne-eqb _ _ h2)
+    let s = rw (c .before .before .before .total .ensures) at (c .if2 .taken) in
+    simp (well-passed (c .before), ne-eqb _ _ s)
 
 returns-3 : tie.Need-returns-3
 unfolding verdictOf
 returns-3 c =
-    let w = sym (c .before .before .before .well-made .ensures) ∙ un-not _ _ (c .before .before .if1 .left) in
-    let h2 = rw (c .before .before .before .before .total .ensures) at (c .before .if2 .left) in
-    let h3 = rw (c .before .before .before .before .total .ensures) at (c .if3 .taken) in
-    simp (w, eq-eqb _ _ h2, ne-eqb _ _ h3)
+    let k = rw (c .before .before .before .before .total .ensures) at (c .if3 .taken) in
+    simp (well-passed (c .before .before), store-passed (c .before), ne-eqb _ _ k)
 
 returns-4 : tie.Need-returns-4
 unfolding verdictOf
-returns-4 c =
-    let w = sym (c .before .before .before .before .well-made .ensures) ∙ un-not _ _ (c .before .before .before .if1 .left) in
-    let h2 = rw (c .before .before .before .before .before .total .ensures) at (c .before .before .if2 .left) in
-    let h3 = rw (c .before .before .before .before .before .total .ensures) at (c .before .if3 .left) in
-    let h4 = c .if4 .taken in
-    simp (w, eq-eqb _ _ h2, eq-eqb _ _ h3, ne-eqb _ _ h4)
+returns-4 c = simp (well-passed (c .before .before .before), store-passed (c .before .before), marks-passed (c .before), ne-eqb _ _ (c .if4 .taken))
 
 returns-5 : tie.Need-returns-5
 unfolding verdictOf
-returns-5 c =
-    let w = sym (c .before .before .before .before .well-made .ensures) ∙ un-not _ _ (c .before .before .before .if1 .left) in
-    let h2 = rw (c .before .before .before .before .before .total .ensures) at (c .before .before .if2 .left) in
-    let h3 = rw (c .before .before .before .before .before .total .ensures) at (c .before .if3 .left) in
-    let h4 = c .if4 .left in
-    simp (w, eq-eqb _ _ h2, eq-eqb _ _ h3, eq-eqb _ _ h4)
+returns-5 c = simp (well-passed (c .before .before .before), store-passed (c .before .before), marks-passed (c .before), eq-eqb _ _ (c .if4 .left))
 
 pub verdict-of-spec : {M : Type 1} → statement M
 verdict-of-spec =

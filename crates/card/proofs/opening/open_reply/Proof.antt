@@ -1,10 +1,35 @@
-use mathlib.Core.Path.{sym, _∙_}
+use Prim.Native.Nat.{_*_}
+use mathlib.Core.Bool.{true}
+use mathlib.Core.Path.{_≡_, sym, _∙_}
+use lib.Dec.{eqb, leb}
+use lib.ListN.{length}
+use denote.Ref.{now}
 use borrow.Author.Tests.{eq-eqb, ne-eqb, le-leb, lt-leb}
 use Rattle.ground.proofs.Picks.{un-not}
+use Rattle.geometry.specs.Limits.{fits, totalOf}
 use Rattle.card.specs.Opening.{opened}
 use borrow.Author.Needs.{needs}
 use Rattle.card.proofs.opening.open_reply.Statement.{statement}
 use Rattle.card.proofs.opening.open_reply.Tie as tie
+
+-- the tests that were passed before a place
+abbrev start : tie.Else1 → tie.Start
+start c = c .before .before .before .before .before
+
+limits-passed : (c : tie.Else1) → fits (start c .args .geometry) ≡ true
+limits-passed c = sym (c .before .fits2 .ensures) ∙ un-not _ _ (c .if1 .left)
+
+mode-passed : (c : tie.Else2) → leb (start (c .before) .args .mode) 1 ≡ true
+mode-passed c = le-leb _ _ (c .if2 .left)
+
+store-passed : (c : tie.Else3) → let a = start (c .before .before .before) .args in eqb (length (now (a .store))) (512 * totalOf (a .geometry)) ≡ true
+store-passed c = eq-eqb _ _ (rw (c .before .total .ensures) at (c .if3 .left))
+
+marks-passed : (c : tie.Else4) → let a = start (c .before .before .before .before) .args in eqb (length (now (a .marks))) (totalOf (a .geometry)) ≡ true
+marks-passed c = eq-eqb _ _ (rw (c .before .before .total .ensures) at (c .if4 .left))
+
+tuples-passed : (c : tie.Else5) → eqb (length (now (start (c .before .before .before .before .before) .args .tuples))) 256 ≡ true
+tuples-passed c = eq-eqb _ _ (c .if5 .left)
 
 fits-requires : tie.Need-fits-requires
 fits-requires c κs = search needs
@@ -23,9 +48,7 @@ open-refused-requires-2 c κs = search needs
 
 returns-2 : tie.Need-returns-2
 unfolding opened
-returns-2 c =
-    let w = sym (c .before .before .before .fits2 .ensures) ∙ un-not _ _ (c .before .before .if1 .left) in
-    simp (w, lt-leb _ _ (c .before .if2 .taken), c .open-refused2 .ensures)
+returns-2 c = simp (limits-passed (c .before .before), lt-leb _ _ (c .before .if2 .taken), c .open-refused2 .ensures)
 
 total-requires : tie.Need-total-requires
 total-requires c κs = search needs
@@ -42,9 +65,9 @@ open-refused-requires-3 c κs = search needs
 returns-3 : tie.Need-returns-3
 unfolding opened
 returns-3 c =
-    let w = sym (c .before .before .before .before .before .fits2 .ensures) ∙ un-not _ _ (c .before .before .before .before .if1 .left) in
-    let n = simp (c .before .before .total .ensures) at (c .before .if3 .taken) in
-    simp (w, le-leb _ _ (c .before .before .before .if2 .left), ne-eqb _ _ n, c .open-refused3 .ensures)
+    let c3 = c .before .before .before in
+    let s = rw (c .before .before .total .ensures) at (c .before .if3 .taken) in
+    simp (limits-passed (c3 .before), mode-passed c3, ne-eqb _ _ s, c .open-refused3 .ensures)
 
 open-refused-requires-4 : tie.Need-open-refused-requires-4
 open-refused-requires-4 c κs = search needs
@@ -52,10 +75,10 @@ open-refused-requires-4 c κs = search needs
 returns-4 : tie.Need-returns-4
 unfolding opened
 returns-4 c =
-    let w = sym (c .before .before .before .before .before .before .fits2 .ensures) ∙ un-not _ _ (c .before .before .before .before .before .if1 .left) in
-    let s = simp (c .before .before .before .total .ensures) at (c .before .before .if3 .left) in
-    let n = simp (c .before .before .before .total .ensures) at (c .before .if4 .taken) in
-    simp (w, le-leb _ _ (c .before .before .before .before .if2 .left), eq-eqb _ _ s, ne-eqb _ _ n, c .open-refused4 .ensures)
+    let c2 = c .before .before in
+    let c4 = c2 .before .before in
+    let k = rw (c2 .before .total .ensures) at (c .before .if4 .taken) in
+    simp (limits-passed (c4 .before), mode-passed c4, store-passed c2, ne-eqb _ _ k, c .open-refused4 .ensures)
 
 open-refused-requires-5 : tie.Need-open-refused-requires-5
 open-refused-requires-5 c κs = search needs
@@ -63,14 +86,9 @@ open-refused-requires-5 c κs = search needs
 returns-5 : tie.Need-returns-5
 unfolding opened
 returns-5 c =
-    let c4 = c .before .before .before .before in
-    let c5 = c4 .before in
-    let c6 = c5 .before in
-    let c7 = c6 .before in
-    let w = sym (c7 .fits2 .ensures) ∙ un-not _ _ (c6 .if1 .left) in
-    let s = simp (c4 .total .ensures) at (c .before .before .before .if3 .left) in
-    let n = simp (c4 .total .ensures) at (c .before .before .if4 .left) in
-    simp (w, le-leb _ _ (c5 .if2 .left), eq-eqb _ _ s, eq-eqb _ _ n, ne-eqb _ _ (c .before .if5 .taken), c .open-refused5 .ensures)
+    let c2 = c .before .before in
+    let c5 = c2 .before .before .before in
+    simp (limits-passed (c5 .before), mode-passed c5, store-passed (c2 .before), marks-passed c2, ne-eqb _ _ (c .before .if5 .taken), c .open-refused5 .ensures)
 
 marks-fit-requires : tie.Need-marks-fit-requires
 marks-fit-requires c κs = search needs
@@ -81,17 +99,11 @@ open-refused-requires-6 c κs = search needs
 returns-6 : tie.Need-returns-6
 unfolding opened
 returns-6 c =
-    let c4 = c .before .before .before .before in
-    let c5 = c4 .before in
-    let c6 = c5 .before in
-    let c7 = c6 .before in
-    let c8 = c7 .before in
-    let c9 = c8 .before in
-    let w = sym (c9 .fits2 .ensures) ∙ un-not _ _ (c8 .if1 .left) in
-    let s = simp (c6 .total .ensures) at (c5 .if3 .left) in
-    let n = simp (c6 .total .ensures) at (c4 .if4 .left) in
+    let c3 = c .before .before .before in
+    let c4 = c3 .before in
+    let c7 = c4 .before .before .before in
     let m = sym (c .before .before .marks-fit .ensures) ∙ un-not _ _ (c .before .if6 .taken) in
-    simp (w, le-leb _ _ (c7 .if2 .left), eq-eqb _ _ s, eq-eqb _ _ n, eq-eqb _ _ (c .before .before .before .if5 .left), m, c .open-refused6 .ensures)
+    simp (limits-passed (c7 .before), mode-passed c7, store-passed (c4 .before), marks-passed c4, tuples-passed c3, m, c .open-refused6 .ensures)
 
 mode-of-requires : tie.Need-mode-of-requires
 mode-of-requires c κs = search needs
@@ -104,16 +116,9 @@ unfolding opened
 returns-7 c =
     let c4 = c .before .before .before .before in
     let c5 = c4 .before in
-    let c6 = c5 .before in
-    let c7 = c6 .before in
-    let c8 = c7 .before in
-    let c9 = c8 .before in
-    let c10 = c9 .before in
-    let w = sym (c10 .fits2 .ensures) ∙ un-not _ _ (c9 .if1 .left) in
-    let s = simp (c7 .total .ensures) at (c6 .if3 .left) in
-    let n = simp (c7 .total .ensures) at (c5 .if4 .left) in
+    let c8 = c5 .before .before .before in
     let m = sym (c .before .before .before .marks-fit .ensures) ∙ un-not _ _ (c .before .before .if6 .left) in
-    simp (w, le-leb _ _ (c8 .if2 .left), eq-eqb _ _ s, eq-eqb _ _ n, eq-eqb _ _ (c4 .if5 .left), m, c .powered .ensures, c .before .mode-of .ensures)
+    simp (limits-passed (c8 .before), mode-passed c8, store-passed (c5 .before), marks-passed c5, tuples-passed c4, m, c .powered .ensures, c .before .mode-of .ensures)
 
 pub open-reply-spec : {M : Type 1} → statement M
 open-reply-spec =
