@@ -26,9 +26,9 @@ use Rattle.account.proofs.Verifying.{verify-is}
 use Rattle.account.proofs.Erasing.{erase-is, erasedPlain}
 use Rattle.account.proofs.Rest.{restAt, rest, Ground, Between}
 use Rattle.account.proofs.Reading.{read-rest}
-use Rattle.account.proofs.ReadHeld.{read-held}
+use Rattle.account.proofs.ReadBetween.{read-between}
 use Rattle.account.proofs.Writing.{ask-rest}
-use Rattle.account.proofs.WriteHeld.{ask-held}
+use Rattle.account.proofs.WriteBetween.{ask-between}
 
 -- "Count 0 means 256": 1..256 sectors, agreeing with Count modulo 256
 pub asked-elim : (P : ℕ → Type 0) (count : ℕ) → count < 256 → ((n : ℕ) → count ≡ suc n % 256 → P (suc n)) → P (asked count)
@@ -56,12 +56,12 @@ module _ (n : ℕ) (m : Machine) (b : Bytes (m .state .registers .address)) (c :
   read-begins Located.BadCylinder d g e = rw e
   read-begins Located.BadLba d g e = rw e
 
-  pub read-begins-held : (l : Located) → Ground In m → locatedIn (m .state) ≡ l → Between In (readSector (suc n) m) None
+  pub read-begins-between : (l : Located) → Ground In m → locatedIn (m .state) ≡ l → Between In (readSector (suc n) m) None
   unfolding readSector sectorTest addressTest
-  read-begins-held (Located.Good spot) g e = read-held n (courseIn (m .state)) (spot .index) m g (seated n (spot .index) (m .state) b c e) (where-first (spot .index) (m .state) (g .0) e)
-  read-begins-held Located.BadHeadOrSector g e = rw e (g, refl)
-  read-begins-held Located.BadCylinder g e = rw e (g, refl)
-  read-begins-held Located.BadLba g e = rw e (g, refl)
+  read-begins-between (Located.Good spot) g e = read-between n (courseIn (m .state)) (spot .index) m g (seated n (spot .index) (m .state) b c e) (where-first (spot .index) (m .state) (g .0) e)
+  read-begins-between Located.BadHeadOrSector g e = rw e (g, refl)
+  read-begins-between Located.BadCylinder g e = rw e (g, refl)
+  read-begins-between Located.BadLba g e = rw e (g, refl)
 
   pub write-begins : (l : Located) (d : List ℕ) → Ground Out m → locatedIn (m .state) ≡ l →
       rest (withCore (askSector (suc n) true (m .state)) m) d ≡ fromFirst l silent (λ i. writeSectors (courseOf (plainOf m)) i (suc n) (plainOf m) d) (plainOf m)
@@ -72,13 +72,13 @@ module _ (n : ℕ) (m : Machine) (b : Bytes (m .state .registers .address)) (c :
   write-begins Located.BadCylinder d g e = rw e
   write-begins Located.BadLba d g e = rw e
 
-  pub write-begins-held : (l : Located) → length (m .buffer) ≡ 512 → Ground Out m → locatedIn (m .state) ≡ l → Between Out (withCore (askSector (suc n) true (m .state)) m) None
+  pub write-begins-between : (l : Located) → length (m .buffer) ≡ 512 → Ground Out m → locatedIn (m .state) ≡ l → Between Out (withCore (askSector (suc n) true (m .state)) m) None
   unfolding askSector addressTest
-  write-begins-held (Located.Good spot) f g e =
-      ask-held n true (courseIn (m .state)) (spot .index) (m .state) (m .buffer) (m .store) (m .marks) f g (seated n (spot .index) (m .state) b c e) (where-first (spot .index) (m .state) (g .0) e)
-  write-begins-held Located.BadHeadOrSector f g e = rw e (g, refl)
-  write-begins-held Located.BadCylinder f g e = rw e (g, refl)
-  write-begins-held Located.BadLba f g e = rw e (g, refl)
+  write-begins-between (Located.Good spot) f g e =
+      ask-between n true (courseIn (m .state)) (spot .index) (m .state) (m .buffer) (m .store) (m .marks) f g (seated n (spot .index) (m .state) b c e) (where-first (spot .index) (m .state) (g .0) e)
+  write-begins-between Located.BadHeadOrSector f g e = rw e (g, refl)
+  write-begins-between Located.BadCylinder f g e = rw e (g, refl)
+  write-begins-between Located.BadLba f g e = rw e (g, refl)
 
   pub verify-begins : (l : Located) → Ground In m → locatedIn (m .state) ≡ l →
       plainIn (verifyFrom (suc n) (m .state) (m .marks) .state) (m .buffer) (m .store) (m .marks)

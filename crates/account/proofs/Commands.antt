@@ -21,7 +21,7 @@ use Rattle.transfers.specs.declared.Way.{Way}
 use Rattle.transfers.specs.declared.Way.the-variants.{In, Out}
 use Rattle.transfers.specs.Steps.{readSector, askSector}
 use Rattle.commands.specs.Runs.{verifyFrom, eraseFrom}
-use Rattle.commands.specs.Table.{countOf, geometrySet, soughtEnd}
+use Rattle.commands.specs.Table.{countOf, reshapedEnded, soughtEnd}
 use Rattle.account.specs.Plain.{sectorsOf, withCurrent, Well, NotFound, Aborted, ends, Account, silent}
 use Rattle.account.specs.Course.{courseOf}
 use Rattle.account.specs.Runs.{readSectors, writeSectors, verifySectors, eraseSectors}
@@ -34,7 +34,7 @@ use Rattle.account.proofs.Tried.{endingOf}
 use Rattle.account.proofs.Stored.{LentFor}
 use Rattle.account.proofs.Settled.{Settled}
 use Rattle.account.proofs.Rest.{ByteWise, restAt, rest, Ground, Rel, Between}
-use Rattle.account.proofs.Begins.{asked-elim, Eight, read-begins, read-begins-held, write-begins, write-begins-held, verify-begins, erase-begins}
+use Rattle.account.proofs.Begins.{asked-elim, Eight, read-begins, read-begins-between, write-begins, write-begins-between, verify-begins, erase-begins}
 
 -- what a card must be to be given a command
 abbrev pub Given : Machine → Type 0
@@ -53,8 +53,8 @@ outward m g = (g .0, g .1, tt, g .3, g .4)
 pub over : (plain : List ℕ → Account) (way : Way) (k : Core) (b t s : List ℕ) → k .phase ≡ Idle → Ground way (machine k b t s) → ((d : List ℕ) → plain d ≡ silent (plainIn (k .state) b t s)) →
     Rel way plain (machine k b t s) noNotes
 unfolding restAt
-over plain In k b t s e g a = record { account = λ d. rw e (a d); ground = g; held = rw e refl }
-over plain Out k b t s e g a = record { account = λ d. rw e (a d); ground = g; held = rw e refl }
+over plain In k b t s e g a = record { account = λ d. rw e (a d); ground = g; waits = rw e refl }
+over plain Out k b t s e g a = record { account = λ d. rw e (a d); ground = g; waits = rw e refl }
 
 pub settled-ground : (way : Way) (s : State) (k : Core) (b t x y z w : List ℕ) → Settled s k → Ground way (machine (core Idle s) b t x) → LentFor (totalOf (s .made .default)) z w → ByteWise way z →
     Ground way (machine k y z w)
@@ -74,10 +74,10 @@ read-all m d g h =
     (asked-elim (λ (n : ℕ). fromFirst (first (plainOf m)) silent (λ i. readSectors (courseOf (plainOf m)) i n (plainOf m)) (plainOf m) ≡ rest (readSector n m) d) (m .state .registers .count) (h .0)
     (λ n e. sym (read-begins n m (h .1) e (first (plainOf m)) d g (first-is m (g .0)))))
 
-pub read-all-held : (m : Machine) → Ground In m → Eight (m .state) → Between In (readSector (countOf (m .state)) m) None
-read-all-held m g h =
+pub read-all-between : (m : Machine) → Ground In m → Eight (m .state) → Between In (readSector (countOf (m .state)) m) None
+read-all-between m g h =
     rw (count-is (m .state))
-    (asked-elim (λ (n : ℕ). Between In (readSector n m) None) (m .state .registers .count) (h .0) (λ n e. read-begins-held n m (h .1) e (first (plainOf m)) g (first-is m (g .0))))
+    (asked-elim (λ (n : ℕ). Between In (readSector n m) None) (m .state .registers .count) (h .0) (λ n e. read-begins-between n m (h .1) e (first (plainOf m)) g (first-is m (g .0))))
 
 pub write-all : (m : Machine) (d : List ℕ) → Ground Out m → Eight (m .state) → writes (plainOf m) d ≡ rest (withCore (askSector (countOf (m .state)) true (m .state)) m) d
 write-all m d g h =
@@ -85,11 +85,11 @@ write-all m d g h =
     (asked-elim (λ (n : ℕ). fromFirst (first (plainOf m)) silent (λ i. writeSectors (courseOf (plainOf m)) i n (plainOf m) d) (plainOf m) ≡ rest (withCore (askSector n true (m .state)) m) d) (m .state .registers .count) (h .0)
     (λ n e. sym (write-begins n m (h .1) e (first (plainOf m)) d g (first-is m (g .0)))))
 
-pub write-all-held : (m : Machine) → length (m .buffer) ≡ 512 → Ground Out m → Eight (m .state) → Between Out (withCore (askSector (countOf (m .state)) true (m .state)) m) None
-write-all-held m f g h =
+pub write-all-between : (m : Machine) → length (m .buffer) ≡ 512 → Ground Out m → Eight (m .state) → Between Out (withCore (askSector (countOf (m .state)) true (m .state)) m) None
+write-all-between m f g h =
     rw (count-is (m .state))
     (asked-elim (λ (n : ℕ). Between Out (withCore (askSector n true (m .state)) m) None) (m .state .registers .count) (h .0)
-    (λ n e. write-begins-held n m (h .1) e (first (plainOf m)) f g (first-is m (g .0))))
+    (λ n e. write-begins-between n m (h .1) e (first (plainOf m)) f g (first-is m (g .0))))
 
 pub verify-all : (m : Machine) → Ground In m → Eight (m .state) → verifies (plainOf m) ≡ plainIn (verifyFrom (countOf (m .state)) (m .state) (m .marks) .state) (m .buffer) (m .store) (m .marks)
 verify-all m g h =
@@ -111,21 +111,21 @@ erase-all m g h =
 -- 91H
 set-by : (a v : Bool) (g : Geometry) (s : State) (b t k : List ℕ) →
     pick (a || v) (ends (Aborted 0x21) (plainIn s b t k)) (ends Well (withCurrent g (plainIn s b t k)))
-    ≡ plainIn (geometrySet (pick a Reshaped.Refused (pick v Reshaped.Refused (Reshaped.Taken g))) s .state) b t k
+    ≡ plainIn (reshapedEnded (pick a Reshaped.Refused (pick v Reshaped.Refused (Reshaped.Taken g))) s .state) b t k
 set-by true v g s b t k = refl
 set-by false true g s b t k = refl
 set-by false false g s b t k = refl
 
 pub set-is : (s : State) (b t k : List ℕ) → Shaped (s .made) (s .current) →
-    setsGeometry (s .registers .count) (s .registers .address .head % 16 + 1) (plainIn s b t k) ≡ plainIn (geometrySet (reshaped (s .registers .count) (s .registers .address .head) (totalIn s)) s .state) b t k
+    setsGeometry (s .registers .count) (s .registers .address .head % 16 + 1) (plainIn s b t k) ≡ plainIn (reshapedEnded (reshaped (s .registers .count) (s .registers .address .head) (totalIn s)) s .state) b t k
 unfolding setsGeometry reshaped
 set-is s b t k h = rw (h .1) (set-by (eqb (s .registers .count) 0) (ltb (sectorsOf (s .made .default)) ((s .registers .address .head % 16 + 1) * s .registers .count)) (shaped (s .registers .address .head % 16 + 1) (s .registers .count) (sectorsOf (s .made .default))) s b t k)
 
-pub set-idle : (r : Reshaped) (s : State) → geometrySet r s .phase ≡ Idle
+pub set-idle : (r : Reshaped) (s : State) → reshapedEnded r s .phase ≡ Idle
 set-idle (Reshaped.Taken g) s = refl
 set-idle Reshaped.Refused s = refl
 
-pub set-ground : (r : Reshaped) (s : State) (b t k : List ℕ) → currentFor (currentAfter r (s .current)) (totalOf (s .made .default)) ≡ true → Ground In (machine (core Idle s) b t k) → Ground In (machine (geometrySet r s) b t k)
+pub set-ground : (r : Reshaped) (s : State) (b t k : List ℕ) → currentFor (currentAfter r (s .current)) (totalOf (s .made .default)) ≡ true → Ground In (machine (core Idle s) b t k) → Ground In (machine (reshapedEnded r s) b t k)
 set-ground (Reshaped.Taken x) s b t k e g = ((e, g .0 .1, g .0 .2), g .1, g .2, g .3, g .4)
 set-ground Reshaped.Refused s b t k e g = g
 

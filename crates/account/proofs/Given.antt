@@ -17,7 +17,7 @@ use Rattle.transfers.specs.declared.End.{End}
 use Rattle.transfers.specs.declared.Way.the-variants.{In, Out}
 use Rattle.transfers.specs.Steps.{idleWith}
 use Rattle.commands.specs.Runs.{verifyFrom, eraseFrom}
-use Rattle.commands.specs.Table.{commandOf, started, countOf, factsOf, geometrySet, soughtEnd, obeyed}
+use Rattle.commands.specs.Table.{commandOf, started, countOf, factsOf, reshapedEnded, soughtEnd, obeyed}
 use Rattle.account.specs.Plain.{withBuffer, starts, ends, Ending, Well, silent, moving}
 use Rattle.account.specs.Rows.{Row, rowOf}
 use Rattle.account.specs.Words.{identifyData}
@@ -28,19 +28,19 @@ use Rattle.account.proofs.SameRow.{rowFor, same-row}
 use Rattle.account.proofs.Settled.{verify-settled, erase-settled}
 use Rattle.account.proofs.Identifying.{identify-is, identify-bytes}
 use Rattle.account.proofs.Rest.{restAt, Rel}
-use Rattle.account.proofs.Commands.{Given, outward, over, settled-ground, read-all, read-all-held, write-all, write-all-held, verify-all, erase-all, set-is, set-idle, set-ground, seek-is}
+use Rattle.account.proofs.Commands.{Given, outward, over, settled-ground, read-all, read-all-between, write-all, write-all-between, verify-all, erase-all, set-is, set-idle, set-ground, seek-is}
 use Rattle.account.proofs.StartsEnds.{started-starts, starts-ends, diagnosed-is, sensed-is, buffer-read, buffer-written}
 
 pub begins : (k : Command) (m : Machine) → Given m → Rel (wayOf (rowFor k)) (account (rowFor k) (plainOf m)) (obeyed k (started (m .state)) m) noNotes
 unfolding account restAt
 begins Read m h =
     let x = idleWith (started (m .state)) m in
-    let z = read-all-held x (h .0) (h .1) in
-    record { account = λ d. read-all x d (h .0) (h .1); ground = z .0; held = z .1 }
+    let z = read-all-between x (h .0) (h .1) in
+    record { account = λ d. read-all x d (h .0) (h .1); ground = z .0; waits = z .1 }
 begins Write m h =
     let x = idleWith (started (m .state)) m in
-    let z = write-all-held x (h .2) (outward m (h .0)) (h .1) in
-    record { account = λ d. write-all x d (outward m (h .0)) (h .1); ground = z .0; held = z .1 }
+    let z = write-all-between x (h .2) (outward m (h .0)) (h .1) in
+    record { account = λ d. write-all x d (outward m (h .0)) (h .1); ground = z .0; waits = z .1 }
 begins Verify m h =
     let x = idleWith (started (m .state)) m in
     let k = verifyFrom (countOf (x .state)) (x .state) (m .marks) in
@@ -61,23 +61,23 @@ begins Identify m h =
           ap (λ (l : List ℕ). moving l (silent (ends Well (withBuffer l (starts (plainOf m)))))) (sym e)
           ∙ buffer-read (m .state) (identifyBytes (factsOf (started (m .state)))) (m .store) (m .marks) d;
       ground = h .0;
-      held = (omega arith, identify-length (factsOf (started (m .state))), rw e (identify-bytes (plainOf m) (h .4) (h .5) (h .6) (h .7) (h .8) (h .9)), tt, tt);
+      waits = (omega arith, identify-length (factsOf (started (m .state))), rw e (identify-bytes (plainOf m) (h .4) (h .5) (h .6) (h .7) (h .8) (h .9)), tt, tt);
     }
-begins ReadBuffer m h = record { account = buffer-read (m .state) (m .buffer) (m .store) (m .marks); ground = h .0; held = (omega arith, h .2, h .3, tt, tt) }
-begins WriteBuffer m h = record { account = buffer-written (m .state) (m .buffer) (m .store) (m .marks); ground = outward m (h .0); held = (omega arith, h .2, tt, tt, tt) }
+begins ReadBuffer m h = record { account = buffer-read (m .state) (m .buffer) (m .store) (m .marks); ground = h .0; waits = (omega arith, h .2, h .3, tt, tt) }
+begins WriteBuffer m h = record { account = buffer-written (m .state) (m .buffer) (m .store) (m .marks); ground = outward m (h .0); waits = (omega arith, h .2, tt, tt, tt) }
 begins SetGeometry m h =
     let s = started (m .state) in
     let r = reshaped (s .registers .count) (s .registers .address .head) (totalIn s) in
-    over _ In (geometrySet r s) (m .buffer) (m .store) (m .marks) (set-idle r s)
+    over _ In (reshapedEnded r s) (m .buffer) (m .store) (m .marks) (set-idle r s)
     (set-ground r s (m .buffer) (m .store) (m .marks) (after-current (s .registers .count) (s .registers .address .head) (totalIn s) r (s .current) (h .1 .0) refl (h .0 .0 .0)) (h .0))
     (λ d. ap silent (set-is s (m .buffer) (m .store) (m .marks) (h .0 .0)))
 begins Diagnose m h =
     record {
       account = λ d. ap silent (ap diagnoses (sym (started-starts (m .state) (m .buffer) (m .store) (m .marks))) ∙ sym (diagnosed-is (started (m .state)) (m .buffer) (m .store) (m .marks)));
       ground = h .0;
-      held = refl;
+      waits = refl;
     }
-begins Recalibrate m h = record { account = λ d. ap silent (sym (starts-ends End.Good (m .state) (m .buffer) (m .store) (m .marks))); ground = h .0; held = refl }
+begins Recalibrate m h = record { account = λ d. ap silent (sym (starts-ends End.Good (m .state) (m .buffer) (m .store) (m .marks))); ground = h .0; waits = refl }
 begins Seek m h =
     let s = started (m .state) in
     record {
@@ -86,10 +86,10 @@ begins Seek m h =
           (ap (λ (e : Ending). ends e (starts (plainOf m))) (seek-is (m .state) (m .buffer) (m .store) (m .marks) (h .0 .0))
           ∙ sym (starts-ends (soughtEnd (seek (s .registers .address) (s .current) (totalIn s))) (m .state) (m .buffer) (m .store) (m .marks)));
       ground = h .0;
-      held = refl;
+      waits = refl;
     }
-begins Sense m h = record { account = λ d. ap silent (sym (sensed-is (m .state) (m .buffer) (m .store) (m .marks))); ground = h .0; held = refl }
-begins Other m h = record { account = λ d. ap silent (sym (starts-ends End.NoSuchCommand (m .state) (m .buffer) (m .store) (m .marks))); ground = h .0; held = refl }
+begins Sense m h = record { account = λ d. ap silent (sym (sensed-is (m .state) (m .buffer) (m .store) (m .marks))); ground = h .0; waits = refl }
+begins Other m h = record { account = λ d. ap silent (sym (starts-ends End.NoSuchCommand (m .state) (m .buffer) (m .store) (m .marks))); ground = h .0; waits = refl }
 
 -- by the account's own row of the code
 pub begins-row : (v : ℕ) (m : Machine) → Given m → Rel (wayOf (rowOf v)) (account (rowOf v) (plainOf m)) (obeyed (commandOf v) (started (m .state)) m) noNotes

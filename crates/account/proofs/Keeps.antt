@@ -23,7 +23,7 @@ use Rattle.kept.proofs.RegisterElim.{read-elim, written-elim}
 use Rattle.account.specs.Plain.{Account, moving}
 use Rattle.account.specs.Host.{plainOf, calm, calmRegister, asks}
 use Rattle.account.specs.Notes.{Waiting, None, Notes, note, noteRead, noteWritten}
-use Rattle.account.proofs.Rest.{restAt, outcome, Held, Rel}
+use Rattle.account.proofs.Rest.{restAt, outcome, Waits, Rel}
 use Rattle.account.proofs.ReadKeeps.{read-keeps}
 use Rattle.account.proofs.WriteKeeps.{write-keeps}
 
@@ -34,19 +34,19 @@ module _ (plain : List ℕ → Account) (way : Way) where
   unfolding turnOf optionTurned bufferTurned
   option-keeps true b v m q e f h z = absurd (true≢false e)
   option-keeps false true v m q e f h z = absurd (true≢false f)
-  option-keeps false false v m q e f h z = let g = z .ground in record { account = z .account; ground = (g .0, g .1, g .2, g .3, h); held = z .held }
+  option-keeps false false v m q e f h z = let g = z .ground in record { account = z .account; ground = (g .0, g .1, g .2, g .3, h); waits = z .waits }
 
   -- Device Control, with no reset before or after
   control-keeps : (a b k : Bool) (m : Machine) (q : Notes) → a ≡ false → b ≡ false → Rel way plain m q → Rel way plain (withCore (controlTurned (turnOf a b) k (m .phase) (m .state)) m) q
   unfolding turnOf controlTurned
   control-keeps true b k m q e f z = absurd (true≢false e)
   control-keeps false true k m q e f z = absurd (true≢false f)
-  control-keeps false false k m q e f z = record { account = z .account; ground = z .ground; held = z .held }
+  control-keeps false false k m q e f z = record { account = z .account; ground = z .ground; waits = z .waits }
 
   -- a register is read
   read-register : (r : Register) (m : Machine) (q : Notes) → Rel way plain m q → Rel way plain (machine (core (m .phase) (afterRead r (m .state))) (m .buffer) (m .store) (m .marks)) q
   read-register r m q z =
-      read-elim (λ (s : State). Rel way plain (machine (core (m .phase) s) (m .buffer) (m .store) (m .marks)) q) r (m .state) z (record { account = z .account; ground = z .ground; held = z .held })
+      read-elim (λ (s : State). Rel way plain (machine (core (m .phase) s) (m .buffer) (m .store) (m .marks)) q) r (m .state) z (record { account = z .account; ground = z .ground; waits = z .waits })
 
   -- "While DRQ is set, writes to 1..6 and D have no effect"
   write-register : (r : Register) (v : ℕ) (m : Machine) (q : Notes) → calmRegister r v ≡ true → asks m ≡ true → Rel way plain m q → Rel way plain (registerWritten r v m) q
@@ -62,26 +62,26 @@ module _ (plain : List ℕ → Account) (way : Way) where
 
 module _ (plain : List ℕ → Account) where
   -- data, the command's way and the other
-  read-in : (f : Phase) (port : Port) (m : Machine) (q : Notes) → runs f ≡ true → Held In f (plainOf m) (q .waiting) →
+  read-in : (f : Phase) (port : Port) (m : Machine) (q : Notes) → runs f ≡ true → Waits In f (plainOf m) (q .waiting) →
       ((d : List ℕ) → plain (q .done ++ d) ≡ moving (q .done) (restAt f (plainOf m) d)) → Rel In plain m q →
       Rel In plain (phaseRead f port m .next) (noteRead (phaseRead f port m .outcome) port q)
   read-in Idle port m q e h a z = absurd (false≢true e)
   read-in (DataIn t) port m q e h a z = read-keeps plain t port m q (z .ground) h a z
   read-in (DataOut t) port m q e h a z = absurd h
 
-  write-out : (f : Phase) (port : Port) (v : ℕ) (m : Machine) (q : Notes) → runs f ≡ true → Held Out f (plainOf m) (q .waiting) →
+  write-out : (f : Phase) (port : Port) (v : ℕ) (m : Machine) (q : Notes) → runs f ≡ true → Waits Out f (plainOf m) (q .waiting) →
       ((d : List ℕ) → plain (q .done ++ d) ≡ moving (q .done) (restAt f (plainOf m) d)) → Rel Out plain m q →
       Rel Out plain (phaseWritten f port v m .next) (noteWritten (phaseWritten f port v m .outcome) port v q)
   write-out Idle port v m q e h a z = absurd (false≢true e)
   write-out (DataIn t) port v m q e h a z = absurd h
   write-out (DataOut t) port v m q e h a z = write-keeps plain t port v m q (z .ground) h a z
 
-  read-out : (f : Phase) (port : Port) (m : Machine) (q : Notes) → Held Out f (plainOf m) (q .waiting) → Rel Out plain m q → Rel Out plain (phaseRead f port m .next) q
+  read-out : (f : Phase) (port : Port) (m : Machine) (q : Notes) → Waits Out f (plainOf m) (q .waiting) → Rel Out plain m q → Rel Out plain (phaseRead f port m .next) q
   read-out Idle port m q h z = z
   read-out (DataIn t) port m q h z = absurd h
   read-out (DataOut t) port m q h z = z
 
-  write-in : (f : Phase) (port : Port) (v : ℕ) (m : Machine) (q : Notes) → Held In f (plainOf m) (q .waiting) → Rel In plain m q → Rel In plain (phaseWritten f port v m .next) q
+  write-in : (f : Phase) (port : Port) (v : ℕ) (m : Machine) (q : Notes) → Waits In f (plainOf m) (q .waiting) → Rel In plain m q → Rel In plain (phaseWritten f port v m .next) q
   write-in Idle port v m q h z = z
   write-in (DataIn t) port v m q h z = z
   write-in (DataOut t) port v m q h z = absurd h
@@ -103,10 +103,10 @@ module _ (plain : List ℕ → Account) where
   keeps way (WriteOption v) m q c e z = write-option plain way v m q c z
   keeps way (ReadRegister r) m q c e z = read-register plain way r m q z
   keeps way (WriteRegister r v) m q c e z = write-register plain way r v m q c e z
-  keeps In (ReadData port) m q c e z = rw (free-read port m (z .ground .3)) (read-in (m .phase) port m q e (z .held) (z .account) z)
-  keeps In (WriteData port v) m q c e z = rw (free-written port v m (z .ground .3)) (write-in (m .phase) port v m q (z .held) z)
-  keeps Out (ReadData port) m q c e z = rw (free-read port m (z .ground .3)) (read-out (m .phase) port m q (z .held) z)
-  keeps Out (WriteData port v) m q c e z = rw (free-written port v m (z .ground .3)) (write-out (m .phase) port v m q e (z .held) (z .account) z)
+  keeps In (ReadData port) m q c e z = rw (free-read port m (z .ground .3)) (read-in (m .phase) port m q e (z .waits) (z .account) z)
+  keeps In (WriteData port v) m q c e z = rw (free-written port v m (z .ground .3)) (write-in (m .phase) port v m q (z .waits) z)
+  keeps Out (ReadData port) m q c e z = rw (free-read port m (z .ground .3)) (read-out (m .phase) port m q (z .waits) z)
+  keeps Out (WriteData port v) m q c e z = rw (free-written port v m (z .ground .3)) (write-out (m .phase) port v m q e (z .waits) (z .account) z)
 
   -- the end
   pub closes : (f : Phase) (m : Machine) (l : List ℕ) → runs f ≡ false → ((d : List ℕ) → plain (l ++ d) ≡ moving l (restAt f (plainOf m) d)) → (d : List ℕ) → plain (l ++ d) ≡ outcome (plainOf m) l
@@ -116,7 +116,7 @@ module _ (plain : List ℕ → Account) where
   closes (DataOut t) m l e a d = absurd (true≢false e)
 
 -- and nothing waits
-pub none-waits : (way : Way) (f : Phase) (m : Machine) (q : Waiting) → runs f ≡ false → Held way f (plainOf m) q → q ≡ None
+pub none-waits : (way : Way) (f : Phase) (m : Machine) (q : Waiting) → runs f ≡ false → Waits way f (plainOf m) q → q ≡ None
 none-waits In Idle m q e h = h
 none-waits In (DataIn t) m q e h = absurd (true≢false e)
 none-waits In (DataOut t) m q e h = absurd h

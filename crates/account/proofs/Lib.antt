@@ -7,11 +7,11 @@ pub mod Verifying
 pub mod Erasing
 pub mod Rest
 pub mod Reading
-pub mod ReadHeld
+pub mod ReadBetween
 pub mod ReadKeeps
 pub mod Writing
 pub mod WordWritten
-pub mod WriteHeld
+pub mod WriteBetween
 pub mod WriteKeeps
 pub mod Keeps
 pub mod Settled

@@ -36,7 +36,7 @@ use Rattle.account.specs.Host.{plainOf, calm, asks, Moves}
 use Rattle.account.specs.Notes.{Waiting, None, Notes, noNotes, note, wayOf}
 use Rattle.account.specs.Claim.{Typed}
 use Rattle.account.specs.Live.{wordOf, WordsOnly}
-use Rattle.account.proofs.Rest.{Rel, Running, Held, Pending, bare}
+use Rattle.account.proofs.Rest.{Rel, Running, Waits, Pending, bare}
 use Rattle.account.proofs.Keeps.{keeps, free-read, free-written}
 use Rattle.account.proofs.Given.{begins-row}
 use Rattle.account.proofs.Accepted.{given, neither, lent-facts}
@@ -112,14 +112,14 @@ some t p q way r = let l = left-some (t .load) (bare p) (r .4) in let w = r .0 i
 
 -- a card that asks no more, or at which a claim for fewer words can be used
 by-phase : (plain : List ℕ → Account) (n : ℕ) (way : Way) → Claim plain n way → (f : Phase) (m : Machine) (q : Notes) → Sound m → Rel way plain m q → q .waiting ≡ None → m .phase ≡ f →
-    Held way f (plainOf m) (q .waiting) → size f ≤ suc n → Ends m
+    Waits way f (plainOf m) (q .waiting) → size f ≤ suc n → Ends m
 by-phase plain n way claim Idle m q s z w e r h = ([], tt, ap runs e)
 by-phase plain n In claim (DataIn t) m q s z w e r h = read-on plain n claim t m q s z w e r h
 by-phase plain n In claim (DataOut t) m q s z w e r h = absurd r
 by-phase plain n Out claim (DataIn t) m q s z w e r h = absurd r
 by-phase plain n Out claim (DataOut t) m q s z w e r h = write-on plain n claim t m q s z w e r h
 
-at-rest : (plain : List ℕ → Account) (way : Way) (f : Phase) (m : Machine) (q : Waiting) → m .phase ≡ f → Held way f (plainOf m) q → size f ≤ 0 → Ends m
+at-rest : (plain : List ℕ → Account) (way : Way) (f : Phase) (m : Machine) (q : Waiting) → m .phase ≡ f → Waits way f (plainOf m) q → size f ≤ 0 → Ends m
 at-rest plain way Idle m q e r h = ([], tt, ap runs e)
 at-rest plain In (DataIn t) m q e r h = let k = some t (plainOf m) q In r in absurd (omega arith)
 at-rest plain In (DataOut t) m q e r h = absurd r
@@ -127,8 +127,8 @@ at-rest plain Out (DataIn t) m q e r h = absurd r
 at-rest plain Out (DataOut t) m q e r h = let k = some t (plainOf m) q Out r in absurd (omega arith)
 
 ends : (n : ℕ) (plain : List ℕ → Account) (way : Way) → Claim plain n way
-ends zero plain way m q s z w h = at-rest plain way (m .phase) m (q .waiting) refl (z .held) h
-ends (suc n) plain way m q s z w h = by-phase plain n way (ends n plain way) (m .phase) m q s z w refl (z .held) h
+ends zero plain way m q s z w h = at-rest plain way (m .phase) m (q .waiting) refl (z .waits) h
+ends (suc n) plain way m q s z w h = by-phase plain n way (ends n plain way) (m .phase) m q s z w refl (z .waits) h
 
 sound-of : (m : Machine) (a : Access) (v : ℕ) → meaning m a ≡ WriteRegister StatusCommand v → Typed m → Sound m
 sound-of m a v e t =

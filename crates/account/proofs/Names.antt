@@ -2,7 +2,7 @@
 use Prim.Native.Nat.{ℕ, _+_, _*_, _-_, _/_, _%_, _≤_, _<_}
 use mathlib.Core.Bool.{Bool, true, false}
 use mathlib.Core.Path.{_≡_, sym, ap, _∙_}
-use native.Mathlib.Nat.{mul-add-div-right, mul-add-mod-self-right, div-eq-of-lt, mod-eq-of-lt, add-mul, div-le-self}
+use native.Mathlib.Nat.{mul-add-div-right, mul-add-mod-self-right, div-eq-of-lt, mod-eq-of-lt, add-mul}
 use native.Mathlib.Omega.{arith}
 use lib.Dec.{ltb}
 use borrow.Author.Tests.{ltb-true, ltb-false}
@@ -15,11 +15,11 @@ use Rattle.geometry.specs.declared.Located.{Located}
 use Rattle.geometry.specs.Limits.{currentFor}
 use Rattle.geometry.specs.Address.{byLba, headOf, cylinderOf, lbaOf, chsIndex, locateLba, locateChs, locate}
 use Rattle.geometry.specs.Next.{atLba, atChs, nextChs, nextOf}
-use Rattle.geometry.proofs.Limits.{current-facts}
+use Rattle.geometry.proofs.Limits.{Small, current-small}
 use Rattle.geometry.proofs.Inside.{Chs, chs-facts, lba-facts}
 use Rattle.geometry.proofs.Kept.{Bytes}
-use Rattle.account.specs.Course.{lbaNamed, chsNamed}
 use Rattle.geometry.proofs.Bounds.{row-more}
+use Rattle.account.specs.Course.{lbaNamed, chsNamed}
 
 quotient : (q r s : ℕ) → r < s → (q * s + r) / s ≡ q
 quotient q r s h =
@@ -37,7 +37,7 @@ spelled top c h s = record { sector = s; low = c % 256; high = c / 256; head = t
 spelled-by : (top : ℕ) (g : Geometry) (i c h s : ℕ) → i % g .sectors ≡ s - 1 → i / g .sectors % g .heads ≡ h → i / g .sectors / g .heads ≡ c → 1 ≤ s → chsNamed top g i ≡ spelled top c h s
 spelled-by top g i c h s x y z o =
     let e : s - 1 + 1 ≡ s = omega arith in
-    rw (x, y, z) (ap (λ (n : ℕ). record { sector = n; low = c % 256; high = c / 256; head = top * 16 + h }) e)
+    rw (x, y, z) (ap (spelled top c h) e)
 
 chs-spelled : (top : ℕ) (g : Geometry) (i c h s : ℕ) → h < g .heads → 1 ≤ s → s ≤ g .sectors → i ≡ chsIndex c h s g → chsNamed top g i ≡ spelled top c h s
 chs-spelled top g i c h s x y z e =
@@ -97,7 +97,7 @@ spelled-at a c h s x y z =
     rw (i, j, k)
 
 step-to : (a : Address) (g : Geometry) (i c h s : ℕ) →
-    (g .cylinders ≤ 65535) × (g .heads ≤ 16) × (g .sectors ≤ 255) →
+    Small g →
     (h < g .heads) × (1 ≤ s) × (s ≤ g .sectors) × (c ≤ g .cylinders) →
     i ≡ chsIndex c h s g →
     atChs a c h s ≡ chsNamed (a .head / 16) g i
@@ -108,7 +108,7 @@ step-to a g i c h s l f e =
     spelled-at a c h s (omega arith) (omega arith) (omega arith) ∙ sym (chs-spelled (a .head / 16) g i c h s x (f .1) z e)
 
 next-chs : (a : Address) (g : Geometry) (i : ℕ) →
-    (g .cylinders ≤ 65535) × (g .heads ≤ 16) × (g .sectors ≤ 255) →
+    Small g →
     Chs (cylinderOf a) (headOf a) (a .sector) g →
     i ≡ chsIndex (cylinderOf a) (headOf a) (a .sector) g →
     nextChs a g ≡ chsNamed (a .head / 16) g (i + 1)
@@ -139,10 +139,7 @@ next-by : (b : Bool) (a : Address) (g : Geometry) (n : ℕ) (p : Spot) →
 next-by true a g n p c m e = rw (lba-facts (lbaOf a) n p e .1)
 next-by false a g n p c m e =
     let f = chs-facts (cylinderOf a) (headOf a) (a .sector) g p e in
-    let k = current-facts g n c in
-    let y = div-le-self n (g .heads * g .sectors) in
-    let z = k .5 in
-    next-chs a g (p .index) (omega arith, k .1, k .3) (f .0) (f .1)
+    next-chs a g (p .index) (current-small g n c m) (f .0) (f .1)
 
 pub next-named : (a : Address) (g : Geometry) (n : ℕ) (p : Spot) →
     currentFor g n ≡ true →

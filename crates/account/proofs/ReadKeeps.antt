@@ -18,7 +18,7 @@ use Rattle.account.specs.Host.{plainOf}
 use Rattle.account.specs.Notes.{Waiting, None, LowByte, HighByte, Notes, noteRead}
 use Rattle.account.proofs.Rest.{restAt, rest, Ground, Running, Pending, Rel, notes, account-word}
 use Rattle.account.proofs.Reading.{word-rest}
-use Rattle.account.proofs.ReadHeld.{word-held}
+use Rattle.account.proofs.ReadBetween.{word-between}
 
 word-low : (l h : ℕ) → l < 256 → (l + 256 * h) % 256 ≡ l
 word-low l h p = omega arith
@@ -31,21 +31,21 @@ module _ (plain : List ℕ → Account) (t : Transfer) (m : Machine) (l : List �
   whole-read : Rel In plain (wordRead t m) (notes (l ++ (getD (m .buffer) (2 * t .words) 0 ∷ getD (m .buffer) (2 * t .words + 1) 0 ∷ [])) None)
   unfolding wordRead
   whole-read =
-      let z = word-held _ t m w refl g r in
+      let z = word-between _ t m w refl g r in
       record {
         account = account-word plain (restAt (DataIn t) (plainOf m)) (rest (wordRead t m)) l (getD (m .buffer) (2 * t .words) 0) (getD (m .buffer) (2 * t .words + 1) 0)
             (λ d. word-rest _ t m d (getD (m .buffer) (2 * t .words) 0 ∷ getD (m .buffer) (2 * t .words + 1) 0 ∷ d) refl (r .0) (r .1) (g .0) (g .1) (r .4)) a;
         ground = z .0;
-        held = z .1;
+        waits = z .1;
       }
 
   low-read : Rel In plain (withPhase (DataIn (halved Part.Low t)) m) (notes l (LowByte (getD (m .buffer) (2 * t .words) 0)))
   unfolding restAt
-  low-read = record { account = a; ground = g; held = (r .0, r .1, r .2, refl, r .4) }
+  low-read = record { account = a; ground = g; waits = (r .0, r .1, r .2, refl, r .4) }
 
   high-read : Rel In plain (withPhase (DataIn (halved Part.High t)) m) (notes l (HighByte (getD (m .buffer) (2 * t .words + 1) 0)))
   unfolding restAt
-  high-read = record { account = a; ground = g; held = (r .0, r .1, r .2, refl, r .4) }
+  high-read = record { account = a; ground = g; waits = (r .0, r .1, r .2, refl, r .4) }
 
 taken-keeps : (plain : List ℕ → Account) (h : Half) (w : Waiting) (port : Port) (t : Transfer) (m : Machine) (l : List ℕ) → Pending h w (t .words) (m .buffer) → Ground In m → Running In t (plainOf m) w →
     ((d : List ℕ) → plain (l ++ d) ≡ moving l (restAt (DataIn t) (plainOf m) d)) → Rel In plain m (notes l w) →

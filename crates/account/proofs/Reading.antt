@@ -3,6 +3,7 @@ use Prim.Native.Nat.{ℕ, zero, suc, _+_, _-_, _*_, _/_, _<_}
 use mathlib.Core.Bool.{Bool, true, false}
 use mathlib.Core.Path.{_≡_, refl, ap, _∙_}
 use mathlib.Core.List.{List, [], _∷_, _++_}
+use native.Mathlib.Numerals.{sub-one}
 use native.Mathlib.Omega.{arith}
 use lib.Dec.{ltb}
 use lib.ListN.{length, drop, getD, drop-of-length-le}
@@ -38,9 +39,6 @@ sector-read n i store buffer h e =
     let q : length store / 512 ≡ n = rw e (omega arith) in
     rw (q, lt-ltb i n h)
 
-pub pred : (n : ℕ) → suc n - 1 ≡ n
-pred n = omega arith
-
 -- a sector to be read
 pub read-rest : (n : ℕ) (c : Course) (i : ℕ) (m : Machine) (d : List ℕ) → Shaped (m .state .made) (m .state .current) → LentFor (totalOf (m .state .made .default)) (m .store) (m .marks) →
     Seated c i (suc n) (m .state) → Where c i (m .state) → rest (readSector (suc n) m) d ≡ readSectors c i (suc n) (plainOf m)
@@ -52,7 +50,7 @@ read-rest n c i m d h l q w =
     (λ r.
     let o = room-total c (m .state) h (q .2) in
     let v = runFrom (tests unreadable Unreadable c (m .marks)) (i + 1) n in
-    rw (sector-read (totalOf (m .state .made .default)) i (m .store) (m .buffer) (omega arith) (l .0), where-good c i (m .state) w r, q .2, pred n)
+    rw (sector-read (totalOf (m .state .made .default)) i (m .store) (m .buffer) (omega arith) (l .0), where-good c i (m .state) w r, q .2, sub-one (suc n))
     (ap (λ (x : Plain). record { moved = sectorAt (m .store) i ++ sectorsFrom (m .store) (i + 1) (v .done); left = x })
     (run-status c v 0x58 (withBuffer (lastSector (m .store) (i + 1) (v .done) (sectorAt (m .store) i)) (plainOf m)))))
     (λ f z. rw (stops-run f z c (suc n) i (runFrom (tests unreadable Unreadable c (m .marks)) (i + 1) n) (plainOf m), stops-ends f true z c (suc n) i (m .state) (m .buffer) (m .store) (m .marks) q))
@@ -72,7 +70,7 @@ load-rest : (l : Load) (m : Machine) (d : List ℕ) → Shaped (m .state .made) 
 unfolding doneIn
 load-rest Buffer m d h l k = unfold restAt in refl
 load-rest (Sectors zero) m d h l k = absurd (omega (arith, k .1))
-load-rest (Sectors (suc n)) m d h l k = rw (pred n) (next-rest n (courseIn (m .state)) (here (m .state)) m d h l (k .2, k .3, refl) (k .0))
+load-rest (Sectors (suc n)) m d h l k = rw (sub-one (suc n)) (next-rest n (courseIn (m .state)) (here (m .state)) m d h l (k .2, k .3, refl) (k .0))
 
 -- the two bytes of a word
 drop-two : (b : List ℕ) (w : ℕ) → 2 * w + 1 < length b → drop (2 * w) b ≡ getD b (2 * w) 0 ∷ getD b (2 * w + 1) 0 ∷ drop (2 * (w + 1)) b

@@ -82,10 +82,11 @@ Pending Half.High None w b = ⊥
 Pending Half.High (LowByte v) w b = ⊥
 Pending Half.High (HighByte v) w b = v ≡ getD b (2 * w + 1) 0
 
--- a running sector transfer: a valid address, and Count agrees
+-- without buffer, store and marks
 abbrev pub bare : Plain → Plain
 bare p = withBuffer [] (withStore [] [] p)
 
+-- a running sector transfer: a valid address, and Count agrees
 abbrev pub Loaded : Load → Plain → Type 0
 Loaded Buffer p = Unit {0}
 Loaded (Sectors left) p =
@@ -103,18 +104,19 @@ Ground way m =
 abbrev pub Running : Way → Transfer → Plain → Waiting → Type 0
 Running way t p q = (t .words < 256) × (length (p .buffer) ≡ 512) × ByteWise way (p .buffer) × Pending (t .half) q (t .words) (p .buffer) × Loaded (t .load) (bare p)
 
-abbrev pub Held : Way → Phase → Plain → Waiting → Type 0
-Held In Idle p q = q ≡ None
-Held In (DataIn t) p q = Running In t p q
-Held In (DataOut t) p q = ⊥
-Held Out Idle p q = q ≡ None
-Held Out (DataIn t) p q = ⊥
-Held Out (DataOut t) p q = Running Out t p q
+-- what waits agrees with the phase
+abbrev pub Waits : Way → Phase → Plain → Waiting → Type 0
+Waits In Idle p q = q ≡ None
+Waits In (DataIn t) p q = Running In t p q
+Waits In (DataOut t) p q = ⊥
+Waits Out Idle p q = q ≡ None
+Waits Out (DataIn t) p q = ⊥
+Waits Out (DataOut t) p q = Running Out t p q
 
 pub record Rel (way : Way) (plain : List ℕ → Account) (m : Machine) (q : Notes) : Type 0 where
   pub account : (d : List ℕ) → plain (q .done ++ d) ≡ moving (q .done) (rest m d)
   pub ground : Ground way m
-  pub held : Held way (m .phase) (plainOf m) (q .waiting)
+  pub waits : Waits way (m .phase) (plainOf m) (q .waiting)
 
 -- Status in a transfer is 58H, which no end keeps
 pub ends-status : (e : Ending) (v : ℕ) (p : Plain) → ends e (withStatus v p) ≡ ends e p
@@ -129,7 +131,7 @@ run-status c r v p = ends-status (r .ending) v _
 
 -- what holds between two accesses
 abbrev pub Between : Way → Machine → Waiting → Type 0
-Between way m q = Ground way m × Held way (m .phase) (plainOf m) q
+Between way m q = Ground way m × Waits way (m .phase) (plainOf m) q
 
 pub loaded-of : (c : Course) (i n : ℕ) (s : State) → Seated c i (suc n) s → locatedIn s ≡ Located.Good (record { index = i }) → Loaded (Sectors (suc n)) (plainIn s [] [] [])
 loaded-of c i n s q e = (rw e refl, omega arith, q .0, rw (q .2, e) (q .1))

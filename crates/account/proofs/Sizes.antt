@@ -6,6 +6,7 @@ use native.Mathlib.Omega.{arith}
 use lib.Dec.{ltb, eqb}
 use borrow.Author.Tests.{ltb-true, ltb-false}
 use Rattle.ground.specs.Choice.{pick}
+use Rattle.ground.proofs.Picks.{pick-of}
 use Rattle.registers.specs.declared.Load.{Load}
 use Rattle.registers.specs.declared.Load.the-variants.{Sectors, Buffer}
 use Rattle.registers.specs.declared.Transfer.{Transfer}
@@ -77,13 +78,9 @@ unfolding askSector
 asked-by true n s p e = omega arith
 asked-by false n s p e = ask-by (addressTest s) n false s
 
-pick-phase : (b : Bool) (x y : Core) → pick b x y .phase ≡ pick b (x .phase) (y .phase)
-pick-phase true x y = refl
-pick-phase false x y = refl
-
 written-by : (x : Tested) (n : ℕ) (s : State) → size (coreWritten x n s .phase) ≤ 256 * n
 unfolding nextAsked
-written-by (Passes spot) n s = rw (pick-phase (eqb n 0) _ (askSector n false (sectorDone n s))) (asked-by (eqb n 0) n (sectorDone n s) Idle refl)
+written-by (Passes spot) n s = rw (pick-of (λ (x : Core). x .phase) (eqb n 0) _ (askSector n false (sectorDone n s))) (asked-by (eqb n 0) n (sectorDone n s) Idle refl)
 written-by (Fails e) n s = omega arith
 
 written-size : (l : Load) (m : Machine) → size (loadWritten l m .phase) ≤ 256 * (leftIn l - 1)

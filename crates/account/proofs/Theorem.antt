@@ -34,7 +34,7 @@ hosted-agrees plain way [] m q z e =
     record {
       account = subst (λ (l : List ℕ). plain l ≡ record { moved = q .done; left = plainOf m }) (append-nil (q .done)) (x []);
       enough = x;
-      noHalf = none-waits way (m .phase) m (q .waiting) e (z .held);
+      noHalf = none-waits way (m .phase) m (q .waiting) e (z .waits);
       over = e;
       free = not-held (m .state) (z .ground .4) (z .ground .3);
     }

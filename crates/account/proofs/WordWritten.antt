@@ -3,6 +3,7 @@ use Prim.Native.Nat.{ℕ, zero, suc, _+_, _-_, _*_, _<_}
 use mathlib.Core.Bool.{Bool, true, false}
 use mathlib.Core.Path.{_≡_, refl, sym, _∙_}
 use mathlib.Core.List.{List, [], _∷_, _++_, append-assoc}
+use native.Mathlib.Numerals.{sub-one}
 use native.Mathlib.Omega.{arith}
 use lib.Dec.{ltb}
 use lib.ListN.{length, take, set, getD, length-set}
@@ -32,7 +33,6 @@ use Rattle.account.specs.Host.{plainOf}
 use Rattle.account.proofs.Seats.{Shaped, courseIn, seat-room, room-total}
 use Rattle.account.proofs.Tried.{unwrite-opposite}
 use Rattle.account.proofs.Stored.{LentFor}
-use Rattle.account.proofs.Reading.{pred}
 use Rattle.account.proofs.Rest.{bare, here, doneOut, restAt, rest, Loaded}
 use Rattle.account.proofs.Writing.{done-over, marked-rest}
 
@@ -55,7 +55,7 @@ unfolding doneOut sectorStored
 written-rest Buffer m d h l k = unfold restAt in refl
 written-rest (Sectors zero) m d h l k = absurd (omega (arith, k .1))
 written-rest (Sectors (suc n)) m d h l k =
-    rw (store-test (here (m .state)) (m .state) (m .marks) (k .0), pred n)
+    rw (store-test (here (m .state)) (m .state) (m .marks) (k .0), sub-one (suc n))
     (marked-rest (writable (getD (m .marks) (here (m .state)) 0)) (unwritable (getD (m .marks) (here (m .state)) 0)) n (courseIn (m .state)) (here (m .state)) m d
     (unwrite-opposite (getD (m .marks) (here (m .state)) 0)) (here-inside (m .state) h (k .0)) h l (k .2, k .3, refl) (k .0))
 

@@ -19,7 +19,7 @@ use Rattle.account.specs.Notes.{Waiting, None, LowByte, HighByte, Notes,
 use Rattle.account.proofs.Rest.{restAt, rest, Ground, Running, Pending, Rel, notes, account-word}
 use Rattle.account.proofs.Writing.{done-over}
 use Rattle.account.proofs.WordWritten.{word-written-rest, set-whole, set-high, set-low, low-kept, high-kept, low-stands, high-stands}
-use Rattle.account.proofs.WriteHeld.{word-written-held}
+use Rattle.account.proofs.WriteBetween.{word-written-between}
 
 module _ (plain : List ℕ → Account) (t : Transfer) (m : Machine) (l : List ℕ) (w : Waiting) (g : Ground Out m) (r : Running Out t (plainOf m) w)
     (a : (d : List ℕ) → plain (l ++ d) ≡ moving l (restAt (DataOut t) (plainOf m) d)) where
@@ -30,12 +30,12 @@ module _ (plain : List ℕ → Account) (t : Transfer) (m : Machine) (l : List �
       Rel Out plain (wordWritten t (withBuffer b m)) (notes (l ++ (x ∷ y ∷ [])) None)
   unfolding wordWritten
   whole-written b x y e o =
-      let z = word-written-held _ t m b w refl e g r in
+      let z = word-written-between _ t m b w refl e g r in
       record {
         account = account-word plain (restAt (DataOut t) (plainOf m)) (rest (wordWritten t (withBuffer b m))) l x y
             (λ d. word-written-rest _ t m b x y d refl (r .0) e o (g .0) (g .1) (r .4)) a;
         ground = z .0;
-        held = z .1;
+        waits = z .1;
       }
 
   low-written : (v : ℕ) → Rel Out plain (withPhase (DataOut (halved Part.Low t)) (withBuffer (set (m .buffer) (2 * t .words) v) m)) (notes l (LowByte v))
@@ -43,7 +43,7 @@ module _ (plain : List ℕ → Account) (t : Transfer) (m : Machine) (l : List �
   low-written v = record {
     account = λ d. rw (low-kept (m .buffer) (t .words) inside v, done-over (t .load) (plainOf m) (set (m .buffer) (2 * t .words) v)) (a d);
     ground = g;
-    held = (r .0, length-set (m .buffer) (2 * t .words) v ∙ r .1, tt, low-stands (m .buffer) (t .words) inside v, r .4);
+    waits = (r .0, length-set (m .buffer) (2 * t .words) v ∙ r .1, tt, low-stands (m .buffer) (t .words) inside v, r .4);
   }
 
   high-written : (v : ℕ) → Rel Out plain (withPhase (DataOut (halved Part.High t)) (withBuffer (set (m .buffer) (2 * t .words + 1) v) m)) (notes l (HighByte v))
@@ -51,7 +51,7 @@ module _ (plain : List ℕ → Account) (t : Transfer) (m : Machine) (l : List �
   high-written v = record {
     account = λ d. rw (high-kept (m .buffer) (t .words) inside v, done-over (t .load) (plainOf m) (set (m .buffer) (2 * t .words + 1) v)) (a d);
     ground = g;
-    held = (r .0, length-set (m .buffer) (2 * t .words + 1) v ∙ r .1, tt, high-stands (m .buffer) (t .words) inside v, r .4);
+    waits = (r .0, length-set (m .buffer) (2 * t .words + 1) v ∙ r .1, tt, high-stands (m .buffer) (t .words) inside v, r .4);
   }
 
   -- the second half of a word: the first one, x, stands in the buffer

@@ -3,6 +3,7 @@ use Prim.Native.Nat.{ℕ, zero, suc, _+_, _-_, _<_}
 use mathlib.Core.Bool.{Bool, true, false, not, true≢false, false≢true}
 use mathlib.Core.Path.{_≡_, refl, sym, ap, _∙_, subst}
 use mathlib.Core.List.{List}
+use native.Mathlib.Numerals.{sub-one}
 use native.Mathlib.Omega.{arith}
 use lib.Dec.{ltb}
 use lib.ListN.{take, drop, set, getD}
@@ -27,7 +28,6 @@ use Rattle.account.proofs.Seats.{Shaped, Seated, Where, pastEnd, onward
 use Rattle.account.proofs.Tried.{stops-ends}
 use Rattle.account.proofs.Stored.{LentFor, stored-is, run-later}
 use Rattle.account.proofs.Verifying.{seated-last}
-use Rattle.account.proofs.Reading.{pred}
 use Rattle.account.proofs.Rest.{doneOut, storedThen, restAt, rest, run-status}
 
 -- ---- the account of a sector, and of the rest
@@ -45,7 +45,7 @@ unfolding storedThen writeSectors firstSectors lastSectors replaced cleared
 write-marked true n c i p d = refl
 write-marked false n c i p d =
     let r = runFrom (tests unwritable WriteFault c (p .marks)) (i + 1) n in
-    rw (moved-more (r .ending) (r .done), pred n, run-later unwritable WriteFault c (p .marks) i (i + 1) n (omega arith))
+    rw (moved-more (r .ending) (r .done), sub-one (suc n), run-later unwritable WriteFault c (p .marks) i (i + 1) n (omega arith))
 
 write-sound : (n : ℕ) (c : Course) (i : ℕ) (p : Plain) (d : List ℕ) → i < c .room →
     writeSectors c i (suc n) p d ≡ moving (take 512 d) (storedThen (unwritable (getD (p .marks) i 0)) (suc n) i c p (take 512 d) (drop 512 d))
@@ -115,7 +115,7 @@ pub marked-rest : (u v : Bool) (n : ℕ) (c : Course) (i : ℕ) (m : Machine) (d
 unfolding storedThen
 marked-rest true true n c i m d e h g l q w = absurd (true≢false e)
 marked-rest true false n c i m d e h g l q w =
-    rw (stored-is (totalOf (m .state .made .default)) i (m .store) (m .marks) (m .buffer) h l, pred n)
+    rw (stored-is (totalOf (m .state .made .default)) i (m .store) (m .marks) (m .buffer) h l, sub-one (suc n))
     (asked-rest n c i (m .state) (m .buffer) (putSector i (m .buffer) (m .store)) (set (m .marks) i 0) d g q w)
 marked-rest false true n c i m d e h g l q w = unfold restAt in rw (stops-ends End.WriteFault true refl c (suc n) i (m .state) (m .buffer) (m .store) (m .marks) q)
 marked-rest false false n c i m d e h g l q w = absurd (false≢true e)

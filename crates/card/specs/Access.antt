@@ -11,11 +11,13 @@ use Rattle.maps.specs.declared.Target.the-variants.{Tuple, Option, Named, Data}
 use Rattle.maps.specs.declared.Standing.{Standing}
 use Rattle.maps.specs.Spaces.{answersAt}
 use Rattle.maps.specs.Maps.{standsAt}
+use Rattle.registers.specs.declared.Phase.{Phase}
 use Rattle.registers.specs.declared.State.{State}
 use Rattle.registers.specs.State.{sresetIn, indexIn, totalIn}
 use Rattle.registers.specs.Machine.{Machine}
 use Rattle.registers.specs.WellMade.{wellMade}
 use Rattle.card.specs.declared.Meaning.{Meaning}
+use Rattle.card.specs.declared.Verdict.{Verdict}
 use Rattle.card.specs.declared.Meaning.the-variants.{TupleByte, ReadOption, WriteOption, ReadRegister, WriteRegister, ReadData, WriteData}
 
 -- an access: any space, width, address and value, and the tuple buffer that is lent with it
@@ -50,15 +52,31 @@ decided s a =
     (standing (standsAt (a .space) (indexIn (s .option)) (a .address) (a .width) (a .write) (a .value)) (a .write) (a .value) (a .tuples))
     (Meaning.Refused SpaceSilent))
 
--- rows 12, 2, 3, 5 before them: "Store length is 512·N, marks length N", "a 256-byte tuple buffer"
+-- rows 12, 2, 3, 5: "Store length is 512·N, marks length N", "a 256-byte tuple buffer"; by the four tests, each as it came out
+abbrev pub verdictBy : Bool → Bool → Bool → Bool → Verdict
+verdictBy w s k t =
+    pick w
+    (pick s
+    (pick k
+    (pick t
+    Verdict.Fit
+    (Verdict.Refused TupleBufferLength))
+    (Verdict.Refused MarksLength))
+    (Verdict.Refused StoreLength))
+    (Verdict.Refused NotWellMade)
+
+unfoldable pub verdictOf : Phase → State → List ℕ → List ℕ → List ℕ → Verdict
+verdictOf phase state store marks tuples =
+    verdictBy
+    (wellMade phase state)
+    (eqb (length store) (512 * totalIn state))
+    (eqb (length marks) (totalIn state))
+    (eqb (length tuples) 256)
+
+-- they come before the others
+abbrev pub meantBy : Verdict → Meaning → Meaning
+meantBy Verdict.Fit k = k
+meantBy (Verdict.Refused r) k = Meaning.Refused r
+
 unfoldable pub meaning : Machine → Access → Meaning
-meaning m a =
-    pick (wellMade (m .phase) (m .state))
-    (pick (eqb (length (m .store)) (512 * totalIn (m .state)))
-    (pick (eqb (length (m .marks)) (totalIn (m .state)))
-    (pick (eqb (length (a .tuples)) 256)
-    (decided (m .state) a)
-    (Meaning.Refused TupleBufferLength))
-    (Meaning.Refused MarksLength))
-    (Meaning.Refused StoreLength))
-    (Meaning.Refused NotWellMade)
+meaning m a = meantBy (verdictOf (m .phase) (m .state) (m .store) (m .marks) (a .tuples)) (decided (m .state) a)

@@ -12,10 +12,10 @@ use registers::State;
 ghost use mathlib.Core.Path.{_≡_};
 ghost use Rattle.registers.specs.Machine.{machine};
 ghost use Rattle.port.specs.Data.{effect};
-ghost use Rattle.card.specs.Access.{targeted, heldAway, decided};
+ghost use Rattle.card.specs.Access.{targeted, heldAway, decided, verdictOf};
 ghost use Rattle.card.specs.Perform.{plainCore, registerWritten, registerRead, perform};
 ghost use Rattle.card.specs.Step.{replyOf, replied, fitStep, step};
-ghost use Rattle.card.specs.Verdict.{verdictOf, byVerdict};
+ghost use Rattle.card.specs.Verdict.{byVerdict};
 
 pub mod doors;
 pub mod opening;

@@ -1,4 +1,4 @@
--- The cases of `verifyFrom` and `eraseFrom`, for the loops that are proved of them: none is left, a test fails, a sector is done.
+-- The cases of `verifyFrom` and `eraseFrom`, for the proof of the loops: none is left, a test fails, a sector is done.
 use Prim.Native.Nat.{ℕ, zero, suc, _-_, _<_, _≤_}
 use native.Mathlib.Nat.{not-suc-le-zero}
 use native.Mathlib.Numerals.{sub-one}

@@ -59,12 +59,12 @@ abbrev pub factsOf : State → Facts
 factsOf s = record { default = s .made .default; current = s .current }
 
 -- 91H: "S := Count, H := low nibble+1; if S is 0 or H·S>N: ABRT, 21H, old geometry stays"
-abbrev pub geometrySet : Reshaped → State → Core
-geometrySet (Reshaped.Taken g) s = ended End.Good true (withCurrent g s)
-geometrySet Reshaped.Refused s = ended End.BadGeometry true s
+abbrev pub reshapedEnded : Reshaped → State → Core
+reshapedEnded (Reshaped.Taken g) s = ended End.Good true (withCurrent g s)
+reshapedEnded Reshaped.Refused s = ended End.BadGeometry true s
 
 abbrev pub geometryEnded : State → Core
-geometryEnded s = geometrySet (reshaped (s .registers .count) (s .registers .address .head) (totalIn s)) s
+geometryEnded s = reshapedEnded (reshaped (s .registers .count) (s .registers .address .head) (totalIn s)) s
 
 -- 90H: "Error 01H, Count 1, Sector 1, Cylinder and Drive/Head 0"
 abbrev pub diagnosed : State → State

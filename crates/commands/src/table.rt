@@ -10,11 +10,8 @@ use registers::State;
 use transfers::End;
 use transfers::Way;
 ghost use mathlib.Core.Path.{_≡_};
-ghost use mathlib.Core.Bool.{true};
-ghost use Rattle.geometry.specs.Address.{seek};
 ghost use Rattle.identify.specs.Words.{identifyBytes};
 ghost use Rattle.registers.specs.Machine.{machine};
-ghost use Rattle.transfers.specs.Ends.{ended};
 ghost use Rattle.transfers.specs.Steps.{idle};
 ghost use Rattle.commands.specs.Table.{sectorlessCommand, commandOf, started, countOf, factsOf, geometryEnded, diagnosed, soughtEnd, seekEnded, senseEnded, obeyed, commandGiven};
 
@@ -37,11 +34,11 @@ fn sectorless_command(opcode: u8) -> Command
     if opcode == 0x90 {
         return Command::Diagnose;
     }
-    let row = opcode / 16;
-    if row == 1 {
+    let upper = opcode / 16;
+    if upper == 1 {
         return Command::Recalibrate;
     }
-    if row == 7 {
+    if upper == 7 {
         return Command::Seek;
     }
     if opcode == 0x03 {

@@ -33,10 +33,10 @@ kept-chs a c h s = kept a (atChs a c h s) h refl (omega arith)
 pub next-kept : (a : Address) (g : Geometry) → Kept a (nextOf a g)
 unfolding nextOf nextChs
 next-kept a g =
-    pick-elim (λ (x : Address). Kept a x) (byLba a) _ _
+    pick-elim (Kept a) (byLba a) _ _
     (λ t. kept a (atLba a (lbaOf a + 1)) ((lbaOf a + 1) / 16777216) refl (omega arith))
-    (λ t. pick-elim (λ (x : Address). Kept a x) (ltb (a .sector) (g .sectors)) _ _
+    (λ t. pick-elim (Kept a) (ltb (a .sector) (g .sectors)) _ _
     (λ u. kept-chs a (cylinderOf a) (headOf a) (a .sector + 1))
-    (λ u. pick-elim (λ (x : Address). Kept a x) (ltb (headOf a + 1) (g .heads)) _ _
+    (λ u. pick-elim (Kept a) (ltb (headOf a + 1) (g .heads)) _ _
     (λ v. kept-chs a (cylinderOf a) (headOf a + 1) 1)
     (λ v. kept-chs a (cylinderOf a + 1) 0 1)))

@@ -2,7 +2,8 @@
 use Prim.Native.Nat.{ℕ, _*_, _≤_}
 use mathlib.Core.Bool.{true}
 use mathlib.Core.Path.{_≡_, refl}
-use native.Mathlib.Nat.{mul-assoc, div-mul-le-self}
+use native.Mathlib.Nat.{mul-assoc, div-le-self, div-mul-le-self}
+use native.Mathlib.Omega.{arith}
 use borrow.Author.Tests.{leb-true, eqb-true}
 use Rattle.geometry.specs.declared.Geometry.{Geometry}
 use Rattle.geometry.specs.Limits.{capacityOf, fits, headTests, limits, totalOf, currentFor, currentTests, cylindersFor}
@@ -52,7 +53,18 @@ total-fits g e =
     let p = product-positive (g .cylinders * g .heads) (g .sectors) (product-positive (g .cylinders) (g .heads) (f .0) (f .2)) (f .4) in
     rw e (refl, p, f .6)
 
--- The current capacity is at most N, and so is the current C.
+-- The current capacity is at most N.
 pub current-room : (g : Geometry) (n : ℕ) → currentFor g n ≡ true → capacityOf g ≤ n
 current-room g n e =
     rw (current-facts g n e .5, mul-assoc) (div-mul-le-self n (g .heads * g .sectors))
+
+-- A geometry that the registers can name, as the current one is.
+abbrev pub Small : Geometry → Type 0
+Small g = (g .cylinders ≤ 65535) × (g .heads ≤ 16) × (g .sectors ≤ 255)
+
+pub current-small : (g : Geometry) (n : ℕ) → currentFor g n ≡ true → n ≤ 65535 → Small g
+current-small g n e l =
+    let k = current-facts g n e in
+    let y = div-le-self n (g .heads * g .sectors) in
+    let z = k .5 in
+    (omega arith, k .1, k .3)

@@ -2,7 +2,7 @@
 use Prim.Native.Nat.{ℕ, _+_, _*_, _/_, _%_, _≤_, _<_}
 use mathlib.Core.Bool.{Bool, true, false}
 use mathlib.Core.Path.{_≡_, refl, ap, _∙_}
-use native.Mathlib.Nat.{add-mul, div-le-self}
+use native.Mathlib.Nat.{add-mul}
 use native.Mathlib.Omega.{arith}
 use lib.Dec.{ltb}
 use borrow.Author.Tests.{ltb-true, ltb-false, lt-ltb, le-ltb, le-leb}
@@ -16,7 +16,7 @@ use Rattle.geometry.specs.Limits.{capacityOf, currentFor}
 use Rattle.geometry.specs.Address.{byLba, headOf, cylinderOf, lbaOf, chsIndex, locateLba, locateChs, locate, roomOf}
 use Rattle.geometry.specs.Next.{atLba, atChs, nextChs, nextOf}
 use Rattle.geometry.specs.Codes.{locatedCode}
-use Rattle.geometry.proofs.Limits.{current-facts}
+use Rattle.geometry.proofs.Limits.{Small, current-small}
 use Rattle.geometry.proofs.Kept.{same-way}
 use Rattle.geometry.proofs.Inside.{Chs, chs-less, chs-good, chs-facts, lba-facts}
 use Rattle.geometry.proofs.Bounds.{row-more}
@@ -50,7 +50,7 @@ past i m bad l = rw (le-ltb (i + 1) m l)
 -- A CHS address one further on is good.
 step-chs : (a : Address) (g : Geometry) (n i c h s : ℕ) →
     byLba a ≡ false →
-    (g .cylinders ≤ 65535) × (g .heads ≤ 16) × (g .sectors ≤ 255) →
+    Small g →
     Chs c h s g →
     i + 1 ≡ chsIndex c h s g →
     locate (atChs a c h s) g n ≡ After i (capacityOf g) Located.BadCylinder
@@ -63,7 +63,7 @@ step-chs a g n i c h s b l f q =
 step-cylinder : (t : Bool) (a : Address) (g : Geometry) (n i c : ℕ) →
     ltb (c + 1) (g .cylinders) ≡ t →
     byLba a ≡ false →
-    (g .cylinders ≤ 65535) × (g .heads ≤ 16) × (g .sectors ≤ 255) →
+    Small g →
     (1 ≤ g .heads) × (1 ≤ g .sectors) × (c < g .cylinders) →
     i + 1 ≡ (c + 1) * g .heads * g .sectors →
     locate (atChs a (c + 1) 0 1) g n ≡ After i (capacityOf g) Located.BadCylinder
@@ -81,7 +81,7 @@ step-cylinder false a g n i c t b l f q =
 
 next-chs : (a : Address) (g : Geometry) (n i : ℕ) →
     byLba a ≡ false →
-    (g .cylinders ≤ 65535) × (g .heads ≤ 16) × (g .sectors ≤ 255) →
+    Small g →
     Chs (cylinderOf a) (headOf a) (a .sector) g →
     i ≡ chsIndex (cylinderOf a) (headOf a) (a .sector) g →
     locate (nextChs a g) g n ≡ After i (capacityOf g) Located.BadCylinder
@@ -118,10 +118,7 @@ next-by true a g n p b c m e =
     rw (f .1) (next-lba a g n b (f .0) m)
 next-by false a g n p b c m e =
     let f = chs-facts (cylinderOf a) (headOf a) (a .sector) g p e in
-    let k = current-facts g n c in
-    let y = div-le-self n (g .heads * g .sectors) in
-    let z = k .5 in
-    next-chs a g n (p .index) b (omega arith, k .1, k .3) (f .0) (f .1)
+    next-chs a g n (p .index) b (current-small g n c m) (f .0) (f .1)
 
 -- "The next CHS address advances sector, head, cylinder": index i + 1 while there is room, else past the end.
 pub next-law : (a : Address) (g : Geometry) (n : ℕ) (p : Spot) →

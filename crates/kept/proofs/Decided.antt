@@ -22,7 +22,8 @@ use Rattle.registers.specs.Machine.{Machine}
 use Rattle.registers.specs.WellMade.{wellMade, indexFits, sresetFits}
 use Rattle.card.specs.declared.Meaning.{Meaning}
 use Rattle.card.specs.declared.Meaning.the-variants.{TupleByte, ReadOption, WriteOption, ReadRegister, WriteRegister, ReadData, WriteData}
-use Rattle.card.specs.Access.{Access, standing, heldAway, decided, meaning}
+use Rattle.card.specs.declared.Verdict.{Verdict}
+use Rattle.card.specs.Access.{Access, standing, heldAway, decided, verdictOf, meantBy, meaning}
 
 -- rows 8 and 7, then what stands there
 pub decided-elim : (P : Meaning → Type 0) (s : State) (a : Access) → P (Meaning.Refused HeldBySreset) → P (Meaning.Refused SpaceSilent) →
@@ -40,19 +41,20 @@ pub meaning-elim : (P : Meaning → Type 0) (m : Machine) (a : Access) →
     (wellMade (m .phase) (m .state) ≡ true → length (m .store) ≡ 512 * totalIn (m .state) → length (m .marks) ≡ totalIn (m .state) → length (a .tuples) ≡ 256 →
     P (decided (m .state) a)) →
     P (meaning m a)
-unfolding meaning
+unfolding meaning verdictOf
 meaning-elim P m a x y z u f =
-    pick-elim P (wellMade (m .phase) (m .state)) _ _
-    (λ w. pick-elim P (eqb (length (m .store)) _) _ _
-    (λ s. pick-elim P (eqb (length (m .marks)) _) _ _
-    (λ k. pick-elim P (eqb (length (a .tuples)) 256) _ _ (λ t. f w (eqb-true _ _ s) (eqb-true _ _ k) (eqb-true _ _ t)) (λ t. u))
+    let Q : Verdict → Type 0 = λ v. P (meantBy v (decided (m .state) a)) in
+    pick-elim Q (wellMade (m .phase) (m .state)) _ _
+    (λ w. pick-elim Q (eqb (length (m .store)) _) _ _
+    (λ s. pick-elim Q (eqb (length (m .marks)) _) _ _
+    (λ k. pick-elim Q (eqb (length (a .tuples)) 256) _ _ (λ t. f w (eqb-true _ _ s) (eqb-true _ _ k) (eqb-true _ _ t)) (λ t. u))
     (λ k. z))
     (λ s. y))
     (λ w. x)
 
 pub meaning-decided : (m : Machine) (a : Access) → wellMade (m .phase) (m .state) ≡ true →
     length (m .store) ≡ 512 * totalIn (m .state) → length (m .marks) ≡ totalIn (m .state) → length (a .tuples) ≡ 256 → meaning m a ≡ decided (m .state) a
-unfolding meaning
+unfolding meaning verdictOf
 meaning-decided m a e s k t = rw (e, eq-eqb _ _ s, eq-eqb _ _ k, eq-eqb _ _ t)
 
 -- what an access may mean

@@ -11,7 +11,7 @@ use Rattle.registers.specs.declared.Made.{Made}
 use Rattle.registers.specs.State.{lineOf, totalIn}
 use Rattle.registers.specs.Machine.{Machine, coreOf}
 use Rattle.registers.specs.WellMade.{wellMade}
-use Rattle.card.specs.Access.{Access, decided, meaning}
+use Rattle.card.specs.Access.{Access, decided, verdictOf, meaning}
 use Rattle.card.specs.Perform.{perform}
 use Rattle.card.specs.Step.{Stepped, step, fitStep, play}
 use Rattle.kept.specs.Sound.{CountFits, Sound}
@@ -43,7 +43,7 @@ fit-step-kept m a b e = made-of (m .state .made) m (fitStep m a .next) (fit-step
 
 -- Row 12: a card that is not well made is refused, and nothing changes.
 pub not-well-refused : (m : Machine) (a : Access) → wellMade (m .phase) (m .state) ≡ false → step m a ≡ record { outcome = Outcome.Refused NotWellMade; line = lineOf (m .state); next = m }
-unfolding step meaning perform
+unfolding step meaning verdictOf perform
 not-well-refused m a e = rw e
 
 -- what every card keeps, well made or not

@@ -22,7 +22,7 @@ use Rattle.transfers.specs.declared.Way.the-variants.{In, Out}
 use Rattle.commands.specs.declared.Command.{Command}
 use Rattle.commands.specs.declared.Command.the-variants.{Read, Write, Verify, Erase, Identify, ReadBuffer, WriteBuffer, SetGeometry, Diagnose, Recalibrate, Seek, Sense, Other}
 use Rattle.transfers.specs.Steps.{idleWith}
-use Rattle.commands.specs.Table.{commandOf, started, countOf, factsOf, geometrySet, diagnosed, soughtEnd, obeyed, quiet, commandGiven}
+use Rattle.commands.specs.Table.{commandOf, started, countOf, factsOf, reshapedEnded, diagnosed, soughtEnd, obeyed, quiet, commandGiven}
 use Rattle.kept.specs.Sound.{CountFits}
 use Rattle.kept.proofs.Registers.{CoreFits}
 use Rattle.kept.proofs.Lent.{lent-same}
@@ -39,7 +39,7 @@ count-agrees s c =
     (λ e. let z = eqb-false (s .registers .count) 0 e in (omega arith, omega arith, omega arith))
 
 -- 91H takes a good geometry, or the old one stays
-geometry-left : (x : Reshaped) (d : Made) (s : State) → reshaped (s .registers .count) (s .registers .address .head) (totalIn s) ≡ x → Fine d s → CoreFits d (geometrySet x s)
+geometry-left : (x : Reshaped) (d : Made) (s : State) → reshaped (s .registers .count) (s .registers .address .head) (totalIn s) ≡ x → Fine d s → CoreFits d (reshapedEnded x s)
 geometry-left (Reshaped.Taken g) d s e f =
     let c = reshaped-current (s .registers .count) (s .registers .address .head) (totalIn s) g (f .1) e in
     ended-left End.Good true d (withCurrent g s) ((f .0 .0, f .0 .1, c, f .0 .3, f .0 .4), f .1)

@@ -26,7 +26,7 @@ use Rattle.transfers.specs.declared.Way.the-variants.{In}
 use Rattle.transfers.specs.Before.{sectorTest, addressTest, sectorStored}
 use Rattle.transfers.specs.Steps.{readTested, readSector, nextRead, loadRead, askTested, askSector, nextAsked, coreWritten, loadWritten}
 use Rattle.commands.specs.Runs.{verifyFrom, Erased, eraseFrom}
-use Rattle.commands.specs.Table.{obeyed, geometrySet, soughtEnd, commandOf, started, quiet, commandGiven}
+use Rattle.commands.specs.Table.{obeyed, reshapedEnded, soughtEnd, commandOf, started, quiet, commandGiven}
 use Rattle.kept.proofs.Runs.{verify-elim, erase-elim}
 use Rattle.laws.specs.Coded.{inError, Coded}
 
@@ -96,7 +96,7 @@ erases n s store marks =
 
 -- ---- the table
 
-geometry-set : (r : Reshaped) (s : State) → Coded (geometrySet r s .state)
+geometry-set : (r : Reshaped) (s : State) → Coded (reshapedEnded r s .state)
 geometry-set (Reshaped.Taken g) s = end-coded Good _
 geometry-set Reshaped.Refused s = end-coded BadGeometry 0
 

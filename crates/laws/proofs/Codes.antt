@@ -8,7 +8,7 @@ use Rattle.geometry.specs.Shape.{currentAfter}
 use Rattle.registers.specs.declared.State.{State}
 use Rattle.transfers.specs.Ends.{endCode}
 use Rattle.transfers.specs.Before.{testedOf}
-use Rattle.commands.specs.Table.{soughtEnd, geometrySet}
+use Rattle.commands.specs.Table.{soughtEnd, reshapedEnded}
 use Rattle.laws.specs.Coded.{testedCode}
 
 pub located-code : (l : Located) → testedCode (testedOf l) ≡ locatedCode l
@@ -24,10 +24,10 @@ sought-code Sought.BadCylinder = refl
 sought-code Sought.BadLba = refl
 
 -- 91H, from a state whose code is 0, as each command starts
-pub reshaped-code : (r : Reshaped) (s : State) → s .code ≡ 0 → geometrySet r s .state .code ≡ reshapedCode r
+pub reshaped-code : (r : Reshaped) (s : State) → s .code ≡ 0 → reshapedEnded r s .state .code ≡ reshapedCode r
 reshaped-code (Reshaped.Taken g) s e = e
 reshaped-code Reshaped.Refused s e = refl
 
-pub reshaped-geometry : (r : Reshaped) (s : State) → geometrySet r s .state .current ≡ currentAfter r (s .current)
+pub reshaped-geometry : (r : Reshaped) (s : State) → reshapedEnded r s .state .current ≡ currentAfter r (s .current)
 reshaped-geometry (Reshaped.Taken g) s = refl
 reshaped-geometry Reshaped.Refused s = refl

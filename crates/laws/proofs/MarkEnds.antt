@@ -22,7 +22,7 @@ use Rattle.transfers.specs.declared.Way.the-variants.{In}
 use Rattle.transfers.specs.Before.{sectorTest, addressTest}
 use Rattle.transfers.specs.Steps.{readTested, readSector, askTested, askSector}
 use Rattle.commands.specs.Runs.{verifyFrom, Erased, eraseFrom}
-use Rattle.commands.specs.Table.{countOf, soughtEnd, geometrySet, started, quiet, commandOf, obeyed, commandGiven}
+use Rattle.commands.specs.Table.{countOf, soughtEnd, reshapedEnded, started, quiet, commandOf, obeyed, commandGiven}
 use Rattle.kept.proofs.Runs.{verify-elim, erase-elim}
 use Rattle.laws.specs.Mark.{asks, MarkRule}
 use Rattle.laws.specs.Acts.{CommandWrite}
@@ -50,7 +50,7 @@ erases : (n : ℕ) (s : State) (store marks : List ℕ) → Over (eraseFrom n s 
 erases n s store marks =
     erase-elim (λ (x : State) (st mk : List ℕ). Unit {0}) (λ (k : Erased). Over (k .core .state)) (λ s st mk u. tt) (λ n s st mk u. tt) (λ e s st mk u. (refl, end-asks e)) n s store marks tt
 
-geometry-set : (r : Reshaped) (s : State) → Over (geometrySet r s .state)
+geometry-set : (r : Reshaped) (s : State) → Over (reshapedEnded r s .state)
 geometry-set (Reshaped.Taken g) s = (refl, refl)
 geometry-set Reshaped.Refused s = (refl, refl)
 

@@ -8,7 +8,7 @@ use registers::Phase;
 use registers::State;
 use registers::Transfer;
 ghost use mathlib.Core.Path.{_≡_};
-ghost use Prim.Native.Nat.{_+_, _<_};
+ghost use Prim.Native.Nat.{_<_};
 ghost use lib.ListN.{getD, set};
 ghost use Rattle.registers.specs.Machine.{machine, core};
 ghost use Rattle.port.specs.Halves.{takeOf, partValue, withPart, halfOf, halved, nextWord};
@@ -56,14 +56,10 @@ fn take_of(half: Half, port: Port) -> Take
     }
 }
 
-fn byte_at(buffer: &[u8; 512], at: usize) -> u16
+fn buffer_byte(buffer: &[u8; 512], at: usize) -> u16
     ensures { λ r. ⌜ (r ≡ getD (now (buffer .entry)) at 0) × (r < 256) ⌝ }
 {
-    ground::length_known(buffer);
-    if at < 512 {
-        return ground::wide(buffer[at]);
-    }
-    0
+    ground::wide(ground::byte_or_zero(buffer, at))
 }
 
 fn set_byte(buffer: &mut [u8; 512], at: usize, byte: u8)
@@ -81,9 +77,9 @@ fn part_value(part: Part, words: u16, buffer: &[u8; 512]) -> u16
 {
     let low = 2 * (words as usize);
     match part {
-        Part::Low => byte_at(buffer, low),
-        Part::High => byte_at(buffer, low + 1),
-        Part::Both => byte_at(buffer, low) + 256 * byte_at(buffer, low + 1),
+        Part::Low => buffer_byte(buffer, low),
+        Part::High => buffer_byte(buffer, low + 1),
+        Part::Both => buffer_byte(buffer, low) + 256 * buffer_byte(buffer, low + 1),
     }
 }
 

@@ -24,7 +24,7 @@ use Rattle.commands.specs.Runs
 use Rattle.port.specs.Halves.{takeOf}
 use Rattle.port.specs.Data.{wordRead, dataRead, wordWritten, dataWritten}
 use Rattle.commands.specs.Table.{sectorlessCommand, commandOf, countOf, commandGiven}
-use Rattle.card.specs.Access.{heldAway, decided, meaning}
+use Rattle.card.specs.Access.{heldAway, decided, verdictOf, meaning}
 use Rattle.card.specs.Perform.{optionWritten, plainCore, registerWritten, perform}
 use Rattle.card.specs.Step.{step}
 use Rattle.card.specs.Opening.{opened}
@@ -46,7 +46,7 @@ computed :
     × (passes ignoresWrites ≡ false)
     × (passes (makesUpCount 1) ≡ false)
     × (passes (makesUpCount 224) ≡ false)
-unfolding samples sample1 sample2 sample3 sample4 sample5 sample6 sample7 sample8 sample9 sample10 sample11 sample12 sample13 identified wordLines sameEntries readsAs readOutcome counted chainFrom holdsOf allOf passes sector listed store marks tuples opening agrees step meaning decided heldAway answersAt cardAnswers standsAt attributeAt optionAt aboveThree tupleAt byteAt misfits registerAt placeAt portAt namedAt evenData offsetAt memoryAt ioAt windowAt within wellMade runFits loadFits sectorsFit wordsFit holdFits heldIn statusFits atRest sresetFits indexFits every fits totalOf currentFor locate locateChs locateLba byLba seek reshaped nextOf nextChs perform optionWritten registerWritten plainCore valueRead afterRead registerSet turnOf optionTurned bufferTurned controlTurned dataRead dataWritten wordRead wordWritten takeOf readSector nextRead askSector nextAsked sectorDone sectorTest addressTest sectorStored stored withSector sectorOf bufferRead readable writable marksFit verifyFrom eraseFrom Rattle.commands.specs.Runs.allFF identifyBytes identifyByte identifyWord firstWord laterWord Rattle.identify.specs.Words.blankWord countOf commandOf sectorlessCommand commandGiven opened zeros refusesAll reads50H ignoresWrites makesUpCount countsAs
+unfolding samples sample1 sample2 sample3 sample4 sample5 sample6 sample7 sample8 sample9 sample10 sample11 sample12 sample13 identified wordLines sameEntries readsAs readOutcome counted chainFrom holdsOf allOf passes sector listed store marks tuples opening agrees step meaning verdictOf decided heldAway answersAt cardAnswers standsAt attributeAt optionAt aboveThree tupleAt byteAt misfits registerAt placeAt portAt namedAt evenData offsetAt memoryAt ioAt windowAt within wellMade runFits loadFits sectorsFit wordsFit holdFits heldIn statusFits atRest sresetFits indexFits every fits totalOf currentFor locate locateChs locateLba byLba seek reshaped nextOf nextChs perform optionWritten registerWritten plainCore valueRead afterRead registerSet turnOf optionTurned bufferTurned controlTurned dataRead dataWritten wordRead wordWritten takeOf readSector nextRead askSector nextAsked sectorDone sectorTest addressTest sectorStored stored withSector sectorOf bufferRead readable writable marksFit verifyFrom eraseFrom Rattle.commands.specs.Runs.allFF identifyBytes identifyByte identifyWord firstWord laterWord Rattle.identify.specs.Words.blankWord countOf commandOf sectorlessCommand commandGiven opened zeros refusesAll reads50H ignoresWrites makesUpCount countsAs
 computed = (refl, refl, refl, refl, refl, refl)
 
 -- The thirteen samples.

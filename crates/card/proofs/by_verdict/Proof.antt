@@ -21,7 +21,10 @@ same-length-2 : tie.Need-same-length-2
 same-length-2 c = search needs
 
 returns : tie.Need-returns
-returns c = simp (c .before .before .before .before .before .before .before .before .enum-told .given .1) (c .before .before .before .before .fit-step .ensures)
+returns c =
+    let c4 = c .before .before .before .before in
+    let c8 = c4 .before .before .before .before in
+    simp (c8 .enum-told .given .1) (c4 .fit-step .ensures)
 
 returns-2 : tie.Need-returns-2
 returns-2 c = simp (c .before .before .verdict .given .1, c .refuse .ensures)

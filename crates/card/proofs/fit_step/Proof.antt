@@ -1,6 +1,5 @@
 use mathlib.Core.Path.{ap}
 use Rattle.card.specs.Step.{fitStep, stepped}
-use Rattle.port.specs.Data.{Effect}
 use borrow.Author.Needs.{needs}
 use Rattle.card.proofs.fit_step.Statement.{statement}
 use Rattle.card.proofs.fit_step.Tie as tie
@@ -25,7 +24,7 @@ unfolding fitStep
 returns c =
     let c5 = c .before .before .before .before .before in
     let c9 = c5 .before .before .before .before in
-    simp (c .reply-of .ensures) (ap (λ (x : Effect). stepped x) (simp (c9 .decide .ensures) at (c5 .perform .ensures)))
+    simp (c .reply-of .ensures) (ap stepped (simp (c9 .decide .ensures) at (c5 .perform .ensures)))
 
 pub fit-step-spec : {M : Type 1} → statement M
 fit-step-spec =

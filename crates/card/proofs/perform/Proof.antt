@@ -1,6 +1,5 @@
 use mathlib.Core.Path.{ap}
 use Rattle.card.specs.Perform.{perform, optionWritten}
-use Rattle.registers.specs.Machine.{Machine}
 use Rattle.port.specs.Data.{accepted}
 use borrow.Author.Needs.{needs}
 use Rattle.card.proofs.perform.Statement.{statement}
@@ -80,7 +79,9 @@ returns-3 c = simp (c .before .before .enum-told .given .1, c .accepted2 .ensure
 
 returns-4 : tie.Need-returns-4
 unfolding perform optionWritten
-returns-4 c = simp (c .before .before .before .before .meaning3 .given .1, c .accepted3 .ensures, c .before .write-option .ensures .0, c .before .write-option .ensures .1)
+returns-4 c =
+    let c4 = c .before .before .before .before in
+    simp (c4 .meaning3 .given .1, c .accepted3 .ensures, c .before .write-option .ensures .0, c .before .write-option .ensures .1)
 
 returns-5 : tie.Need-returns-5
 unfolding perform
@@ -94,7 +95,10 @@ same-length-2 c = search needs
 
 returns-6 : tie.Need-returns-6
 unfolding perform
-returns-6 c = simp (c .before .before .before .before .before .before .before .before .before .before .meaning5 .given .1, c .accepted4 .ensures) (ap (λ (x : Machine). accepted 0 x) (c .before .before .before .before .before .write-register .ensures))
+returns-6 c =
+    let c5 = c .before .before .before .before .before in
+    let c10 = c5 .before .before .before .before .before in
+    simp (c10 .meaning5 .given .1, c .accepted4 .ensures) (ap (accepted 0) (c5 .write-register .ensures))
 
 same-length-3 : tie.Need-same-length-3
 same-length-3 c = search needs
@@ -114,7 +118,10 @@ same-length-6 c = search needs
 
 returns-8 : tie.Need-returns-8
 unfolding perform
-returns-8 c = simp (c .before .before .before .before .before .before .before .before .before .meaning7 .given .1) (c .before .before .before .before .write-data .ensures)
+returns-8 c =
+    let c4 = c .before .before .before .before in
+    let c9 = c4 .before .before .before .before .before in
+    simp (c9 .meaning7 .given .1) (c4 .write-data .ensures)
 
 pub perform-spec : {M : Type 1} → statement M
 perform-spec =

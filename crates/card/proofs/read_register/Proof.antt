@@ -15,7 +15,9 @@ accepted-requires : tie.Need-accepted-requires
 accepted-requires c κs = search needs
 
 returns : tie.Need-returns
-returns c = simp (c .accepted .ensures, c .before .wide .ensures .0, c .before .before .after-read .ensures, c .before .before .before .before .value-read .ensures)
+returns c =
+    let c4 = c .before .before .before .before in
+    simp (c .accepted .ensures, c .before .wide .ensures .0, c .before .before .after-read .ensures, c4 .value-read .ensures)
 
 pub read-register-spec : {M : Type 1} → statement M
 read-register-spec =

@@ -19,8 +19,11 @@ same-length-2 c = search needs
 
 returns : tie.Need-returns
 returns c =
-    let m = machine (c .before .before .before .before .before .before .before .before .before .before .before .before .before .before .args .core) (c .before .before .before .before .before .before .before .before .before .before .before .before .before .before .args .buffer .now) (c .before .before .before .before .before .before .before .before .before .before .before .before .before .before .args .store .now) (c .before .before .before .before .before .before .before .before .before .before .before .before .before .before .args .marks .now) in
-    simp (c .before .before .before .before .before .before .before .before .verdict-of .ensures) at (c .before .before .before .before .by-verdict .ensures) ∙ verdict-step m _
+    let c4 = c .before .before .before .before in
+    let c8 = c4 .before .before .before .before in
+    let c14 = c8 .before .before .before .before .before .before in
+    let m = machine (c14 .args .core) (c14 .args .buffer .now) (c14 .args .store .now) (c14 .args .marks .now) in
+    simp (c8 .verdict-of .ensures) at (c4 .by-verdict .ensures) ∙ verdict-step m _
 
 pub step-spec : {M : Type 1} → statement M
 step-spec =

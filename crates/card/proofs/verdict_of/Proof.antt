@@ -8,7 +8,7 @@ use borrow.Author.Tests.{eq-eqb, ne-eqb}
 use Rattle.ground.proofs.Picks.{un-not}
 use Rattle.registers.specs.State.{totalIn}
 use Rattle.registers.specs.WellMade.{wellMade}
-use Rattle.card.specs.Verdict.{verdictOf}
+use Rattle.card.specs.Access.{verdictOf}
 use borrow.Author.Needs.{needs}
 use Rattle.card.proofs.verdict_of.Statement.{statement}
 use Rattle.card.proofs.verdict_of.Tie as tie

@@ -6,8 +6,6 @@ use Rattle.ground.proofs.Tests.{tests}
 use borrow.Author.Needs.{needs}
 use Rattle.geometry.proofs.locate_chs.Statement.{statement}
 use Rattle.geometry.proofs.locate_chs.Tie as tie
-use Rattle.geometry.proofs.locate_chs.Reads as reads
-use Rattle.geometry.proofs.locate_chs.Lts as lts
 use Prim.Native.Nat.{_+_, _*_, _≤_}
 
 cast-heads : tie.Need-cast-heads
@@ -35,11 +33,12 @@ returns-4 : tie.Need-returns-4
 unfolding locateChs every
 returns-4 c = search tests
 
--- The index of any 16-bit geometry fits.
-abbrev start : lts.Else4 reads.Pre reads.Post → lts.Start reads.Pre reads.Post
+abbrev start : tie.Else4 → tie.Start
 start c = c .before .before .before .before .before .before .before
 
-bounds : (c : lts.Else4 reads.Pre reads.Post) → let a = start c .args in (a .cylinder * a .current .heads ≤ 4294836225) × ((a .cylinder * a .current .heads + a .head) * a .current .sectors ≤ 4294836240 * 65535)
+-- The index of any 16-bit geometry fits.
+bounds : (c : tie.Else4) → let a = start c .args in
+    (a .cylinder * a .current .heads ≤ 4294836225) × ((a .cylinder * a .current .heads + a .head) * a .current .sectors ≤ 4294836240 * 65535)
 bounds c =
     let a = start c .args in
     index-most (a .cylinder) (a .head) (a .current .heads) (a .current .sectors) (omega arith) (omega arith) (omega arith) (omega arith)

@@ -6,6 +6,7 @@ use Rattle.port.proofs.part_read.Tie as tie
 word-read-requires : tie.Need-word-read-requires
 word-read-requires c κs = search needs
 
+-- a whole word does not look at the phase
 returns : tie.Need-returns
 unfolding wordRead
 returns c =

@@ -12,10 +12,13 @@ same-length c = search needs
 same-length-2 : tie.Need-same-length-2
 same-length-2 c = search needs
 
+-- a whole word does not look at the phase
 returns : tie.Need-returns
 unfolding wordWritten
 returns c =
-    simp (c .before .before .before .before .before .before .before .if1 .taken) (c .before .before .before .before .word-written .ensures)
+    let c4 = c .before .before .before .before in
+    let c7 = c4 .before .before .before in
+    simp (c7 .if1 .taken) (c4 .word-written .ensures)
 
 halved-requires : tie.Need-halved-requires
 halved-requires c κs = search needs

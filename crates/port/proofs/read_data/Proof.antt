@@ -39,15 +39,21 @@ accepted-requires-3 c κs = search needs
 
 returns-2 : tie.Need-returns-2
 unfolding dataRead
-returns-2 c = simp (c .before .before .before .before .if1 .left, c .before .before .enum-told .given .1, c .accepted2 .ensures, c .before .absent-value .ensures)
+returns-2 c =
+    let c4 = c .before .before .before .before in
+    simp (c4 .if1 .left, c .before .before .enum-told .given .1, c .accepted2 .ensures, c .before .absent-value .ensures)
 
 returns-3 : tie.Need-returns-3
 unfolding dataRead
-returns-3 c = simp (c .before .before .before .before .before .if1 .left, c .before .before .before .phase .given .1) (simp (c .before .before .before .phase .given .1) at (c .taken-read .ensures))
+returns-3 c =
+    let c5 = c .before .before .before .before .before in
+    simp (c5 .if1 .left, c .before .before .before .phase .given .1) (simp (c .before .before .before .phase .given .1) at (c .taken-read .ensures))
 
 returns-4 : tie.Need-returns-4
 unfolding dataRead
-returns-4 c = simp (c .before .before .before .before .if1 .left, c .before .before .enum-told2 .given .1, c .accepted3 .ensures, c .before .absent-value2 .ensures)
+returns-4 c =
+    let c4 = c .before .before .before .before in
+    simp (c4 .if1 .left, c .before .before .enum-told2 .given .1, c .accepted3 .ensures, c .before .absent-value2 .ensures)
 
 pub read-data-spec : {M : Type 1} → statement M
 read-data-spec =

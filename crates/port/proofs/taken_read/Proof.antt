@@ -1,6 +1,5 @@
 use Rattle.port.specs.Halves.{partValue}
 use Rattle.port.specs.Data.{accepted}
-use Rattle.registers.specs.Machine.{Machine}
 use mathlib.Core.Path.{sym, ap, _∙_}
 use borrow.Author.Needs.{needs}
 use Rattle.port.proofs.taken_read.Statement.{statement}
@@ -33,10 +32,13 @@ returns c =
 
 returns-2 : tie.Need-returns-2
 returns-2 c =
-    let e = sym (c .before .before .before .before .before .before .before .before .take-of .ensures) ∙ c .before .before .before .before .before .before .part .given .1 in
-    let a = c .before .before .before .before .before .before .before .before .before .before .before .args in
+    let c6 = c .before .before .before .before .before .before in
+    let c8 = c6 .before .before in
+    let c11 = c8 .before .before .before in
+    let e = sym (c8 .take-of .ensures) ∙ c6 .part .given .1 in
+    let a = c11 .args in
     simp (e, c .accepted .ensures, c .before .before .before .part-value .ensures)
-    (ap (λ (m : Machine). accepted (partValue (c .before .before .before .before .before .before .part .given .0 .0) (a .transfer .words) (a .buffer .now)) m) (c .before .part-read .ensures))
+    (ap (accepted (partValue (c6 .part .given .0 .0) (a .transfer .words) (a .buffer .now))) (c .before .part-read .ensures))
 
 pub taken-read-spec : {M : Type 1} → statement M
 taken-read-spec =

@@ -1,5 +1,4 @@
 use Rattle.port.specs.Data.{accepted}
-use Rattle.registers.specs.Machine.{Machine}
 use mathlib.Core.Path.{sym, ap, _∙_}
 use borrow.Author.Needs.{needs}
 use Rattle.port.proofs.taken_written.Statement.{statement}
@@ -38,10 +37,14 @@ same-length-2 c = search needs
 
 returns-2 : tie.Need-returns-2
 returns-2 c =
-    let e = sym (c .before .before .before .before .before .before .before .before .before .before .before .before .before .before .take-of .ensures) ∙ c .before .before .before .before .before .before .before .before .before .before .before .before .part .given .1 in
-    let w = simp (c .before .before .before .before .before .before .before .before .before .put-part .ensures) at (c .before .before .before .before .before .part-written .ensures) in
-    simp (e, c .accepted .ensures, c .before .before .before .before .before .before .before .before .before .put-part .ensures)
-    (ap (λ (m : Machine). accepted 0 m) w)
+    let c5 = c .before .before .before .before .before in
+    let c9 = c5 .before .before .before .before in
+    let c12 = c9 .before .before .before in
+    let c14 = c12 .before .before in
+    let e = sym (c14 .take-of .ensures) ∙ c12 .part .given .1 in
+    let w = simp (c9 .put-part .ensures) at (c5 .part-written .ensures) in
+    simp (e, c .accepted .ensures, c9 .put-part .ensures)
+    (ap (accepted 0) w)
 
 pub taken-written-spec : {M : Type 1} → statement M
 taken-written-spec =

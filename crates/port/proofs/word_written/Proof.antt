@@ -22,7 +22,10 @@ same-length-2 c = search needs
 
 returns-2 : tie.Need-returns-2
 unfolding wordWritten
-returns-2 c = simp (le-ltb _ _ (c .before .before .before .before .before .before .before .if1 .left)) (c .before .before .before .before .load-written .ensures)
+returns-2 c =
+    let c4 = c .before .before .before .before in
+    let c7 = c4 .before .before .before in
+    simp (le-ltb _ _ (c7 .if1 .left)) (c4 .load-written .ensures)
 
 pub word-written-spec : {M : Type 1} → statement M
 word-written-spec =

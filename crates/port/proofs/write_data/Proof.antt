@@ -44,7 +44,11 @@ same-length-2 c = search needs
 
 returns-4 : tie.Need-returns-4
 unfolding dataWritten
-returns-4 c = simp (c .before .before .before .before .before .before .before .before .before .before .before .if1 .left, c .before .before .before .before .before .before .before .before .before .phase .given .1) (simp (c .before .before .before .before .before .before .before .before .before .phase .given .1) at (c .before .before .before .before .taken-written .ensures))
+returns-4 c =
+    let c4 = c .before .before .before .before in
+    let c9 = c4 .before .before .before .before .before in
+    let c11 = c9 .before .before in
+    simp (c11 .if1 .left, c9 .phase .given .1) (simp (c9 .phase .given .1) at (c4 .taken-written .ensures))
 
 pub write-data-spec : {M : Type 1} → statement M
 write-data-spec =

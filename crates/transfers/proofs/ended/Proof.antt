@@ -12,7 +12,9 @@ code-requires : tie.Need-code-requires
 code-requires c κs = search needs
 
 returns : tie.Need-returns
-returns c = simp (c .before .before .before .before .status .ensures, c .before .before .before .error .ensures, c .before .before .code .ensures)
+returns c =
+    let c4 = c .before .before .before .before in
+    simp (c4 .status .ensures, c .before .before .before .error .ensures, c .before .before .code .ensures)
 
 pub ended-spec : {M : Type 1} → statement M
 ended-spec = tie.close (tie.spec status-requires error-requires code-requires returns)

@@ -40,7 +40,10 @@ same-length-2 : tie.Need-same-length-2
 same-length-2 c = search needs
 
 returns-2 : tie.Need-returns-2
-returns-2 c = simp (c .before .before .before .before .before .before .before .before .before .before .before .before .load .given .1, sym (c .before .before .before .before .before .before .before .before .sector-stored .ensures), c .before .before .enum-told2 .given .1, c .next-asked .ensures, c .before .less-one .ensures)
+returns-2 c =
+    let c8 = c .before .before .before .before .before .before .before .before in
+    let c12 = c8 .before .before .before .before in
+    simp (c12 .load .given .1, sym (c8 .sector-stored .ensures), c .before .before .enum-told2 .given .1, c .next-asked .ensures, c .before .less-one .ensures)
 
 same-length-3 : tie.Need-same-length-3
 same-length-3 c = search needs
@@ -49,7 +52,10 @@ same-length-4 : tie.Need-same-length-4
 same-length-4 c = search needs
 
 returns-3 : tie.Need-returns-3
-returns-3 c = simp (c .before .before .before .before .before .before .before .before .before .before .before .before .load .given .1, sym (c .before .before .before .before .before .before .before .before .sector-stored .ensures), c .before .before .end .given .1, c .ended2 .ensures)
+returns-3 c =
+    let c8 = c .before .before .before .before .before .before .before .before in
+    let c12 = c8 .before .before .before .before in
+    simp (c12 .load .given .1, sym (c8 .sector-stored .ensures), c .before .before .end .given .1, c .ended2 .ensures)
 
 pub load-written-spec : {M : Type 1} → statement M
 load-written-spec =

@@ -25,7 +25,9 @@ ended-requires c κs = search needs
 returns : tie.Need-returns
 unfolding readSector
 returns c =
-    let e = sym (c .before .before .before .before .before .before .sector-test .ensures) ∙ c .before .before .before .before .spot .given .1 in
+    let c4 = c .before .before .before .before in
+    let c6 = c4 .before .before in
+    let e = sym (c6 .sector-test .ensures) ∙ c4 .spot .given .1 in
     simp (e, c .begun .ensures, c .before .load-sector .ensures)
 
 returns-2 : tie.Need-returns-2

@@ -25,8 +25,11 @@ same-length-2 c = search needs
 returns : tie.Need-returns
 unfolding sectorStored
 returns c =
-    let e = sym (c .before .before .before .before .before .before .before .before .before .before .sector-test .ensures) ∙ c .before .before .before .before .before .before .before .before .spot .given .1 in
-    let w = sym (c .before .before .before .before .store-sector .ensures) in
+    let c4 = c .before .before .before .before in
+    let c8 = c4 .before .before .before .before in
+    let c10 = c8 .before .before in
+    let e = sym (c10 .sector-test .ensures) ∙ c8 .spot .given .1 in
+    let w = sym (c4 .store-sector .ensures) in
     simp (e, w)
 
 same-length-3 : tie.Need-same-length-3

@@ -19,7 +19,9 @@ allows-requires c κs = search needs
 returns : tie.Need-returns
 unfolding sectorTest
 returns c =
-    let e = sym (c .before .before .before .before .before .before .address-test .ensures) ∙ c .before .before .before .before .spot .given .1 in
+    let c4 = c .before .before .before .before in
+    let c6 = c4 .before .before in
+    let e = sym (c6 .address-test .ensures) ∙ c4 .spot .given .1 in
     let w = simp (c .before .before .byte-or-zero .ensures) at (sym (c .before .allows .ensures) ∙ c .if1 .taken) in
     simp (e, w)
 
@@ -32,7 +34,9 @@ enum-known-end c = search needs
 returns-2 : tie.Need-returns-2
 unfolding sectorTest
 returns-2 c =
-    let e = sym (c .before .before .before .before .before .before .before .address-test .ensures) ∙ c .before .before .before .before .before .spot .given .1 in
+    let c5 = c .before .before .before .before .before in
+    let c7 = c5 .before .before in
+    let e = sym (c7 .address-test .ensures) ∙ c5 .spot .given .1 in
     let w = simp (c .before .before .before .byte-or-zero .ensures) at (sym (c .before .before .allows .ensures) ∙ c .before .if1 .left) in
     simp (e, w, c .mark-end .ensures)
 

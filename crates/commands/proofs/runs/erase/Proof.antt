@@ -33,13 +33,16 @@ loop-less c = search needs
 loop-again : tie.Need-loop-again Inv-loop μ-loop
 unfolding allFF
 loop-again c =
-    let t = c .before .before .before .before .before .before .before .sector-stored in
-    let l = c .before .before .before .before .before .before .before .before .before .before .before .before .loop in
+    let c7 = c .before .before .before .before .before .before .before in
+    let c11 = c7 .before .before .before .before in
+    let c12 = c11 .before in
+    let t = c7 .sector-stored in
+    let l = c12 .loop in
     let k = t .kept .1 .1 in
     let e = simp (c .before .enum-told .given .1) at (t .ensures) in (
       k .0 ∙ l .inv .0,
       k .1 .0 ∙ l .inv .1,
-      rw (c .sector-done .ensures) (sym (erase-step _ _ _ _ _ _ _ (c .before .before .before .before .before .before .before .before .before .before .before .loop-test .taken) e) ∙ l .inv .2),
+      rw (c .sector-done .ensures) (sym (erase-step _ _ _ _ _ _ _ (c11 .loop-test .taken) e) ∙ l .inv .2),
     )
 
 enum-known-end : tie.Need-enum-known-end Inv-loop μ-loop
@@ -57,8 +60,11 @@ same-length-2 c = search needs
 returns : tie.Need-returns Inv-loop μ-loop
 unfolding allFF
 returns c =
-    let e = simp (c .before .before .end .given .1) at (c .before .before .before .before .before .before .before .before .sector-stored .ensures) in
-    simp (c .ended .ensures) (sym (erase-fails _ _ _ _ _ _ _ (c .before .before .before .before .before .before .before .before .before .before .before .before .loop-test .taken) e) ∙ c .before .before .before .before .before .before .before .before .before .before .before .before .before .loop .inv .2)
+    let c8 = c .before .before .before .before .before .before .before .before in
+    let c12 = c8 .before .before .before .before in
+    let c13 = c12 .before in
+    let e = simp (c .before .before .end .given .1) at (c8 .sector-stored .ensures) in
+    simp (c .ended .ensures) (sym (erase-fails _ _ _ _ _ _ _ (c12 .loop-test .taken) e) ∙ c13 .loop .inv .2)
 
 ended-requires-2 : tie.Need-ended-requires-2 Inv-loop μ-loop
 ended-requires-2 c κs = search needs

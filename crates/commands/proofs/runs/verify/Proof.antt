@@ -31,8 +31,10 @@ loop-less c = search needs
 
 loop-again : tie.Need-loop-again Inv-loop μ-loop
 loop-again c =
+    let c4 = c .before .before .before .before in
+    let c5 = c4 .before in
     let e = sym (c .before .before .before .sector-test .ensures) ∙ c .before .enum-told .given .1 in
-    rw (c .sector-done .ensures) (sym (verify-step _ _ _ _ (c .before .before .before .before .loop-test .taken) e) ∙ c .before .before .before .before .before .loop .inv)
+    rw (c .sector-done .ensures) (sym (verify-step _ _ _ _ (c4 .loop-test .taken) e) ∙ c5 .loop .inv)
 
 enum-known-end : tie.Need-enum-known-end Inv-loop μ-loop
 enum-known-end c = search needs
@@ -42,8 +44,11 @@ ended-requires c κs = search needs
 
 returns : tie.Need-returns Inv-loop μ-loop
 returns c =
-    let e = sym (c .before .before .before .before .sector-test .ensures) ∙ c .before .before .end .given .1 in
-    simp (c .ended .ensures) (sym (verify-fails _ _ _ _ (c .before .before .before .before .before .loop-test .taken) e) ∙ c .before .before .before .before .before .before .loop .inv)
+    let c4 = c .before .before .before .before in
+    let c5 = c4 .before in
+    let c6 = c5 .before in
+    let e = sym (c4 .sector-test .ensures) ∙ c .before .before .end .given .1 in
+    simp (c .ended .ensures) (sym (verify-fails _ _ _ _ (c5 .loop-test .taken) e) ∙ c6 .loop .inv)
 
 ended-requires-2 : tie.Need-ended-requires-2 Inv-loop μ-loop
 ended-requires-2 c κs = search needs

@@ -17,7 +17,10 @@ same-length-2 c = search needs
 
 returns : tie.Need-returns
 unfolding commandGiven
-returns c = simp (c .before .before .before .before .before .before .before .before .command-of .ensures) at (c .before .before .before .before .obey .ensures)
+returns c =
+    let c4 = c .before .before .before .before in
+    let c8 = c4 .before .before .before .before in
+    simp (c8 .command-of .ensures) at (c4 .obey .ensures)
 
 pub command-given-spec : {M : Type 1} → statement M
 command-given-spec =

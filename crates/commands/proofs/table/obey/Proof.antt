@@ -109,16 +109,24 @@ same-length-2 : tie.Need-same-length-2
 same-length-2 c = search needs
 
 returns : tie.Need-returns
-returns c = simp (c .before .before .before .before .before .enum-told .given .1) (simp (c .before .before .before .before .before .before .before .started .ensures, c .before .before .before .before .count-of .ensures) at (c .read-sector .ensures))
+returns c =
+    let c4 = c .before .before .before .before in
+    let c5 = c4 .before in
+    let c7 = c5 .before .before in
+    simp (c5 .enum-told .given .1) (simp (c7 .started .ensures, c4 .count-of .ensures) at (c .read-sector .ensures))
 
 returns-2 : tie.Need-returns-2
-returns-2 c = simp (c .before .before .enum-told2 .given .1, c .ask-sector .ensures, c .before .count-of2 .ensures, c .before .before .before .before .started .ensures)
+returns-2 c =
+    let c4 = c .before .before .before .before in
+    simp (c .before .before .enum-told2 .given .1, c .ask-sector .ensures, c .before .count-of2 .ensures, c4 .started .ensures)
 
 same-length-3 : tie.Need-same-length-3
 same-length-3 c = search needs
 
 returns-3 : tie.Need-returns-3
-returns-3 c = simp (c .before .before .before .enum-told3 .given .1, c .verify .ensures, c .before .before .count-of3 .ensures, c .before .before .before .before .before .started .ensures)
+returns-3 c =
+    let c5 = c .before .before .before .before .before in
+    simp (c .before .before .before .enum-told3 .given .1, c .verify .ensures, c .before .before .count-of3 .ensures, c5 .started .ensures)
 
 same-length-4 : tie.Need-same-length-4
 same-length-4 c = search needs
@@ -128,11 +136,17 @@ same-length-5 c = search needs
 
 returns-4 : tie.Need-returns-4
 returns-4 c =
-    let w = simp (c .before .before .before .before .before .before .before .count-of4 .ensures, c .before .before .before .before .before .before .before .before .before .before .started .ensures) at (sym (c .before .before .before .before .erase .ensures)) in
-    simp (c .before .before .before .before .before .before .before .before .enum-told4 .given .1, w)
+    let c4 = c .before .before .before .before in
+    let c7 = c4 .before .before .before in
+    let c8 = c7 .before in
+    let c10 = c8 .before .before in
+    let w = simp (c7 .count-of4 .ensures, c10 .started .ensures) at (sym (c4 .erase .ensures)) in
+    simp (c8 .enum-told4 .given .1, w)
 
 returns-5 : tie.Need-returns-5
-returns-5 c = simp (c .before .before .before .enum-told5 .given .1, c .begun .ensures, c .before .identify .ensures, c .before .before .before .before .before .started .ensures)
+returns-5 c =
+    let c5 = c .before .before .before .before .before in
+    simp (c .before .before .before .enum-told5 .given .1, c .begun .ensures, c .before .identify .ensures, c5 .started .ensures)
 
 returns-6 : tie.Need-returns-6
 returns-6 c = simp (c .before .enum-told6 .given .1, c .begun2 .ensures, c .before .before .before .started .ensures)
@@ -144,7 +158,9 @@ returns-8 : tie.Need-returns-8
 returns-8 c = simp (c .before .enum-told8 .given .1, c .set-geometry .ensures, c .before .before .before .started .ensures)
 
 returns-9 : tie.Need-returns-9
-returns-9 c = simp (c .before .before .enum-told9 .given .1, c .ended .ensures, c .before .diagnosed .ensures, c .before .before .before .before .started .ensures)
+returns-9 c =
+    let c4 = c .before .before .before .before in
+    simp (c .before .before .enum-told9 .given .1, c .ended .ensures, c .before .diagnosed .ensures, c4 .started .ensures)
 
 returns-10 : tie.Need-returns-10
 returns-10 c = simp (c .before .enum-told10 .given .1, c .ended2 .ensures, c .before .before .before .started .ensures)

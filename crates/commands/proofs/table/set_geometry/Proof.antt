@@ -22,10 +22,17 @@ ended-requires-2 : tie.Need-ended-requires-2
 ended-requires-2 c κs = search needs
 
 returns : tie.Need-returns
-returns c = let e = simp (c .before .before .before .before .before .total .ensures) at (sym (c .before .before .before .before .reshape .ensures) ∙ c .before .before .geometry .given .1) in simp (e, c .ended .ensures)
+returns c =
+    let c4 = c .before .before .before .before in
+    let c5 = c4 .before in
+    let e = simp (c5 .total .ensures) at (sym (c4 .reshape .ensures) ∙ c .before .before .geometry .given .1) in
+    simp (e, c .ended .ensures)
 
 returns-2 : tie.Need-returns-2
-returns-2 c = let e = simp (c .before .before .before .before .total .ensures) at (sym (c .before .before .before .reshape .ensures) ∙ c .before .enum-told .given .1) in simp (e, c .ended2 .ensures)
+returns-2 c =
+    let c4 = c .before .before .before .before in
+    let e = simp (c4 .total .ensures) at (sym (c .before .before .before .reshape .ensures) ∙ c .before .enum-told .given .1) in
+    simp (e, c .ended2 .ensures)
 
 pub set-geometry-spec : {M : Type 1} → statement M
 set-geometry-spec =

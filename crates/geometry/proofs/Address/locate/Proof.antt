@@ -34,7 +34,9 @@ locate-chs-requires c κs = search needs
 returns-2 : tie.Need-returns-2
 unfolding locate
 returns-2 c =
-    let b = sym (c .before .before .before .before .before .by-lba .ensures) ∙ c .before .before .before .before .if1 .left in
+    let c4 = c .before .before .before .before in
+    let c5 = c4 .before in
+    let b = sym (c5 .by-lba .ensures) ∙ c4 .if1 .left in
     simp (b, c .locate-chs .ensures, c .before .before .head-number .ensures .0, c .before .before .before .cylinder .ensures .0)
 
 pub locate-spec : {M : Type 1} → statement M

@@ -25,7 +25,8 @@ at-chs-requires c κs = search needs
 returns : tie.Need-returns
 unfolding nextChs
 returns c =
-    simp (c .at-chs .ensures, lt-ltb _ _ (c .before .if1 .taken), c .before .before .before .cylinder .ensures .0, c .before .before .before .before .head-number .ensures .0)
+    let c4 = c .before .before .before .before in
+    simp (c .at-chs .ensures, lt-ltb _ _ (c .before .if1 .taken), c .before .before .before .cylinder .ensures .0, c4 .head-number .ensures .0)
 
 add-if2 : tie.Need-add-if2
 add-if2 c = search needs
@@ -42,8 +43,10 @@ at-chs-requires-2 c κs = search needs
 returns-2 : tie.Need-returns-2
 unfolding nextChs
 returns-2 c =
-    let h = rw (c .before .before .before .before .before .before .head-number .ensures .0) at (c .before .if2 .taken) in
-    simp (c .at-chs2 .ensures, le-ltb _ _ (c .before .before .before .if1 .left), lt-ltb _ _ h, c .before .before .before .before .before .cylinder .ensures .0, c .before .before .before .before .before .before .head-number .ensures .0)
+    let c5 = c .before .before .before .before .before in
+    let c6 = c5 .before in
+    let h = rw (c6 .head-number .ensures .0) at (c .before .if2 .taken) in
+    simp (c .at-chs2 .ensures, le-ltb _ _ (c .before .before .before .if1 .left), lt-ltb _ _ h, c5 .cylinder .ensures .0, c6 .head-number .ensures .0)
 
 add-at-chs-3 : tie.Need-add-at-chs-3
 add-at-chs-3 c = search needs
@@ -54,8 +57,10 @@ at-chs-requires-3 c κs = search needs
 returns-3 : tie.Need-returns-3
 unfolding nextChs
 returns-3 c =
-    let h = rw (c .before .before .before .before .before .before .head-number .ensures .0) at (c .before .if2 .left) in
-    simp (c .at-chs3 .ensures, le-ltb _ _ (c .before .before .before .if1 .left), le-ltb _ _ h, c .before .before .before .before .before .cylinder .ensures .0)
+    let c5 = c .before .before .before .before .before in
+    let c6 = c5 .before in
+    let h = rw (c6 .head-number .ensures .0) at (c .before .if2 .left) in
+    simp (c .at-chs3 .ensures, le-ltb _ _ (c .before .before .before .if1 .left), le-ltb _ _ h, c5 .cylinder .ensures .0)
 
 pub next-chs-spec : {M : Type 1} → statement M
 next-chs-spec =

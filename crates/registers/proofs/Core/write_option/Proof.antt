@@ -15,7 +15,9 @@ option-turned-requires : tie.Need-option-turned-requires
 option-turned-requires c κs = search needs
 
 returns : tie.Need-returns
-returns c = simp (c .before .before .turn-of .ensures, c .before .before .before .sreset-in2 .ensures, c .before .before .before .before .sreset-in .ensures) at (c .option-turned .ensures)
+returns c =
+    let c4 = c .before .before .before .before in
+    simp (c .before .before .turn-of .ensures, c .before .before .before .sreset-in2 .ensures, c4 .sreset-in .ensures) at (c .option-turned .ensures)
 
 pub write-option-spec : {M : Type 1} → statement M
 write-option-spec =

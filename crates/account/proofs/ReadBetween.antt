@@ -3,6 +3,7 @@ use Prim.Native.Nat.{ℕ, zero, suc, _+_, _*_, _/_, _<_}
 use mathlib.Core.Bool.{Bool, true, false}
 use mathlib.Core.Path.{_≡_, refl}
 use mathlib.Core.List.{List, [], _∷_}
+use native.Mathlib.Numerals.{sub-one}
 use native.Mathlib.Omega.{arith}
 use lib.Dec.{ltb}
 use lib.ListN.{length, take, drop}
@@ -34,7 +35,7 @@ use Rattle.account.proofs.Seats.{Seated, Where, courseIn, onward, passe
 use Rattle.account.proofs.Tried.{read-tested}
 use Rattle.account.proofs.Verifying.{where-good}
 use Rattle.account.proofs.Rest.{bare, here, Ground, Running, Between, Loaded, loaded-of}
-use Rattle.account.proofs.Reading.{sector-read, pred}
+use Rattle.account.proofs.Reading.{sector-read}
 
 bytes-take : (n : ℕ) (l : List ℕ) → AllBytes l → AllBytes (take n l)
 bytes-take zero l h i = omega arith
@@ -48,9 +49,9 @@ bytes-drop n l h i = rw getD-drop (h (n + i))
 sector-bytes : (i : ℕ) (l : List ℕ) → AllBytes l → AllBytes (sectorAt l i)
 sector-bytes i l h = bytes-take 512 (drop (512 * i) l) (bytes-drop (512 * i) l h)
 
-pub read-held : (n : ℕ) (c : Course) (i : ℕ) (m : Machine) → Ground In m → Seated c i (suc n) (m .state) → Where c i (m .state) → Between In (readSector (suc n) m) None
+pub read-between : (n : ℕ) (c : Course) (i : ℕ) (m : Machine) → Ground In m → Seated c i (suc n) (m .state) → Where c i (m .state) → Between In (readSector (suc n) m) None
 unfolding readSector sectorOf
-read-held n c i m g q w =
+read-between n c i m g q w =
     read-tested c i (m .state) (m .marks)
     (λ (x : Tested) (e : Ending). Between In (readTested x (suc n) m) None)
     w
@@ -62,19 +63,19 @@ read-held n c i m g q w =
     (g, (omega arith, sector-length (m .store) i y, sector-bytes i (m .store) (g .2), tt, loaded-of c i n (m .state) q (where-good c i (m .state) w r))))
     (λ f z. (g, refl))
 
-next-held : (n : ℕ) (c : Course) (i : ℕ) (m : Machine) → Ground In m → Seated c i (suc n) (m .state) → locatedIn (m .state) ≡ Located.Good (record { index = i }) → Between In (nextRead n m) None
+next-between : (n : ℕ) (c : Course) (i : ℕ) (m : Machine) → Ground In m → Seated c i (suc n) (m .state) → locatedIn (m .state) ≡ Located.Good (record { index = i }) → Between In (nextRead n m) None
 unfolding nextRead
-next-held zero c i m g q e = unfold sectorDone in (g, refl)
-next-held (suc n) c i m g q e =
+next-between zero c i m g q e = unfold sectorDone in (g, refl)
+next-between (suc n) c i m g q e =
     let z = seat-next c (suc n) i (m .state) (g .0) e (q .2) in
-    rw (passed-on n (m .state), ne-eqb (suc n) 0 (omega arith)) (read-held n c (i + 1) (idleWith (onward (suc n) (m .state)) m) g (z .0) (z .1))
+    rw (passed-on n (m .state), ne-eqb (suc n) 0 (omega arith)) (read-between n c (i + 1) (idleWith (onward (suc n) (m .state)) m) g (z .0) (z .1))
 
-load-held : (l : Load) (m : Machine) → Ground In m → Loaded l (bare (plainOf m)) → Between In (loadRead l m) None
-load-held Buffer m g k = (g, refl)
-load-held (Sectors zero) m g k = absurd (omega (arith, k .1))
-load-held (Sectors (suc n)) m g k = rw (pred n) (next-held n (courseIn (m .state)) (here (m .state)) m g (k .2, k .3, refl) (k .0))
+load-between : (l : Load) (m : Machine) → Ground In m → Loaded l (bare (plainOf m)) → Between In (loadRead l m) None
+load-between Buffer m g k = (g, refl)
+load-between (Sectors zero) m g k = absurd (omega (arith, k .1))
+load-between (Sectors (suc n)) m g k = rw (sub-one (suc n)) (next-between n (courseIn (m .state)) (here (m .state)) m g (k .2, k .3, refl) (k .0))
 
-pub word-held : (b : Bool) (t : Transfer) (m : Machine) (q : Waiting) → ltb (t .words) 255 ≡ b → Ground In m → Running In t (plainOf m) q →
+pub word-between : (b : Bool) (t : Transfer) (m : Machine) (q : Waiting) → ltb (t .words) 255 ≡ b → Ground In m → Running In t (plainOf m) q →
     Between In (pick b (withPhase (DataIn (nextWord t)) m) (loadRead (t .load) (dropped m))) None
-word-held true t m q e g r = let h : t .words < 255 = ltb-true _ _ e in (g, (omega arith, r .1, r .2, tt, r .4))
-word-held false t m q e g r = load-held (t .load) (dropped m) g (r .4)
+word-between true t m q e g r = let h : t .words < 255 = ltb-true _ _ e in (g, (omega arith, r .1, r .2, tt, r .4))
+word-between false t m q e g r = load-between (t .load) (dropped m) g (r .4)

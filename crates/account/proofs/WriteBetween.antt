@@ -3,6 +3,7 @@ use Prim.Native.Nat.{ℕ, zero, suc, _+_, _<_}
 use mathlib.Core.Bool.{Bool, true, false}
 use mathlib.Core.Path.{_≡_, refl, sym, subst}
 use mathlib.Core.List.{List}
+use native.Mathlib.Numerals.{sub-one}
 use native.Mathlib.Omega.{arith}
 use lib.Dec.{ltb}
 use lib.ListN.{length, set, getD}
@@ -32,52 +33,51 @@ use Rattle.account.specs.Notes.{None, Waiting}
 use Rattle.account.proofs.Seats.{Seated, Where, pastEnd, courseIn, onward, passed-on, seat-next}
 use Rattle.account.proofs.Stored.{stored-is, stored-lent}
 use Rattle.account.proofs.Rest.{bare, here, Ground, Running, Between, Loaded, loaded-of}
-use Rattle.account.proofs.Reading.{pred}
 use Rattle.account.proofs.WordWritten.{store-test, here-inside}
 
-past-held : (l : Bool) (n : ℕ) (first : Bool) (s : State) (b t k : List ℕ) → Ground Out (idle s b t k) →
+past-between : (l : Bool) (n : ℕ) (first : Bool) (s : State) (b t k : List ℕ) → Ground Out (idle s b t k) →
     Between Out (machine (askTested (testedOf (pick l Located.BadLba Located.BadCylinder)) n first s) b t k) None
-past-held true n first s b t k g = (g, refl)
-past-held false n first s b t k g = (g, refl)
+past-between true n first s b t k g = (g, refl)
+past-between false n first s b t k g = (g, refl)
 
 ask-by : (v : Bool) (n : ℕ) (first : Bool) (c : Course) (i : ℕ) (s : State) (b t k : List ℕ) → length b ≡ 512 → Ground Out (idle s b t k) → Seated c i (suc n) s →
     locatedIn s ≡ pick v (Located.Good (record { index = i })) (pastEnd c) →
     Between Out (machine (askTested (testedOf (pick v (Located.Good (record { index = i })) (pastEnd c))) (suc n) first s) b t k) None
 ask-by true n first c i s b t k e g q w = (g, (omega arith, e, tt, tt, loaded-of c i n s q w))
-ask-by false n first c i s b t k e g q w = past-held (c .lba) (suc n) first s b t k g
+ask-by false n first c i s b t k e g q w = past-between (c .lba) (suc n) first s b t k g
 
-pub ask-held : (n : ℕ) (first : Bool) (c : Course) (i : ℕ) (s : State) (b t k : List ℕ) → length b ≡ 512 → Ground Out (idle s b t k) → Seated c i (suc n) s → Where c i s →
+pub ask-between : (n : ℕ) (first : Bool) (c : Course) (i : ℕ) (s : State) (b t k : List ℕ) → length b ≡ 512 → Ground Out (idle s b t k) → Seated c i (suc n) s → Where c i s →
     Between Out (machine (askSector (suc n) first s) b t k) None
 unfolding askSector addressTest
-ask-held n first c i s b t k e g q w =
+ask-between n first c i s b t k e g q w =
     subst (λ (l : Located). Between Out (machine (askTested (testedOf l) (suc n) first s) b t k) None) (sym w) (ask-by (ltb i (c .room)) n first c i s b t k e g q w)
 
-asked-held : (n : ℕ) (c : Course) (i : ℕ) (s : State) (b t k : List ℕ) → length b ≡ 512 → Ground Out (idle s b t k) → Seated c i (suc n) s → locatedIn s ≡ Located.Good (record { index = i }) →
+asked-between : (n : ℕ) (c : Course) (i : ℕ) (s : State) (b t k : List ℕ) → length b ≡ 512 → Ground Out (idle s b t k) → Seated c i (suc n) s → locatedIn s ≡ Located.Good (record { index = i }) →
     Between Out (machine (nextAsked n s) b t k) None
 unfolding nextAsked
-asked-held zero c i s b t k f g q e = unfold sectorDone in (g, refl)
-asked-held (suc n) c i s b t k f g q e =
+asked-between zero c i s b t k f g q e = unfold sectorDone in (g, refl)
+asked-between (suc n) c i s b t k f g q e =
     let z = seat-next c (suc n) i s (g .0) e (q .2) in
-    rw (passed-on n s, ne-eqb (suc n) 0 (omega arith)) (ask-held n false c (i + 1) (onward (suc n) s) b t k f g (z .0) (z .1))
+    rw (passed-on n s, ne-eqb (suc n) 0 (omega arith)) (ask-between n false c (i + 1) (onward (suc n) s) b t k f g (z .0) (z .1))
 
-marked-held : (u : Bool) (n : ℕ) (c : Course) (i : ℕ) (m : Machine) → i < totalOf (m .state .made .default) → length (m .buffer) ≡ 512 → Ground Out m → Seated c i (suc n) (m .state) →
+marked-between : (u : Bool) (n : ℕ) (c : Course) (i : ℕ) (m : Machine) → i < totalOf (m .state .made .default) → length (m .buffer) ≡ 512 → Ground Out m → Seated c i (suc n) (m .state) →
     locatedIn (m .state) ≡ Located.Good (record { index = i }) →
     Between Out (writtenBy (storedBy (pick u (Passes (record { index = i })) (Fails End.WriteFault)) (m .buffer) (m .store) (m .marks)) n m) None
-marked-held true n c i m h f g q e =
+marked-between true n c i m h f g q e =
     rw (stored-is (totalOf (m .state .made .default)) i (m .store) (m .marks) (m .buffer) h (g .1))
-    (asked-held n c i (m .state) (m .buffer) (putSector i (m .buffer) (m .store)) (set (m .marks) i 0) f
+    (asked-between n c i (m .state) (m .buffer) (putSector i (m .buffer) (m .store)) (set (m .marks) i 0) f
     (g .0, stored-lent (totalOf (m .state .made .default)) i (m .store) (m .marks) (m .buffer) h (g .1) f, tt, g .3, g .4) q e)
-marked-held false n c i m h f g q e = (g, refl)
+marked-between false n c i m h f g q e = (g, refl)
 
-written-held : (l : Load) (m : Machine) → length (m .buffer) ≡ 512 → Ground Out m → Loaded l (bare (plainOf m)) → Between Out (loadWritten l m) None
+written-between : (l : Load) (m : Machine) → length (m .buffer) ≡ 512 → Ground Out m → Loaded l (bare (plainOf m)) → Between Out (loadWritten l m) None
 unfolding sectorStored
-written-held Buffer m f g k = (g, refl)
-written-held (Sectors zero) m f g k = absurd (omega (arith, k .1))
-written-held (Sectors (suc n)) m f g k =
-    rw (store-test (here (m .state)) (m .state) (m .marks) (k .0), pred n)
-    (marked-held (writable (getD (m .marks) (here (m .state)) 0)) n (courseIn (m .state)) (here (m .state)) m (here-inside (m .state) (g .0) (k .0)) f g (k .2, k .3, refl) (k .0))
+written-between Buffer m f g k = (g, refl)
+written-between (Sectors zero) m f g k = absurd (omega (arith, k .1))
+written-between (Sectors (suc n)) m f g k =
+    rw (store-test (here (m .state)) (m .state) (m .marks) (k .0), sub-one (suc n))
+    (marked-between (writable (getD (m .marks) (here (m .state)) 0)) n (courseIn (m .state)) (here (m .state)) m (here-inside (m .state) (g .0) (k .0)) f g (k .2, k .3, refl) (k .0))
 
-pub word-written-held : (v : Bool) (t : Transfer) (m : Machine) (b : List ℕ) (q : Waiting) → ltb (t .words) 255 ≡ v → length b ≡ 512 → Ground Out m → Running Out t (plainOf m) q →
+pub word-written-between : (v : Bool) (t : Transfer) (m : Machine) (b : List ℕ) (q : Waiting) → ltb (t .words) 255 ≡ v → length b ≡ 512 → Ground Out m → Running Out t (plainOf m) q →
     Between Out (pick v (withPhase (DataOut (nextWord t)) (withBuffer b m)) (loadWritten (t .load) (dropped (withBuffer b m)))) None
-word-written-held true t m b q e f g r = let h : t .words < 255 = ltb-true _ _ e in (g, (omega arith, f, tt, tt, r .4))
-word-written-held false t m b q e f g r = written-held (t .load) (dropped (withBuffer b m)) f g (r .4)
+word-written-between true t m b q e f g r = let h : t .words < 255 = ltb-true _ _ e in (g, (omega arith, f, tt, tt, r .4))
+word-written-between false t m b q e f g r = written-between (t .load) (dropped (withBuffer b m)) f g (r .4)
