@@ -1,12 +1,12 @@
 -- Bytes and marks outside the sectors that are replaced, blanked or cleared stay.
 use Prim.Native.Nat.{ℕ, zero, suc, _+_, _-_, _*_, _≤_, _<_}
 use mathlib.Core.Bool.{Bool, true, false}
-use mathlib.Core.Path.{_≡_, refl, ap, _∙_}
+use mathlib.Core.Path.{_≡_, refl, sym, ap, _∙_}
 use mathlib.Core.List.{List, [], _∷_, _++_}
 use native.Mathlib.Nat.{le-of-suc-le-suc, not-suc-le-zero}
 use native.Mathlib.Omega.{arith}
 use lib.Dec.{ltb}
-use lib.ListN.{length, take, drop, set, getD, replicate, length-drop}
+use lib.ListN.{length, take, drop, set, getD, replicate, length-drop, length-set}
 use lib.Seq.{getD-set-other, length-take-le, getD-append-add, getD-take, getD-drop}
 use borrow.Author.Tests.{ltb-true}
 use Rattle.ground.specs.Choice.{pick}
@@ -15,9 +15,9 @@ use Rattle.account.specs.Course.{Course}
 use Rattle.account.specs.Runs.{Run, tried, runFrom, tests, putSector, replaced, blanked, cleared}
 use Rattle.account.proofs.Stored.{put-length}
 
--- the same below one place and from another one on
+-- as long, and the same below one place and from another one on
 abbrev pub Same : ℕ → ℕ → List ℕ → List ℕ → Type 0
-Same low high s t = ((k : ℕ) → k < low → getD t k 0 ≡ getD s k 0) × ((k : ℕ) → high ≤ k → getD t k 0 ≡ getD s k 0)
+Same low high s t = ((k : ℕ) → k < low → getD t k 0 ≡ getD s k 0) × ((k : ℕ) → high ≤ k → getD t k 0 ≡ getD s k 0) × (length t ≡ length s)
 
 in-first : (a b : List ℕ) (k : ℕ) → k < length a → getD (a ++ b) k 0 ≡ getD a k 0
 in-first [] b k h = absurd (not-suc-le-zero h)
@@ -49,11 +49,12 @@ put-then : (i k n : ℕ) (b s t : List ℕ) → i + suc k ≤ n → length b ≡
 put-then i k n b s t h e f z = (
   λ x y. z .0 x (omega arith) ∙ put-before i b s x (omega arith) y,
   λ x y. z .1 x (omega arith) ∙ put-behind i b s x (omega arith) e (omega arith),
+  z .2 ∙ put-length i n b s (omega arith) e f ∙ sym f,
 )
 
 pub replaced-same : (k i n : ℕ) (d s : List ℕ) → 512 * k ≤ length d → i + k ≤ n → length s ≡ 512 * n → Same (512 * i) (512 * (i + k)) s (replaced i k d s)
 unfolding replaced
-replaced-same zero i n d s l h f = (λ x y. refl, λ x y. refl)
+replaced-same zero i n d s l h f = (λ x y. refl, λ x y. refl, refl)
 replaced-same (suc k) i n d s l h f =
     let e : length (take 512 d) ≡ 512 = length-take-le 512 d (omega arith) in
     put-then i k n (take 512 d) s (replaced (i + 1) k (drop 512 d) (putSector i (take 512 d) s)) h e f
@@ -61,17 +62,17 @@ replaced-same (suc k) i n d s l h f =
 
 pub blanked-same : (k i n : ℕ) (s : List ℕ) → i + k ≤ n → length s ≡ 512 * n → Same (512 * i) (512 * (i + k)) s (blanked i k s)
 unfolding blanked
-blanked-same zero i n s h f = (λ x y. refl, λ x y. refl)
+blanked-same zero i n s h f = (λ x y. refl, λ x y. refl, refl)
 blanked-same (suc k) i n s h f =
     put-then i k n (replicate 512 0xFF) s (blanked (i + 1) k (putSector i (replicate 512 0xFF) s)) h refl f
     (blanked-same k (i + 1) n (putSector i (replicate 512 0xFF) s) (omega arith) (put-length i n (replicate 512 0xFF) s (omega arith) refl f))
 
 pub cleared-same : (k i : ℕ) (s : List ℕ) → Same i (i + k) s (cleared i k s)
 unfolding cleared
-cleared-same zero i s = (λ x y. refl, λ x y. refl)
+cleared-same zero i s = (λ x y. refl, λ x y. refl, refl)
 cleared-same (suc k) i s =
     let z = cleared-same k (i + 1) (set s i 0) in
-    (λ x y. z .0 x (omega arith) ∙ getD-set-other s i x 0 0 (omega arith), λ x y. z .1 x (omega arith) ∙ getD-set-other s i x 0 0 (omega arith))
+    (λ x y. z .0 x (omega arith) ∙ getD-set-other s i x 0 0 (omega arith), λ x y. z .1 x (omega arith) ∙ getD-set-other s i x 0 0 (omega arith), z .2 ∙ length-set s i 0)
 
 -- ---- a run does sectors of its room only, and not more than are asked for
 

@@ -25,7 +25,7 @@ use Rattle.account.proofs.Theorem.{as-the-account}
 use Rattle.account.proofs.Corollaries.{AcceptedCommand, after, ends-store}
 use Rattle.account.proofs.Elsewhere.{Same, replaced-same, blanked-same, cleared-same, run-inside, run-most}
 
--- the bytes of the store and the marks outside n sectors from the first one are the same; with no first sector, all of them
+-- the store and the marks are as long as before, and the same outside n sectors from the first one; with no first sector, all the same
 abbrev pub OnlyNamed : Located → ℕ → Plain → Plain → Type 0
 OnlyNamed (Located.Good spot) n p q = Same (512 * spot .index) (512 * (spot .index + n)) (p .store) (q .store) × Same (spot .index) (spot .index + n) (p .marks) (q .marks)
 OnlyNamed Located.BadHeadOrSector n p q = (q .store ≡ p .store) × (q .marks ≡ p .marks)
@@ -34,7 +34,7 @@ OnlyNamed Located.BadLba n p q = (q .store ≡ p .store) × (q .marks ≡ p .mar
 
 -- fewer sectors than those named
 wider : (s t u : List ℕ) (low high more : ℕ) → high ≤ more → u ≡ t → Same low high s t → Same low more s u
-wider s t u low high more h e z = rw e (z .0, λ k y. z .1 k (omega arith))
+wider s t u low high more h e z = rw e (z .0, λ k y. z .1 k (omega arith), z .2)
 
 module _ (n total : ℕ) (o : Plain) (s : length (o .store) ≡ 512 * total) (r : courseOf o .room ≤ total) where
   -- as the command starts
