@@ -95,7 +95,8 @@ module _ (n : ℕ) (m : Machine) (b : Bytes (m .state .registers .address)) (c :
       ≡ fromFirst l (λ q. q) (λ i. eraseSectors (courseOf (plainOf m)) i (suc n) (plainOf m)) (plainOf m)
   unfolding eraseFrom sectorStored sectorTest addressTest
   erase-begins (Located.Good spot) g e =
-      erase-is n (courseIn (m .state)) (spot .index) (m .state) (m .buffer) (m .store) (m .marks) (g .0) (g .1) (seated n (spot .index) (m .state) b c e) (where-first (spot .index) (m .state) (g .0) e)
+      erase-is n (courseIn (m .state)) (spot .index) (m .state) (m .buffer) (m .store) (m .marks) (g .0) (g .1)
+      (seated n (spot .index) (m .state) b c e) (where-first (spot .index) (m .state) (g .0) e)
   erase-begins Located.BadHeadOrSector g e = rw e
   erase-begins Located.BadCylinder g e = rw e
   erase-begins Located.BadLba g e = rw e

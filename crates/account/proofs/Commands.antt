@@ -82,7 +82,8 @@ read-all-between m g h =
 pub write-all : (m : Machine) (d : List ℕ) → Ground Out m → Eight (m .state) → writes (plainOf m) d ≡ rest (withCore (askSector (countOf (m .state)) true (m .state)) m) d
 write-all m d g h =
     rw (count-is (m .state))
-    (asked-elim (λ (n : ℕ). fromFirst (first (plainOf m)) silent (λ i. writeSectors (courseOf (plainOf m)) i n (plainOf m) d) (plainOf m) ≡ rest (withCore (askSector n true (m .state)) m) d) (m .state .registers .count) (h .0)
+    (asked-elim (λ (n : ℕ). fromFirst (first (plainOf m)) silent (λ i. writeSectors (courseOf (plainOf m)) i n (plainOf m) d) (plainOf m) ≡ rest (withCore (askSector n true (m .state)) m) d)
+    (m .state .registers .count) (h .0)
     (λ n e. sym (write-begins n m (h .1) e (first (plainOf m)) d g (first-is m (g .0)))))
 
 pub write-all-between : (m : Machine) → length (m .buffer) ≡ 512 → Ground Out m → Eight (m .state) → Between Out (withCore (askSector (countOf (m .state)) true (m .state)) m) None
@@ -94,13 +95,15 @@ write-all-between m f g h =
 pub verify-all : (m : Machine) → Ground In m → Eight (m .state) → verifies (plainOf m) ≡ plainIn (verifyFrom (countOf (m .state)) (m .state) (m .marks) .state) (m .buffer) (m .store) (m .marks)
 verify-all m g h =
     rw (count-is (m .state))
-    (asked-elim (λ (n : ℕ). fromFirst (first (plainOf m)) (λ q. q) (λ i. verifySectors (courseOf (plainOf m)) i n (plainOf m)) (plainOf m) ≡ plainIn (verifyFrom n (m .state) (m .marks) .state) (m .buffer) (m .store) (m .marks))
+    (asked-elim (λ (n : ℕ). fromFirst (first (plainOf m)) (λ q. q) (λ i. verifySectors (courseOf (plainOf m)) i n (plainOf m)) (plainOf m)
+    ≡ plainIn (verifyFrom n (m .state) (m .marks) .state) (m .buffer) (m .store) (m .marks))
     (m .state .registers .count) (h .0)
     (λ n e. sym (verify-begins n m (h .1) e (first (plainOf m)) g (first-is m (g .0)))))
 
 pub erase-all : (m : Machine) → Ground In m → Eight (m .state) →
     erases (plainOf m)
-    ≡ plainIn (eraseFrom (countOf (m .state)) (m .state) (m .store) (m .marks) .core .state) (m .buffer) (eraseFrom (countOf (m .state)) (m .state) (m .store) (m .marks) .store) (eraseFrom (countOf (m .state)) (m .state) (m .store) (m .marks) .marks)
+    ≡ plainIn (eraseFrom (countOf (m .state)) (m .state) (m .store) (m .marks) .core .state) (m .buffer)
+    (eraseFrom (countOf (m .state)) (m .state) (m .store) (m .marks) .store) (eraseFrom (countOf (m .state)) (m .state) (m .store) (m .marks) .marks)
 erase-all m g h =
     rw (count-is (m .state))
     (asked-elim (λ (n : ℕ). fromFirst (first (plainOf m)) (λ q. q) (λ i. eraseSectors (courseOf (plainOf m)) i n (plainOf m)) (plainOf m)
@@ -117,15 +120,20 @@ set-by false true g s b t k = refl
 set-by false false g s b t k = refl
 
 pub set-is : (s : State) (b t k : List ℕ) → Shaped (s .made) (s .current) →
-    setsGeometry (s .registers .count) (s .registers .address .head % 16 + 1) (plainIn s b t k) ≡ plainIn (reshapedEnded (reshaped (s .registers .count) (s .registers .address .head) (totalIn s)) s .state) b t k
+    setsGeometry (s .registers .count) (s .registers .address .head % 16 + 1) (plainIn s b t k)
+    ≡ plainIn (reshapedEnded (reshaped (s .registers .count) (s .registers .address .head) (totalIn s)) s .state) b t k
 unfolding setsGeometry reshaped
-set-is s b t k h = rw (h .1) (set-by (eqb (s .registers .count) 0) (ltb (sectorsOf (s .made .default)) ((s .registers .address .head % 16 + 1) * s .registers .count)) (shaped (s .registers .address .head % 16 + 1) (s .registers .count) (sectorsOf (s .made .default))) s b t k)
+set-is s b t k h =
+    rw (h .1) (set-by (eqb (s .registers .count) 0)
+    (ltb (sectorsOf (s .made .default)) ((s .registers .address .head % 16 + 1) * s .registers .count))
+    (shaped (s .registers .address .head % 16 + 1) (s .registers .count) (sectorsOf (s .made .default))) s b t k)
 
 pub set-idle : (r : Reshaped) (s : State) → reshapedEnded r s .phase ≡ Idle
 set-idle (Reshaped.Taken g) s = refl
 set-idle Reshaped.Refused s = refl
 
-pub set-ground : (r : Reshaped) (s : State) (b t k : List ℕ) → currentFor (currentAfter r (s .current)) (totalOf (s .made .default)) ≡ true → Ground In (machine (core Idle s) b t k) → Ground In (machine (reshapedEnded r s) b t k)
+pub set-ground : (r : Reshaped) (s : State) (b t k : List ℕ) → currentFor (currentAfter r (s .current)) (totalOf (s .made .default)) ≡ true →
+    Ground In (machine (core Idle s) b t k) → Ground In (machine (reshapedEnded r s) b t k)
 set-ground (Reshaped.Taken x) s b t k e g = ((e, g .0 .1, g .0 .2), g .1, g .2, g .3, g .4)
 set-ground Reshaped.Refused s b t k e g = g
 
@@ -143,4 +151,5 @@ pub seek-is : (s : State) (b t k : List ℕ) → Shaped (s .made) (s .current) �
 unfolding seeks seek
 seek-is s b t k h =
     rw (h .1)
-    (seek-by (byLba (s .registers .address)) (ltb (lbaOf (s .registers .address)) (sectorsOf (s .made .default))) (ltb (headOf (s .registers .address)) (s .current .heads)) (ltb (cylinderOf (s .registers .address)) (s .current .cylinders)))
+    (seek-by (byLba (s .registers .address)) (ltb (lbaOf (s .registers .address)) (sectorsOf (s .made .default)))
+    (ltb (headOf (s .registers .address)) (s .current .heads)) (ltb (cylinderOf (s .registers .address)) (s .current .cylinders)))

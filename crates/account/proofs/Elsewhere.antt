@@ -83,7 +83,8 @@ tried-most Unreadable n i r = omega arith
 tried-most WriteFault n i r = omega arith
 tried-most (Aborted code) n i r = omega arith
 
-inside-by : (b : Bool) (x : Ending) (c : Course) (n i : ℕ) (r : Run) → ltb i (c .room) ≡ b → i ≤ c .room → (i + 1 ≤ c .room → i + 1 + r .done ≤ c .room) → i + tried (pick b x (NotFound 0x2F)) n i r .done ≤ c .room
+inside-by : (b : Bool) (x : Ending) (c : Course) (n i : ℕ) (r : Run) → ltb i (c .room) ≡ b → i ≤ c .room → (i + 1 ≤ c .room → i + 1 + r .done ≤ c .room) →
+    i + tried (pick b x (NotFound 0x2F)) n i r .done ≤ c .room
 inside-by true x c n i r e h f =
     let l : i < c .room = ltb-true i (c .room) e in
     let z = f (omega arith) in

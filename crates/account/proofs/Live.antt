@@ -72,7 +72,8 @@ read-is : (t : Transfer) (m : Machine) → m .state .control .held ≡ false →
 unfolding perform takeOf
 read-is t m h e f = free-read (λ d. record { moved = d; left = plainOf m }) Port.Word m h ∙ (rw (e, f))
 
-written-is : (t : Transfer) (m : Machine) → m .state .control .held ≡ false → m .phase ≡ DataOut t → t .half ≡ Half.Nothing → perform (WriteData Port.Word 0) m ≡ takenWritten (Take.Moves Part.Both true) 0 t m
+written-is : (t : Transfer) (m : Machine) → m .state .control .held ≡ false → m .phase ≡ DataOut t → t .half ≡ Half.Nothing →
+    perform (WriteData Port.Word 0) m ≡ takenWritten (Take.Moves Part.Both true) 0 t m
 unfolding perform takeOf
 written-is t m h e f = free-written (λ d. record { moved = d; left = plainOf m }) Port.Word 0 m h ∙ (rw (e, f))
 
@@ -81,7 +82,8 @@ module _ (plain : List ℕ → Account) (n : ℕ) where
   abbrev Claim : Way → Type 0
   Claim way = (m : Machine) (q : Notes) → Sound m → Rel way plain m q → q .waiting ≡ None → size (m .phase) ≤ n → Ends m
 
-  read-on : Claim In → (t : Transfer) (m : Machine) (q : Notes) → Sound m → Rel In plain m q → q .waiting ≡ None → m .phase ≡ DataIn t → Running In t (plainOf m) (q .waiting) → sizeOf t ≤ suc n → Ends m
+  read-on : Claim In → (t : Transfer) (m : Machine) (q : Notes) → Sound m → Rel In plain m q → q .waiting ≡ None → m .phase ≡ DataIn t →
+      Running In t (plainOf m) (q .waiting) → sizeOf t ≤ suc n → Ends m
   unfolding note
   read-on claim t m q s z w e r h =
       let f : t .half ≡ Half.Nothing = none-moved (t .half) (q .waiting) (t .words) (m .buffer) w (r .3) in
@@ -94,7 +96,8 @@ module _ (plain : List ℕ → Account) (n : ℕ) where
       (rw (x, w) refl)
       (rw x (omega arith)))
 
-  write-on : Claim Out → (t : Transfer) (m : Machine) (q : Notes) → Sound m → Rel Out plain m q → q .waiting ≡ None → m .phase ≡ DataOut t → Running Out t (plainOf m) (q .waiting) → sizeOf t ≤ suc n → Ends m
+  write-on : Claim Out → (t : Transfer) (m : Machine) (q : Notes) → Sound m → Rel Out plain m q → q .waiting ≡ None → m .phase ≡ DataOut t →
+      Running Out t (plainOf m) (q .waiting) → sizeOf t ≤ suc n → Ends m
   unfolding note
   write-on claim t m q s z w e r h =
       let f : t .half ≡ Half.Nothing = none-moved (t .half) (q .waiting) (t .words) (m .buffer) w (r .3) in

@@ -47,7 +47,8 @@ module _ (plain : List ℕ → Account) (t : Transfer) (m : Machine) (l : List �
   unfolding restAt
   high-read = record { account = a; ground = g; waits = (r .0, r .1, r .2, refl, r .4) }
 
-taken-keeps : (plain : List ℕ → Account) (h : Half) (w : Waiting) (port : Port) (t : Transfer) (m : Machine) (l : List ℕ) → Pending h w (t .words) (m .buffer) → Ground In m → Running In t (plainOf m) w →
+taken-keeps : (plain : List ℕ → Account) (h : Half) (w : Waiting) (port : Port) (t : Transfer) (m : Machine) (l : List ℕ) → Pending h w (t .words) (m .buffer) →
+    Ground In m → Running In t (plainOf m) w →
     ((d : List ℕ) → plain (l ++ d) ≡ moving l (restAt (DataIn t) (plainOf m) d)) → Rel In plain m (notes l w) →
     Rel In plain (takenRead (takeOf h port) t m .next) (noteRead (takenRead (takeOf h port) t m .outcome) port (notes l w))
 unfolding takeOf

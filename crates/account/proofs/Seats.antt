@@ -76,7 +76,8 @@ where-next n i s h e =
     (room-is s h)
     (next-law (s .registers .address) (s .current) (totalOf (s .made .default)) (record { index = i }) (h .0) (h .2) e)
 
-pub seat-next : (c : Course) (n i : ℕ) (s : State) → Shaped (s .made) (s .current) → locatedIn s ≡ Located.Good (record { index = i }) → courseIn s ≡ c → Seated c (i + 1) n (onward n s) × Where c (i + 1) (onward n s)
+pub seat-next : (c : Course) (n i : ℕ) (s : State) → Shaped (s .made) (s .current) → locatedIn s ≡ Located.Good (record { index = i }) → courseIn s ≡ c →
+    Seated c (i + 1) n (onward n s) × Where c (i + 1) (onward n s)
 seat-next c n i s h e q =
     subst (λ (d : Course). Seated d (i + 1) n (onward n s) × Where d (i + 1) (onward n s)) q
     ((refl, address-next n i s h e, course-kept n s), where-next n i s h e)

@@ -52,7 +52,8 @@ outside n i store marks bytes h l =
     let q : length store / 512 ≡ n = rw (l .0) (omega arith) in
     rw (q, le-ltb i n h)
 
-stored-by : (b : Bool) (n i : ℕ) (store marks bytes : List ℕ) → ltb i n ≡ b → length bytes ≡ 512 → LentFor n store marks → LentFor n (stored store marks i bytes .store) (stored store marks i bytes .marks)
+stored-by : (b : Bool) (n i : ℕ) (store marks bytes : List ℕ) → ltb i n ≡ b → length bytes ≡ 512 → LentFor n store marks →
+    LentFor n (stored store marks i bytes .store) (stored store marks i bytes .marks)
 stored-by true n i store marks bytes e f l = rw (stored-is n i store marks bytes (ltb-true i n e) l) (stored-lent n i store marks bytes (ltb-true i n e) l f)
 stored-by false n i store marks bytes e f l = rw (outside n i store marks bytes (ltb-false i n e) l) l
 

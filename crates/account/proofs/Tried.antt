@@ -74,7 +74,8 @@ past-end true P f = f End.BadLba refl
 past-end false P f = f End.BadCylinder refl
 
 -- past the end a mark is not looked at
-past-marked : (l : Bool) (allows : ℕ → Bool) (e : End) (marks : List ℕ) → markTested allows e (testedOf (pick l Located.BadLba Located.BadCylinder)) marks ≡ testedOf (pick l Located.BadLba Located.BadCylinder)
+past-marked : (l : Bool) (allows : ℕ → Bool) (e : End) (marks : List ℕ) →
+    markTested allows e (testedOf (pick l Located.BadLba Located.BadCylinder)) marks ≡ testedOf (pick l Located.BadLba Located.BadCylinder)
 past-marked true allows e marks = refl
 past-marked false allows e marks = refl
 

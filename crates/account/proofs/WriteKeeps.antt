@@ -62,10 +62,13 @@ module _ (plain : List ℕ → Account) (t : Transfer) (m : Machine) (l : List �
   low-last x v e = whole-written (set (m .buffer) (2 * t .words) v) v x (length-set (m .buffer) (2 * t .words) v ∙ r .1) (rw e (set-low (m .buffer) (t .words) inside v))
 
   both : (x y : ℕ) → Rel Out plain (wordWritten t (withBuffer (set (set (m .buffer) (2 * t .words) x) (2 * t .words + 1) y) m)) (notes (l ++ (x ∷ y ∷ [])) None)
-  both x y = whole-written (set (set (m .buffer) (2 * t .words) x) (2 * t .words + 1) y) x y (length-set (set (m .buffer) (2 * t .words) x) (2 * t .words + 1) y ∙ length-set (m .buffer) (2 * t .words) x ∙ r .1)
+  both x y =
+      whole-written (set (set (m .buffer) (2 * t .words) x) (2 * t .words + 1) y) x y
+      (length-set (set (m .buffer) (2 * t .words) x) (2 * t .words + 1) y ∙ length-set (m .buffer) (2 * t .words) x ∙ r .1)
       (set-whole (m .buffer) (t .words) inside x y)
 
-taken-keeps : (plain : List ℕ → Account) (h : Half) (w : Waiting) (port : Port) (v : ℕ) (t : Transfer) (m : Machine) (l : List ℕ) → Pending h w (t .words) (m .buffer) → Ground Out m → Running Out t (plainOf m) w →
+taken-keeps : (plain : List ℕ → Account) (h : Half) (w : Waiting) (port : Port) (v : ℕ) (t : Transfer) (m : Machine) (l : List ℕ) →
+    Pending h w (t .words) (m .buffer) → Ground Out m → Running Out t (plainOf m) w →
     ((d : List ℕ) → plain (l ++ d) ≡ moving l (restAt (DataOut t) (plainOf m) d)) → Rel Out plain m (notes l w) →
     Rel Out plain (takenWritten (takeOf h port) v t m .next) (noteWritten (takenWritten (takeOf h port) v t m .outcome) port v (notes l w))
 unfolding takeOf

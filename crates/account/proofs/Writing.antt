@@ -40,7 +40,8 @@ moved-more WriteFault k = refl
 moved-more (Aborted code) k = refl
 
 write-marked : (u : Bool) (n : ℕ) (c : Course) (i : ℕ) (p : Plain) (d : List ℕ) →
-    writeDone c i (tried (pick u WriteFault Well) (suc n) i (runFrom (tests unwritable WriteFault c (p .marks)) (i + 1) n)) p d ≡ moving (take 512 d) (storedThen u (suc n) i c p (take 512 d) (drop 512 d))
+    writeDone c i (tried (pick u WriteFault Well) (suc n) i (runFrom (tests unwritable WriteFault c (p .marks)) (i + 1) n)) p d
+    ≡ moving (take 512 d) (storedThen u (suc n) i c p (take 512 d) (drop 512 d))
 unfolding storedThen writeSectors firstSectors lastSectors replaced cleared
 write-marked true n c i p d = refl
 write-marked false n c i p d =

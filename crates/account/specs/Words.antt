@@ -23,7 +23,8 @@ identifyWords p =
     ++ (replicate 3 0
     ++ (replicate 24 0x2020
     ++ ((0 ∷ 0 ∷ 0x0200 ∷ 0 ∷ 0 ∷ 0 ∷ 1 ∷ [])
-    ++ ((p .current .cylinders ∷ p .current .heads ∷ p .current .sectors ∷ low (sectorsOf (p .current)) ∷ high (sectorsOf (p .current)) ∷ 0 ∷ low (sectorsOf (p .made .default)) ∷ high (sectorsOf (p .made .default)) ∷ [])
+    ++ ((p .current .cylinders ∷ p .current .heads ∷ p .current .sectors ∷ low (sectorsOf (p .current)) ∷ high (sectorsOf (p .current)) ∷ 0
+    ∷ low (sectorsOf (p .made .default)) ∷ high (sectorsOf (p .made .default)) ∷ [])
     ++ replicate 194 0)))))
 
 abbrev pub identifyData : Plain → List ℕ

@@ -36,7 +36,8 @@ pub chs-good : (c h s : ℕ) (g : Geometry) → Chs c h s g → locateChs c h s 
 unfolding locateChs every
 chs-good c h s g f = rw (lt-ltb _ _ (f .0), le-leb _ _ (f .1), le-leb _ _ (f .2), lt-ltb _ _ (f .3))
 
-chosen : (t u : Bool) (i : ℕ) (p : Spot) → pick t (pick u (Located.Good (record { index = i })) Located.BadCylinder) Located.BadHeadOrSector ≡ Located.Good p → (t ≡ true) × (u ≡ true) × (p .index ≡ i)
+chosen : (t u : Bool) (i : ℕ) (p : Spot) → pick t (pick u (Located.Good (record { index = i })) Located.BadCylinder) Located.BadHeadOrSector ≡ Located.Good p →
+    (t ≡ true) × (u ≡ true) × (p .index ≡ i)
 chosen true true i p e = (refl, refl, sym (ap indexOf e))
 chosen true false i p e = absurd (false≢true (ap found e))
 chosen false u i p e = absurd (false≢true (ap found e))

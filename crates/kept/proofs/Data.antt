@@ -48,7 +48,8 @@ next-fits Out t s w r = (r .0, r .1, w, r .3)
 onward : (way : Way) (t : Transfer) (d : Made) (m : Machine) → m .phase ≡ phaseOf way t → CoreFits d (coreOf m) → PhaseFits (phaseOf way t) (m .state)
 onward way t d m e f = subst (λ (p : Phase). PhaseFits p (m .state)) e (f .1)
 
-next-word : (way : Way) (t : Transfer) (d : Made) (m : Machine) → m .phase ≡ phaseOf way t → ltb (t .words) 255 ≡ true → CoreFits d (coreOf m) → CoreFits d (coreOf (withPhase (phaseOf way (nextWord t)) m))
+next-word : (way : Way) (t : Transfer) (d : Made) (m : Machine) → m .phase ≡ phaseOf way t → ltb (t .words) 255 ≡ true → CoreFits d (coreOf m) →
+    CoreFits d (coreOf (withPhase (phaseOf way (nextWord t)) m))
 next-word way t d m e w f =
     let l = ltb-true (t .words) 255 w in
     (f .0, next-fits way t (m .state) (le-leb (t .words + 1) 255 (omega arith)) (onward way t d m e f), f .2)

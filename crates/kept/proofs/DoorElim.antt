@@ -46,7 +46,8 @@ opened-elim P g mode store marks tuples x y z u v a =
 abbrev pub optionCard : ℕ → Card → Card
 optionCard v c = cardOf (optionCore v (c .phase) (c .state)) (optionBuffer v (c .state) (c .buffer))
 
-by-mode : (P : Answer → Type 0) (mode : Mode) (v : ℕ) (c : Card) → ((r : Refusal) → P (refusedBy r c)) → (PcCard ≡ mode → indexFits v ≡ true → P (acceptedAs (optionCard v c))) → P (optionByMode mode v c)
+by-mode : (P : Answer → Type 0) (mode : Mode) (v : ℕ) (c : Card) → ((r : Refusal) → P (refusedBy r c)) →
+    (PcCard ≡ mode → indexFits v ≡ true → P (acceptedAs (optionCard v c))) → P (optionByMode mode v c)
 by-mode P PcCard v c f a = pick-elim P (indexFits v) _ _ (a refl) (λ e. f _)
 by-mode P TrueIde v c f a = f _
 

@@ -62,7 +62,8 @@ option-stays : (v : ℕ) (d : Made) (p : Phase) (s : State) → sresetIn v ≡ s
 option-stays v d p s e o f r =
     ((f .0, f .1, f .2, o .0, o .1), (r .0, rw (same-sreset v s e) (r .1), r .2, run-same p s (withOption v s) refl refl (r .3)), λ c. c)
 
-option-by : (a b : Bool) (v : ℕ) (d : Made) (p : Phase) (s : State) → sresetIn (s .option) ≡ a → sresetIn v ≡ b → OptionFits v s → StateFits d s → PhaseFits p s → Turned d s (optionTurned (turnOf a b) v p s)
+option-by : (a b : Bool) (v : ℕ) (d : Made) (p : Phase) (s : State) → sresetIn (s .option) ≡ a → sresetIn v ≡ b → OptionFits v s → StateFits d s → PhaseFits p s →
+    Turned d s (optionTurned (turnOf a b) v p s)
 unfolding optionTurned turnOf
 option-by false true v d p s x y o f r = ((f .0, f .1, f .2, o .0, o .1), at-rest (withOption v (entered p s)) (entered-rests p s r), λ c. c)
 option-by true false v d p s x y o f r =

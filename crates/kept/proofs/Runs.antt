@@ -22,7 +22,8 @@ use Rattle.kept.proofs.Steps.{sector-stored}
 -- a sector of Erase by its tests, with n to come
 abbrev pub erasesOn : Tested → ℕ → State → List ℕ → List ℕ → Erased
 erasesOn x n s t k =
-    goesOn (storedBy x allFF t k .tested) (λ c. erased c (storedBy x allFF t k .store) (storedBy x allFF t k .marks)) s (eraseFrom n (sectorDone n s) (storedBy x allFF t k .store) (storedBy x allFF t k .marks))
+    goesOn (storedBy x allFF t k .tested) (λ c. erased c (storedBy x allFF t k .store) (storedBy x allFF t k .marks)) s
+    (eraseFrom n (sectorDone n s) (storedBy x allFF t k .store) (storedBy x allFF t k .marks))
 
 goes-elim : {A : Type 0} (P : A → Type 0) (t : Tested) (end : Core → A) (s : State) (rest : A) → ((e : End) → P (end (ended e true s))) → P rest → P (goesOn t end s rest)
 goes-elim P (Passes spot) end s rest f g = g

@@ -49,7 +49,8 @@ load-read (Sectors left) m =
 
 -- ---- writing
 
-by-hold : (held : Bool) (x : Effect) (l : List Change) (m : Machine) (v : ℕ) → storeMarksIn (x .next) ≡ changed l (storeMarksIn m) → storeMarksIn (pick held (accepted v m) x .next) ≡ changed (pick held [] l) (storeMarksIn m)
+by-hold : (held : Bool) (x : Effect) (l : List Change) (m : Machine) (v : ℕ) → storeMarksIn (x .next) ≡ changed l (storeMarksIn m) →
+    storeMarksIn (pick held (accepted v m) x .next) ≡ changed (pick held [] l) (storeMarksIn m)
 unfolding changed
 by-hold true x l m v e = refl
 by-hold false x l m v e = e
@@ -73,7 +74,8 @@ obeys Seek m = refl
 obeys Sense m = refl
 obeys Other m = refl
 
-command-written : (held : Bool) (v : ℕ) (m : Machine) → storeMarksIn (pick held m (commandGiven v (dropped m))) ≡ changed (pick held [] (commandChanges (commandOf v) (m .state) (m .marks))) (storeMarksIn m)
+command-written : (held : Bool) (v : ℕ) (m : Machine) →
+    storeMarksIn (pick held m (commandGiven v (dropped m))) ≡ changed (pick held [] (commandChanges (commandOf v) (m .state) (m .marks))) (storeMarksIn m)
 unfolding changed commandGiven
 command-written true v m = refl
 command-written false v m = obeys (commandOf v) m

@@ -39,7 +39,8 @@ use Rattle.kept.proofs.Decided.{meaning-elim}
 use Rattle.kept.proofs.Lent.{part-length}
 use Rattle.laws.specs.Changes.{Change, Whole, writes, erasures, commandChanges, registerChanges, loadChanges, takenChanges, phaseChanges, changes}
 
-writes-whole : (l : Located) (total : ℕ) (marks bytes : List ℕ) (rest : List Change) → ((p : Spot) → l ≡ Located.Good p → p .index < total) → length bytes ≡ 512 → Whole total rest → Whole total (writes l marks bytes rest)
+writes-whole : (l : Located) (total : ℕ) (marks bytes : List ℕ) (rest : List Change) → ((p : Spot) → l ≡ Located.Good p → p .index < total) → length bytes ≡ 512 →
+    Whole total rest → Whole total (writes l marks bytes rest)
 writes-whole (Located.Good spot) total marks bytes rest i b r = pick-elim (Whole total) (writable (getD marks (spot .index) 0)) _ _ (λ e. (i spot refl, b, r)) (λ e. tt)
 writes-whole Located.BadHeadOrSector total marks bytes rest i b r = tt
 writes-whole Located.BadCylinder total marks bytes rest i b r = tt
@@ -49,7 +50,8 @@ erasures-whole : (n : ℕ) (a : Address) (g : Geometry) (total : ℕ) (marks : L
 unfolding erasures
 erasures-whole zero a g total marks c = tt
 erasures-whole (suc n) a g total marks c =
-    writes-whole (locate a g total) total marks (replicate 512 0xFF) (erasures n (nextOf a g) g total marks) (λ p e. inside a g total p c e) (length-replicate {A = ℕ} 512 0xFF) (erasures-whole n (nextOf a g) g total marks c)
+    writes-whole (locate a g total) total marks (replicate 512 0xFF) (erasures n (nextOf a g) g total marks)
+    (λ p e. inside a g total p c e) (length-replicate {A = ℕ} 512 0xFF) (erasures-whole n (nextOf a g) g total marks c)
 
 of-command : (c : Command) (s : State) (marks : List ℕ) → currentFor (s .current) (totalIn s) ≡ true → Whole (totalIn s) (commandChanges c s marks)
 of-command Read s marks c = tt
@@ -89,7 +91,8 @@ of-taken (Take.Moves part true) v t m c b =
     pick-elim (Whole (totalIn (m .state))) (ltb (t .words) 255) _ _ (λ e. tt)
     (λ e. of-load (t .load) (withPart part (t .words) v (m .buffer)) m c (part-length part (t .words) v (m .buffer) ∙ b))
 
-of-phase : (p : Phase) (port : Port) (v : ℕ) (m : Machine) → currentFor (m .state .current) (totalIn (m .state)) ≡ true → length (m .buffer) ≡ 512 → Whole (totalIn (m .state)) (phaseChanges p port v m)
+of-phase : (p : Phase) (port : Port) (v : ℕ) (m : Machine) → currentFor (m .state .current) (totalIn (m .state)) ≡ true → length (m .buffer) ≡ 512 →
+    Whole (totalIn (m .state)) (phaseChanges p port v m)
 of-phase Idle port v m c b = tt
 of-phase (DataIn t) port v m c b = tt
 of-phase (DataOut t) port v m c b = of-taken (takeOf (t .half) port) v t m c b

@@ -56,7 +56,8 @@ Rest n s rest store marks = storeMarksOf (eraseFrom n s store marks) ≡ changed
 
 by-mark : (b : Bool) (spot : Spot) (n : ℕ) (s : State) (store marks marks0 : List ℕ) (rest : List Change) →
     Same marks marks0 → writable (getD marks (spot .index) 0) ≡ b → ((st mk : List ℕ) → Same mk marks0 → Rest n (sectorDone n s) rest st mk) →
-    storeMarksOf (erasesOn (pick b (Passes spot) (Fails WriteFault)) n s store marks) ≡ changed (pick b (record { index = spot .index; bytes = replicate 512 0xFF } ∷ rest) []) (storeMarks store marks)
+    storeMarksOf (erasesOn (pick b (Passes spot) (Fails WriteFault)) n s store marks)
+    ≡ changed (pick b (record { index = spot .index; bytes = replicate 512 0xFF } ∷ rest) []) (storeMarks store marks)
 unfolding changed allFF
 by-mark true spot n s store marks marks0 rest h w f = f _ _ (same-stored store marks marks0 (replicate 512 0xFF) (spot .index) h w)
 by-mark false spot n s store marks marks0 rest h w f = refl
@@ -88,5 +89,6 @@ erased-sectors (suc n) s store marks marks0 h =
     by-address (locatedIn s) n s store marks marks0 (erasures n (nextOf (s .registers .address) (s .current)) (s .current) (totalIn s) marks0) h
     (λ st mk g. subst (λ (r : List Change). Rest n (sectorDone n s) r st mk) (next-address n s marks0) (erased-sectors n (sectorDone n s) st mk marks0 g))
 
-pub erase-kept : (n : ℕ) (s : State) (store marks : List ℕ) → storeMarks (eraseFrom n s store marks .store) (eraseFrom n s store marks .marks) ≡ changed (erasures n (s .registers .address) (s .current) (totalIn s) marks) (storeMarks store marks)
+pub erase-kept : (n : ℕ) (s : State) (store marks : List ℕ) →
+    storeMarks (eraseFrom n s store marks .store) (eraseFrom n s store marks .marks) ≡ changed (erasures n (s .registers .address) (s .current) (totalIn s) marks) (storeMarks store marks)
 erase-kept n s store marks = erased-sectors n s store marks marks (λ j. refl)

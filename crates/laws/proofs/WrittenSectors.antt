@@ -30,12 +30,14 @@ use Rattle.laws.specs.Changes.{changed, storeMarksIn, writes, loadChange
 abbrev storeMarksOf : StoreTested → StoreMarks
 storeMarksOf k = storeMarks (k .store) (k .marks)
 
-by-mark : (b : Bool) (spot : Spot) (bytes store marks : List ℕ) → storeMarksOf (storedBy (pick b (Passes spot) (Fails WriteFault)) bytes store marks) ≡ changed (pick b (record { index = spot .index; bytes = bytes } ∷ []) []) (storeMarks store marks)
+by-mark : (b : Bool) (spot : Spot) (bytes store marks : List ℕ) →
+    storeMarksOf (storedBy (pick b (Passes spot) (Fails WriteFault)) bytes store marks) ≡ changed (pick b (record { index = spot .index; bytes = bytes } ∷ []) []) (storeMarks store marks)
 unfolding changed
 by-mark true spot bytes store marks = refl
 by-mark false spot bytes store marks = refl
 
-by-address : (l : Located) (bytes store marks : List ℕ) → storeMarksOf (storedBy (markTested writable WriteFault (testedOf l) marks) bytes store marks) ≡ changed (writes l marks bytes []) (storeMarks store marks)
+by-address : (l : Located) (bytes store marks : List ℕ) →
+    storeMarksOf (storedBy (markTested writable WriteFault (testedOf l) marks) bytes store marks) ≡ changed (writes l marks bytes []) (storeMarks store marks)
 unfolding changed
 by-address (Located.Good spot) bytes store marks = by-mark (writable (getD marks (spot .index) 0)) spot bytes store marks
 by-address Located.BadHeadOrSector bytes store marks = refl
@@ -47,7 +49,8 @@ unfolding changed sectorStored sectorTest addressTest
 load-written Buffer bytes m = refl
 load-written (Sectors left) bytes m = by-address (locatedIn (m .state)) bytes (m .store) (m .marks)
 
-by-word : (b : Bool) (l : Load) (bytes : List ℕ) (m x : Machine) → storeMarksIn x ≡ storeMarksIn m → storeMarksIn (pick b x (loadWritten l (dropped (withBuffer bytes m)))) ≡ changed (pick b [] (loadChanges l bytes m)) (storeMarksIn m)
+by-word : (b : Bool) (l : Load) (bytes : List ℕ) (m x : Machine) → storeMarksIn x ≡ storeMarksIn m →
+    storeMarksIn (pick b x (loadWritten l (dropped (withBuffer bytes m)))) ≡ changed (pick b [] (loadChanges l bytes m)) (storeMarksIn m)
 unfolding changed
 by-word true l bytes m x e = e
 by-word false l bytes m x e = load-written l bytes m
