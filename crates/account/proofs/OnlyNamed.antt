@@ -54,7 +54,7 @@ module _ (n total : ℕ) (o : Plain) (s : length (o .store) ≡ 512 * total) (r 
       let y = run-most (tests unwritable WriteFault (courseOf p) (p .marks)) n (spot .index) in
       let e = ends-store (k .ending) _ in (
         wider (p .store) _ _ (512 * spot .index) (512 * (spot .index + k .done)) (512 * (spot .index + n)) (omega arith) (e .0)
-        (replaced-same (k .done) (spot .index) total d (p .store) (f .1) (omega arith) s),
+            (replaced-same (k .done) (spot .index) total d (p .store) (f .1) (omega arith) s),
         wider (p .marks) _ _ (spot .index) (spot .index + k .done) (spot .index + n) (omega arith) (e .1) (cleared-same (k .done) (spot .index) (p .marks)),
       )
   write-named Located.BadHeadOrSector d h = (refl, refl)
@@ -69,7 +69,7 @@ module _ (n total : ℕ) (o : Plain) (s : length (o .store) ≡ 512 * total) (r 
       let y = run-most (tests unwritable WriteFault (courseOf p) (p .marks)) n (spot .index) in
       let e = ends-store (k .ending) _ in (
         wider (p .store) _ _ (512 * spot .index) (512 * (spot .index + k .done)) (512 * (spot .index + n)) (omega arith) (e .0)
-        (blanked-same (k .done) (spot .index) total (p .store) (omega arith) s),
+            (blanked-same (k .done) (spot .index) total (p .store) (omega arith) s),
         wider (p .marks) _ _ (spot .index) (spot .index + k .done) (spot .index + n) (omega arith) (e .1) (cleared-same (k .done) (spot .index) (p .marks)),
       )
   erase-named Located.BadHeadOrSector h = (refl, refl)

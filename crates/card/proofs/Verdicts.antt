@@ -9,9 +9,11 @@ use Rattle.card.specs.Perform.{perform}
 use Rattle.card.specs.Step.{stepped, step, fitStep}
 use Rattle.card.specs.Verdict.{byVerdict}
 
+-- the four tests, each as it came out
 abbrev pub tested : Bool → Bool → Bool → Bool → Verdict
 tested = verdictBy
 
+-- a verdict, and what is meant by it
 by-step : (v : Verdict) (m : Machine) (a : Access) → byVerdict v m a ≡ stepped (perform (meantBy v (decided (m .state) a)) m)
 unfolding fitStep perform
 by-step Fit m a = refl

@@ -17,8 +17,8 @@ use Rattle.registers.specs.State.{sresetIn, indexIn, totalIn}
 use Rattle.registers.specs.Machine.{Machine}
 use Rattle.registers.specs.WellMade.{wellMade}
 use Rattle.card.specs.declared.Meaning.{Meaning}
-use Rattle.card.specs.declared.Verdict.{Verdict}
 use Rattle.card.specs.declared.Meaning.the-variants.{TupleByte, ReadOption, WriteOption, ReadRegister, WriteRegister, ReadData, WriteData}
+use Rattle.card.specs.declared.Verdict.{Verdict}
 
 -- an access: any space, width, address and value, and the tuple buffer that is lent with it
 pub record Access : Type 0 where
@@ -73,7 +73,7 @@ verdictOf phase state store marks tuples =
     (eqb (length marks) (totalIn state))
     (eqb (length tuples) 256)
 
--- they come before the others
+-- they come before what is decided
 abbrev pub meantBy : Verdict → Meaning → Meaning
 meantBy Verdict.Fit k = k
 meantBy (Verdict.Refused r) k = Meaning.Refused r
