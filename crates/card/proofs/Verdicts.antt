@@ -1,17 +1,12 @@
 -- Rows 12, 2, 3 and 5, tried apart, and then the access: that is the card's step.
-use mathlib.Core.Bool.{Bool}
 use mathlib.Core.Path.{_≡_, refl}
 use Rattle.registers.specs.Machine.{Machine}
 use Rattle.card.specs.declared.Verdict.{Verdict}
 use Rattle.card.specs.declared.Verdict.the-variants.{Fit, Refused}
-use Rattle.card.specs.Access.{Access, decided, verdictBy, verdictOf, meantBy, meaning}
+use Rattle.card.specs.Access.{Access, decided, verdictOf, meantBy, meaning}
 use Rattle.card.specs.Perform.{perform}
 use Rattle.card.specs.Step.{stepped, step, fitStep}
 use Rattle.card.specs.Verdict.{byVerdict}
-
--- the four tests, each as it came out
-abbrev pub tested : Bool → Bool → Bool → Bool → Verdict
-tested = verdictBy
 
 -- a verdict, and what is meant by it
 by-step : (v : Verdict) (m : Machine) (a : Access) → byVerdict v m a ≡ stepped (perform (meantBy v (decided (m .state) a)) m)

@@ -6,7 +6,6 @@ use Rattle.card.specs.Access.{Access}
 use Rattle.card.specs.Step.{Stepped, fitStep}
 use Rattle.card.specs.declared.Verdict.{Verdict}
 use Rattle.card.specs.declared.Verdict.the-variants.{Fit, Refused}
-unfoldable pub use Rattle.card.specs.Access.{verdictOf}
 
 abbrev pub byVerdict : Verdict → Machine → Access → Stepped
 byVerdict Fit m a = fitStep m a

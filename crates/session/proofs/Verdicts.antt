@@ -12,19 +12,19 @@ use Rattle.answers.specs.declared.Refusal.the-variants.{NotWellMade, StoreLengt
 use Rattle.registers.specs.State.{totalIn}
 use Rattle.registers.specs.Machine.{Machine}
 use Rattle.registers.specs.WellMade.{wellMade}
-use Rattle.card.specs.Access.{Access}
+use Rattle.card.specs.Access.{Access, verdictBy, verdictOf}
 use Rattle.card.specs.Step.{Stepped, step, fitStep}
-use Rattle.card.proofs.Verdicts.{tested, verdict-step}
+use Rattle.card.proofs.Verdicts.{verdict-step}
 use Rattle.kept.specs.Sound.{CountFits, Sound}
 use Rattle.kept.proofs.Step.{fit-step-sound}
 use Rattle.card.specs.declared.Verdict.{Verdict}
 use Rattle.card.specs.declared.Verdict.the-variants.{Fit, Refused}
-use Rattle.card.specs.Verdict.{verdictOf, byVerdict}
+use Rattle.card.specs.Verdict.{byVerdict}
 
 not-fit : (r : Refusal) → Fit ≡ Refused r → ⊥
 not-fit r e = let z : _≡_ {A = ℕ} 0 1 = cc in omega arith
 
-all-hold : (w s k t : Bool) → Fit ≡ tested w s k t → (w ≡ true) × (s ≡ true) × (k ≡ true) × (t ≡ true)
+all-hold : (w s k t : Bool) → Fit ≡ verdictBy w s k t → (w ≡ true) × (s ≡ true) × (k ≡ true) × (t ≡ true)
 all-hold true true true true e = (refl, refl, refl, refl)
 all-hold true true true false e = absurd (not-fit TupleBufferLength e)
 all-hold true true false t e = absurd (not-fit MarksLength e)

@@ -21,7 +21,7 @@ ghost use Rattle.text.specs.Text.{line, shownValue};
 ghost use Rattle.text.specs.Digits.{lineNumber};
 ghost use Rattle.text.specs.Output.{output, put};
 ghost use Rattle.session.specs.Run.{wrapped, accessOf, scriptFrom, resultOf, shownAt, shown, ranAs};
-ghost use Rattle.card.specs.Verdict.{verdictOf};
+ghost use Rattle.card.specs.Access.{verdictOf};
 
 fn written_or_read(write: bool, value: u16, read: u16) -> u16
     ensures { λ r. ⌜ r ≡ pick write value read ⌝ }

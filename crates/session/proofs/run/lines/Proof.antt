@@ -12,7 +12,7 @@ use Rattle.records.specs.Record.{recordAt, afterOf}
 use Rattle.text.specs.Text.{bad}
 use Rattle.text.specs.Digits.{lineNumber, nextNumber}
 use Rattle.text.specs.Output.{Output, output, put}
-use Rattle.card.specs.Verdict.{verdictOf}
+use Rattle.card.specs.Access.{verdictOf}
 use Rattle.session.specs.Run.{wrapped, scriptFrom, resultOf, shownAt}
 use Rattle.text.proofs.Digits.{next-number, own-number}
 use Rattle.records.proofs.Fits.{access-fits}
