@@ -5,7 +5,7 @@ use mathlib.Core.Path.{_≡_, refl, ap, _∙_}
 use native.Mathlib.Nat.{div-le-self}
 use native.Mathlib.Omega.{arith}
 use lib.ListN.{length}
-use Rattle.ground.specs.Choice.{pick}
+use Rattle.ground.proofs.Picks.{neither}
 use Rattle.answers.specs.declared.Refusal.{Refusal}
 use Rattle.ground.proofs.Every.{each}
 use Rattle.geometry.proofs.Limits.{fits-facts, total-fits, current-facts}
@@ -40,10 +40,6 @@ lent-facts m a y n =
     meaning-elim
     (λ (k : Meaning). k ≡ y → (wellMade (m .phase) (m .state) ≡ true) × (length (m .store) ≡ 512 * totalIn (m .state)) × (length (m .marks) ≡ totalIn (m .state))) m a
     (no y n) (no y n) (no y n) (no y n) (λ w s k t e. (w, s, k))
-
-pub neither : (o h : Bool) → pick o true h ≡ false → (o ≡ false) × (h ≡ false)
-neither true h e = absurd (true≢false e)
-neither false h e = (refl, e)
 
 pub given : (m : Machine) (a : Access) (r : Register) (v : ℕ) → meaning m a ≡ WriteRegister r v → heldIn (m .state) ≡ false → Typed m → Given m
 unfolding wellMade heldIn

@@ -1,11 +1,11 @@
 -- What follows from the theorem.
 use Prim.Native.Nat.{ℕ}
-use mathlib.Core.Bool.{Bool, true, false, false≢true}
+use mathlib.Core.Bool.{true, false, false≢true}
 use mathlib.Core.Path.{_≡_, refl, sym, ap, _∙_, subst}
 use mathlib.Core.List.{List, []}
+use Rattle.ground.proofs.Picks.{neither}
 use Rattle.geometry.specs.declared.Located.{Located}
 use Rattle.geometry.specs.Shape.{reshaped}
-use Rattle.maps.specs.declared.Register.the-variants.{StatusCommand}
 use Rattle.registers.specs.State.{sresetIn, totalIn}
 use Rattle.registers.specs.Machine.{Machine}
 use Rattle.registers.specs.declared.State.{State}
@@ -15,32 +15,19 @@ use Rattle.commands.specs.declared.Command.{Command}
 use Rattle.commands.specs.declared.Command.the-variants.{Read, Write, Verify, Erase, Identify, ReadBuffer, WriteBuffer, SetGeometry, Diagnose, Recalibrate, Seek, Sense, Other}
 use Rattle.transfers.specs.Steps.{dropped}
 use Rattle.commands.specs.Table.{commandOf, obeyed, started, countOf, quiet, commandGiven}
-use Rattle.card.specs.declared.Meaning.the-variants.{WriteRegister}
-use Rattle.card.specs.Access.{Access, meaning}
+use Rattle.card.specs.Access.{Access}
 use Rattle.card.specs.Step.{step}
 use Rattle.account.specs.Plain.{Plain, Ending, Well, NotFound, Unreadable, WriteFault, Aborted, ends, starts, Account, silent}
-use Rattle.account.specs.Rows.{Row, Reads, Writes, Verifies, Erases, Identifies, ReadsBuffer, WritesBuffer, SetsGeometry, Diagnoses, Recalibrates, Seeks, Senses, Others, rowOf}
+use Rattle.account.specs.Rows.{Row, Reads, rowOf}
 use Rattle.account.specs.Course.{courseOf}
 use Rattle.account.specs.Runs.{readRun, readSectors}
 use Rattle.account.specs.Table.{asked, first, fromFirst, account}
-use Rattle.account.specs.Host.{plainOf, asks, Moves, Hosted, hosted}
-use Rattle.account.specs.Notes.{noNotes, wayOf}
-use Rattle.account.specs.Claim.{Typed}
+use Rattle.account.specs.Host.{plainOf, asks, Moves}
+use Rattle.account.specs.Follows.{AcceptedCommand, after, dataless}
 use Rattle.account.proofs.SameRow.{rowFor, same-row}
 use Rattle.account.proofs.Settled.{verify-settled, erase-idle}
 use Rattle.account.proofs.Commands.{set-idle}
-use Rattle.account.proofs.Accepted.{neither}
 use Rattle.account.proofs.Theorem.{command-given, as-the-account}
-
--- a Command write that the theorem speaks of
-pub record AcceptedCommand (m : Machine) (a : Access) (v : ℕ) : Type 0 where
-  pub accepted : meaning m a ≡ WriteRegister StatusCommand v
-  pub free : heldIn (m .state) ≡ false
-  pub typed : Typed m
-
--- the host after it
-abbrev pub after : Machine → Access → ℕ → List Access → Hosted
-after m a v l = hosted (wayOf (rowOf v)) (step m a .next) noNotes l
 
 -- Two hosts that move the same data end the same, whatever the order and the map.
 pub same-data-same-end : (m : Machine) (a : Access) (v : ℕ) (l k : List Access) → AcceptedCommand m a v → Moves (step m a .next) l → Moves (step m a .next) k →
@@ -49,22 +36,6 @@ same-data-same-end m a v l k w x y e =
     let p = as-the-account m a v l (w .accepted) (w .free) (w .typed) x in
     let q = as-the-account m a v k (w .accepted) (w .free) (w .typed) y in
     ap (λ (z : Account). z .left) (sym (p .account) ∙ ap (account (rowOf v) (plainOf m)) e ∙ q .account)
-
--- A row without data needs no host.
-abbrev pub dataless : Row → Bool
-dataless Reads = false
-dataless Writes = false
-dataless Verifies = true
-dataless Erases = true
-dataless Identifies = false
-dataless ReadsBuffer = false
-dataless WritesBuffer = false
-dataless SetsGeometry = true
-dataless Diagnoses = true
-dataless Recalibrates = true
-dataless Seeks = true
-dataless Senses = true
-dataless Others = true
 
 over-at-once : (k : Command) (s : State) (m : Machine) → dataless (rowFor k) ≡ true → obeyed k s m .phase ≡ Idle
 over-at-once Read s m e = absurd (false≢true e)

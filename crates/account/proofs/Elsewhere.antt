@@ -2,27 +2,18 @@
 use Prim.Native.Nat.{ℕ, zero, suc, _+_, _-_, _*_, _≤_, _<_}
 use mathlib.Core.Bool.{Bool, true, false}
 use mathlib.Core.Path.{_≡_, refl, sym, ap, _∙_}
-use mathlib.Core.List.{List, [], _∷_, _++_}
-use native.Mathlib.Nat.{le-of-suc-le-suc, not-suc-le-zero}
+use mathlib.Core.List.{List, _++_}
 use native.Mathlib.Omega.{arith}
 use lib.Dec.{ltb}
-use lib.ListN.{length, take, drop, set, getD, replicate, length-drop, length-set}
+use lib.ListN.{length, take, drop, set, getD, replicate, length-drop, length-set, List·getD-append}
 use lib.Seq.{getD-set-other, length-take-le, getD-append-add, getD-take, getD-drop}
 use borrow.Author.Tests.{ltb-true}
 use Rattle.ground.specs.Choice.{pick}
 use Rattle.account.specs.Plain.{Ending, Well, NotFound, Unreadable, WriteFault, Aborted}
 use Rattle.account.specs.Course.{Course}
 use Rattle.account.specs.Runs.{Run, tried, runFrom, tests, putSector, replaced, blanked, cleared}
+use Rattle.account.specs.Follows.{SameOutside}
 use Rattle.account.proofs.Stored.{put-length}
-
--- as long, and the same below one place and from another one on
-abbrev pub Same : ℕ → ℕ → List ℕ → List ℕ → Type 0
-Same low high s t = ((k : ℕ) → k < low → getD t k 0 ≡ getD s k 0) × ((k : ℕ) → high ≤ k → getD t k 0 ≡ getD s k 0) × (length t ≡ length s)
-
-in-first : (a b : List ℕ) (k : ℕ) → k < length a → getD (a ++ b) k 0 ≡ getD a k 0
-in-first [] b k h = absurd (not-suc-le-zero h)
-in-first (x ∷ a) b zero h = refl
-in-first (x ∷ a) b (suc k) h = in-first a b k (le-of-suc-le-suc h)
 
 in-second : (a b : List ℕ) (k : ℕ) → length a ≤ k → getD (a ++ b) k 0 ≡ getD b (k - length a) 0
 in-second a b k h =
@@ -32,7 +23,7 @@ in-second a b k h =
 put-before : (i : ℕ) (b s : List ℕ) (k : ℕ) → 512 * i ≤ length s → k < 512 * i → getD (putSector i b s) k 0 ≡ getD s k 0
 put-before i b s k l h =
     let e = length-take-le (512 * i) s l in
-    in-first (take (512 * i) s) _ k (omega arith) ∙ getD-take (512 * i) s k 0 h
+    List·getD-append (take (512 * i) s) _ 0 k (omega arith) ∙ getD-take (512 * i) s k 0 h
 
 put-behind : (i : ℕ) (b s : List ℕ) (k : ℕ) → 512 * i ≤ length s → length b ≡ 512 → 512 * (i + 1) ≤ k → getD (putSector i b s) k 0 ≡ getD s k 0
 put-behind i b s k l f h =
@@ -45,14 +36,14 @@ put-behind i b s k l f h =
     ∙ ap (λ (n : ℕ). getD s n 0) z
 
 -- one sector put, and then sectors behind it
-put-then : (i k n : ℕ) (b s t : List ℕ) → i + suc k ≤ n → length b ≡ 512 → length s ≡ 512 * n → Same (512 * (i + 1)) (512 * (i + 1 + k)) (putSector i b s) t → Same (512 * i) (512 * (i + suc k)) s t
+put-then : (i k n : ℕ) (b s t : List ℕ) → i + suc k ≤ n → length b ≡ 512 → length s ≡ 512 * n → SameOutside (512 * (i + 1)) (512 * (i + 1 + k)) (putSector i b s) t → SameOutside (512 * i) (512 * (i + suc k)) s t
 put-then i k n b s t h e f z = (
   λ x y. z .0 x (omega arith) ∙ put-before i b s x (omega arith) y,
   λ x y. z .1 x (omega arith) ∙ put-behind i b s x (omega arith) e (omega arith),
   z .2 ∙ put-length i n b s (omega arith) e f ∙ sym f,
 )
 
-pub replaced-same : (k i n : ℕ) (d s : List ℕ) → 512 * k ≤ length d → i + k ≤ n → length s ≡ 512 * n → Same (512 * i) (512 * (i + k)) s (replaced i k d s)
+pub replaced-same : (k i n : ℕ) (d s : List ℕ) → 512 * k ≤ length d → i + k ≤ n → length s ≡ 512 * n → SameOutside (512 * i) (512 * (i + k)) s (replaced i k d s)
 unfolding replaced
 replaced-same zero i n d s l h f = (λ x y. refl, λ x y. refl, refl)
 replaced-same (suc k) i n d s l h f =
@@ -60,14 +51,14 @@ replaced-same (suc k) i n d s l h f =
     put-then i k n (take 512 d) s (replaced (i + 1) k (drop 512 d) (putSector i (take 512 d) s)) h e f
     (replaced-same k (i + 1) n (drop 512 d) (putSector i (take 512 d) s) (simp length-drop (omega arith)) (omega arith) (put-length i n (take 512 d) s (omega arith) e f))
 
-pub blanked-same : (k i n : ℕ) (s : List ℕ) → i + k ≤ n → length s ≡ 512 * n → Same (512 * i) (512 * (i + k)) s (blanked i k s)
+pub blanked-same : (k i n : ℕ) (s : List ℕ) → i + k ≤ n → length s ≡ 512 * n → SameOutside (512 * i) (512 * (i + k)) s (blanked i k s)
 unfolding blanked
 blanked-same zero i n s h f = (λ x y. refl, λ x y. refl, refl)
 blanked-same (suc k) i n s h f =
     put-then i k n (replicate 512 0xFF) s (blanked (i + 1) k (putSector i (replicate 512 0xFF) s)) h refl f
     (blanked-same k (i + 1) n (putSector i (replicate 512 0xFF) s) (omega arith) (put-length i n (replicate 512 0xFF) s (omega arith) refl f))
 
-pub cleared-same : (k i : ℕ) (s : List ℕ) → Same i (i + k) s (cleared i k s)
+pub cleared-same : (k i : ℕ) (s : List ℕ) → SameOutside i (i + k) s (cleared i k s)
 unfolding cleared
 cleared-same zero i s = (λ x y. refl, λ x y. refl, refl)
 cleared-same (suc k) i s =

@@ -15,7 +15,7 @@ use Rattle.account.specs.Plain.{Plain, Ending, Well, WriteFault}
 use Rattle.account.specs.Course.{Course}
 use Rattle.account.specs.Runs.{tried, stopped, runFrom, tests, unwritable, putSector, blanked, cleared, eraseSectors, eraseDone}
 use Rattle.account.specs.Host.{plainIn}
-use Rattle.account.proofs.Seats.{Shaped, Seated, Where, onward, passed-on, seat-next, room-total}
+use Rattle.account.proofs.Seats.{Shaped, Seated, Where, onward, done-on, seat-next, room-total}
 use Rattle.account.proofs.Tried.{stops-run, stops-ends, store-tested}
 use Rattle.account.proofs.Stored.{LentFor, stored-is, stored-lent, run-later}
 use Rattle.account.proofs.Verifying.{where-good, seated-last}
@@ -41,7 +41,7 @@ erase-is (suc n) c i s b t k h l q w =
     let m = room-total c s h (q .2) in
     let z = seat-next c (suc n) i s h (where-good c i s w r) (q .2) in
     let g = stored-is (totalOf (s .made .default)) i t k (replicate 512 0xFF) (omega arith) l in
-    rw (passed-on n s, g, ← run-later unwritable WriteFault c k i (i + 1) (suc n) (omega arith))
+    rw (done-on n s, g, ← run-later unwritable WriteFault c k i (i + 1) (suc n) (omega arith))
     (erase-is n c (i + 1) (onward (suc n) s) b (putSector i (replicate 512 0xFF) t) (set k i 0) h
     (stored-lent (totalOf (s .made .default)) i t k (replicate 512 0xFF) (omega arith) l refl) (z .0) (z .1)))
     (λ f z. rw (stops-run f z c (suc (suc n)) i (runFrom (tests unwritable WriteFault c k) (i + 1) (suc n)) (plainIn s b t k)) (stops-ends f true z c (suc (suc n)) i s b t k q))

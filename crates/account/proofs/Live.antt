@@ -5,6 +5,7 @@ use mathlib.Core.Path.{_≡_, refl, sym, ap, _∙_, subst}
 use mathlib.Core.List.{List, [], _∷_}
 use native.Mathlib.Omega.{arith}
 use native.Mathlib.Nat.{le-refl}
+use Rattle.ground.proofs.Picks.{neither}
 use Rattle.maps.specs.declared.Port.{Port}
 use Rattle.maps.specs.declared.Register.the-variants.{StatusCommand}
 use Rattle.registers.specs.declared.Half.{Half}
@@ -39,7 +40,7 @@ use Rattle.account.specs.Live.{wordOf, WordsOnly}
 use Rattle.account.proofs.Rest.{Rel, Running, Waits, Pending, bare}
 use Rattle.account.proofs.Keeps.{keeps, free-read, free-written}
 use Rattle.account.proofs.Given.{begins-row}
-use Rattle.account.proofs.Accepted.{given, neither, lent-facts}
+use Rattle.account.proofs.Accepted.{given, lent-facts}
 use Rattle.account.proofs.Theorem.{command-given}
 use Rattle.account.proofs.WordMeans.{wordMeaning, word-means, width-two}
 use Rattle.account.proofs.Sizes.{size, sizeOf, left-some, read-less, write-less}
@@ -136,7 +137,7 @@ ends (suc n) plain way m q s z w h = by-phase plain n way (ends n plain way) (m 
 sound-of : (m : Machine) (a : Access) (v : ℕ) → meaning m a ≡ WriteRegister StatusCommand v → Typed m → Sound m
 sound-of m a v e t =
     let l = lent-facts m a (WriteRegister StatusCommand v) refl e in
-    record { made = l .0; store = l .1; marks = l .2; buffer = t .buffer; bytes = t .count }
+    record { made = l .0; store = l .1; marks = l .2; buffer = t .buffer; count = t .count }
 
 given-ends : (m : Machine) (a : Access) (v : ℕ) → meaning m a ≡ WriteRegister StatusCommand v → heldIn (m .state) ≡ false → Typed m → Sound (commandGiven v (dropped m)) →
     Ends (commandGiven v (dropped m))

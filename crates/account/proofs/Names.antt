@@ -2,7 +2,8 @@
 use Prim.Native.Nat.{ℕ, _+_, _*_, _-_, _/_, _%_, _≤_, _<_}
 use mathlib.Core.Bool.{Bool, true, false}
 use mathlib.Core.Path.{_≡_, sym, ap, _∙_}
-use native.Mathlib.Nat.{mul-add-div-right, mul-add-mod-self-right, div-eq-of-lt, mod-eq-of-lt, add-mul}
+use native.Mathlib.Nat.{add-mul}
+use lib.Arith.{digits-div, digits-mod}
 use native.Mathlib.Omega.{arith}
 use lib.Dec.{ltb}
 use borrow.Author.Tests.{ltb-true, ltb-false}
@@ -21,15 +22,6 @@ use Rattle.geometry.proofs.Kept.{Bytes}
 use Rattle.geometry.proofs.Bounds.{row-more}
 use Rattle.account.specs.Course.{lbaNamed, chsNamed}
 
-quotient : (q r s : ℕ) → r < s → (q * s + r) / s ≡ q
-quotient q r s h =
-    let z : r / s ≡ 0 = div-eq-of-lt h in
-    let e = mul-add-div-right {m = s} (omega arith) q r in
-    omega arith
-
-remainder : (q r s : ℕ) → r < s → (q * s + r) % s ≡ r
-remainder q r s h = mul-add-mod-self-right q s r ∙ mod-eq-of-lt h
-
 -- the name of a cylinder, head and sector
 abbrev spelled : ℕ → ℕ → ℕ → ℕ → Address
 spelled top c h s = record { sector = s; low = c % 256; high = c / 256; head = top * 16 + h }
@@ -42,11 +34,11 @@ spelled-by top g i c h s x y z o =
 chs-spelled : (top : ℕ) (g : Geometry) (i c h s : ℕ) → h < g .heads → 1 ≤ s → s ≤ g .sectors → i ≡ chsIndex c h s g → chsNamed top g i ≡ spelled top c h s
 chs-spelled top g i c h s x y z e =
     let f : i ≡ (c * g .heads + h) * g .sectors + (s - 1) = omega arith in
-    let q : i / g .sectors ≡ c * g .heads + h = ap (λ (n : ℕ). n / g .sectors) f ∙ quotient (c * g .heads + h) (s - 1) (g .sectors) (omega arith) in
-    let r : i % g .sectors ≡ s - 1 = ap (λ (n : ℕ). n % g .sectors) f ∙ remainder (c * g .heads + h) (s - 1) (g .sectors) (omega arith) in
+    let q : i / g .sectors ≡ c * g .heads + h = ap (λ (n : ℕ). n / g .sectors) f ∙ digits-div (c * g .heads + h) (omega arith) in
+    let r : i % g .sectors ≡ s - 1 = ap (λ (n : ℕ). n % g .sectors) f ∙ digits-mod (c * g .heads + h) (omega arith) in
     spelled-by top g i c h s r
-    (ap (λ (n : ℕ). n % g .heads) q ∙ remainder c h (g .heads) x)
-    (ap (λ (n : ℕ). n / g .heads) q ∙ quotient c h (g .heads) x)
+    (ap (λ (n : ℕ). n % g .heads) q ∙ digits-mod c x)
+    (ap (λ (n : ℕ). n / g .heads) q ∙ digits-div c x)
     y
 
 -- registers of 8 bits are what they name

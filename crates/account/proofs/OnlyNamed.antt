@@ -17,23 +17,17 @@ use Rattle.account.specs.Course.{courseOf}
 use Rattle.account.specs.Runs.{Run, tests, unwritable, writeRun, writeSectors, eraseSectors}
 use Rattle.account.specs.Table.{asked, first, fromFirst, account}
 use Rattle.account.specs.Host.{plainOf, Moves}
+use Rattle.account.specs.Follows.{AcceptedCommand, after, SameOutside, OnlyNamed}
 use Rattle.account.proofs.Seats.{courseIn, seat-room, room-total}
 use Rattle.account.proofs.Rest.{Ground}
 use Rattle.account.proofs.Commands.{first-is}
 use Rattle.account.proofs.Accepted.{given}
 use Rattle.account.proofs.Theorem.{as-the-account}
-use Rattle.account.proofs.Corollaries.{AcceptedCommand, after, ends-store}
-use Rattle.account.proofs.Elsewhere.{Same, replaced-same, blanked-same, cleared-same, run-inside, run-most}
-
--- the store and the marks are as long as before, and the same outside n sectors from the first one; with no first sector, all the same
-abbrev pub OnlyNamed : Located → ℕ → Plain → Plain → Type 0
-OnlyNamed (Located.Good spot) n p q = Same (512 * spot .index) (512 * (spot .index + n)) (p .store) (q .store) × Same (spot .index) (spot .index + n) (p .marks) (q .marks)
-OnlyNamed Located.BadHeadOrSector n p q = (q .store ≡ p .store) × (q .marks ≡ p .marks)
-OnlyNamed Located.BadCylinder n p q = (q .store ≡ p .store) × (q .marks ≡ p .marks)
-OnlyNamed Located.BadLba n p q = (q .store ≡ p .store) × (q .marks ≡ p .marks)
+use Rattle.account.proofs.Corollaries.{ends-store}
+use Rattle.account.proofs.Elsewhere.{replaced-same, blanked-same, cleared-same, run-inside, run-most}
 
 -- fewer sectors than those named
-wider : (s t u : List ℕ) (low high more : ℕ) → high ≤ more → u ≡ t → Same low high s t → Same low more s u
+wider : (s t u : List ℕ) (low high more : ℕ) → high ≤ more → u ≡ t → SameOutside low high s t → SameOutside low more s u
 wider s t u low high more h e z = rw e (z .0, λ k y. z .1 k (omega arith), z .2)
 
 module _ (n total : ℕ) (o : Plain) (s : length (o .store) ≡ 512 * total) (r : courseOf o .room ≤ total) where

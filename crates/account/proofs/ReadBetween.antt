@@ -31,7 +31,7 @@ use Rattle.account.specs.Runs.{sectorAt}
 use Rattle.account.specs.Host.{plainOf}
 use Rattle.account.specs.Notes.{None, Waiting}
 use Rattle.account.specs.Claim.{AllBytes}
-use Rattle.account.proofs.Seats.{Seated, Where, courseIn, onward, passed-on, seat-next, room-total}
+use Rattle.account.proofs.Seats.{Seated, Where, courseIn, onward, done-on, seat-next, room-total}
 use Rattle.account.proofs.Tried.{read-tested}
 use Rattle.account.proofs.Verifying.{where-good}
 use Rattle.account.proofs.Rest.{bare, here, Ground, Running, Between, Loaded, loaded-of}
@@ -68,7 +68,7 @@ unfolding nextRead
 next-between zero c i m g q e = unfold sectorDone in (g, refl)
 next-between (suc n) c i m g q e =
     let z = seat-next c (suc n) i (m .state) (g .0) e (q .2) in
-    rw (passed-on n (m .state), ne-eqb (suc n) 0 (omega arith)) (read-between n c (i + 1) (idleWith (onward (suc n) (m .state)) m) g (z .0) (z .1))
+    rw (done-on n (m .state), ne-eqb (suc n) 0 (omega arith)) (read-between n c (i + 1) (idleWith (onward (suc n) (m .state)) m) g (z .0) (z .1))
 
 load-between : (l : Load) (m : Machine) → Ground In m → Loaded l (bare (plainOf m)) → Between In (loadRead l m) None
 load-between Buffer m g k = (g, refl)

@@ -7,7 +7,7 @@ use native.Mathlib.Numerals.{sub-one}
 use native.Mathlib.Omega.{arith}
 use lib.Dec.{ltb}
 use lib.ListN.{length, drop, getD, drop-of-length-le}
-use lib.Seq.{drop-cons}
+use Rattle.ground.proofs.Lists.{drop-two}
 use borrow.Author.Tests.{ltb-true, ltb-false, lt-ltb, ne-eqb}
 use Rattle.ground.specs.Choice.{pick}
 use Rattle.geometry.specs.declared.Located.{Located}
@@ -27,7 +27,7 @@ use Rattle.account.specs.Plain.{Plain, Ending, Unreadable, moving, withB
 use Rattle.account.specs.Course.{Course}
 use Rattle.account.specs.Runs.{tried, runFrom, tests, unreadable, sectorsFrom, lastSector, sectorAt, readDone, readSectors}
 use Rattle.account.specs.Host.{plainOf}
-use Rattle.account.proofs.Seats.{Shaped, Seated, Where, courseIn, onward, passed-on, seat-next, room-total}
+use Rattle.account.proofs.Seats.{Shaped, Seated, Where, courseIn, onward, done-on, seat-next, room-total}
 use Rattle.account.proofs.Tried.{stops-run, stops-ends, read-tested}
 use Rattle.account.proofs.Stored.{LentFor}
 use Rattle.account.proofs.Verifying.{where-good, seated-last}
@@ -63,7 +63,7 @@ next-rest zero c i m d h l q e = unfold sectorDone restAt readSectors runFrom se
 next-rest (suc n) c i m d h l q e =
     let z = seat-next c (suc n) i (m .state) h e (q .2) in
     let y = read-rest n c (i + 1) (idleWith (onward (suc n) (m .state)) m) d h l (z .0) (z .1) in
-    rw (passed-on n (m .state), ne-eqb (suc n) 0 (omega arith)) (y ∙ (unfold readSectors in refl))
+    rw (done-on n (m .state), ne-eqb (suc n) 0 (omega arith)) (y ∙ (unfold readSectors in refl))
 
 load-rest : (l : Load) (m : Machine) (d : List ℕ) → Shaped (m .state .made) (m .state .current) → LentFor (totalOf (m .state .made .default)) (m .store) (m .marks) → Loaded l (bare (plainOf m)) →
     rest (loadRead l m) d ≡ doneIn l (plainOf m)
@@ -73,11 +73,10 @@ load-rest (Sectors zero) m d h l k = absurd (omega (arith, k .1))
 load-rest (Sectors (suc n)) m d h l k = rw (sub-one (suc n)) (next-rest n (courseIn (m .state)) (here (m .state)) m d h l (k .2, k .3, refl) (k .0))
 
 -- the two bytes of a word
-drop-two : (b : List ℕ) (w : ℕ) → 2 * w + 1 < length b → drop (2 * w) b ≡ getD b (2 * w) 0 ∷ getD b (2 * w + 1) 0 ∷ drop (2 * (w + 1)) b
-drop-two b w h =
-    let e : 2 * (w + 1) ≡ suc (suc (2 * w)) = omega arith in
-    let f : 2 * w + 1 ≡ suc (2 * w) = omega arith in
-    rw (e, f, drop-cons b (2 * w) 0 (omega arith), drop-cons b (suc (2 * w)) 0 (omega arith))
+word-bytes : (b : List ℕ) (w : ℕ) → 2 * w + 1 < length b → drop (2 * w) b ≡ getD b (2 * w) 0 ∷ getD b (2 * w + 1) 0 ∷ drop (2 * (w + 1)) b
+word-bytes b w h =
+    let e : 2 * w + 2 ≡ 2 * (w + 1) = omega arith in
+    drop-two b (2 * w) h ∙ ap (λ (k : ℕ). getD b (2 * w) 0 ∷ (getD b (2 * w + 1) 0 ∷ drop k b)) e
 
 -- a word has gone
 pub word-rest : (b : Bool) (t : Transfer) (m : Machine) (d e : List ℕ) → ltb (t .words) 255 ≡ b → t .words < 256 → length (m .buffer) ≡ 512 →
@@ -85,7 +84,7 @@ pub word-rest : (b : Bool) (t : Transfer) (m : Machine) (d e : List ℕ) → ltb
     restAt (DataIn t) (plainOf m) e
     ≡ moving (getD (m .buffer) (2 * t .words) 0 ∷ getD (m .buffer) (2 * t .words + 1) 0 ∷ []) (rest (pick b (withPhase (DataIn (nextWord t)) m) (loadRead (t .load) (dropped m))) d)
 unfolding restAt
-word-rest true t m d e q w f h l k = rw (drop-two (m .buffer) (t .words) (omega (arith, ltb-true)))
+word-rest true t m d e q w f h l k = rw (word-bytes (m .buffer) (t .words) (omega (arith, ltb-true)))
 word-rest false t m d e q w f h l k =
     let z : drop (2 * (t .words + 1)) (m .buffer) ≡ [] = drop-of-length-le (m .buffer) {i = 2 * (t .words + 1)} (omega (arith, ltb-false)) in
-    rw (drop-two (m .buffer) (t .words) (omega (arith, ltb-false)), z, load-rest (t .load) (dropped m) d h l k)
+    rw (word-bytes (m .buffer) (t .words) (omega (arith, ltb-false)), z, load-rest (t .load) (dropped m) d h l k)

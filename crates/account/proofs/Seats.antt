@@ -59,9 +59,9 @@ seat-address s i b e = sym (named-self (s .registers .address) (s .current) (tot
 abbrev pub onward : ℕ → State → State
 onward n s = withCount (n % 256) (withAddress (nextOf (s .registers .address) (s .current)) s)
 
-pub passed-on : (n : ℕ) (s : State) → sectorDone (suc n) s ≡ onward (suc n) s
+pub done-on : (n : ℕ) (s : State) → sectorDone (suc n) s ≡ onward (suc n) s
 unfolding sectorDone
-passed-on n s = rw (ne-eqb (suc n) 0 (omega arith))
+done-on n s = rw (ne-eqb (suc n) 0 (omega arith))
 
 course-kept : (n : ℕ) (s : State) → courseIn (onward n s) ≡ courseIn s
 course-kept n s = let k = next-kept (s .registers .address) (s .current) in rw (k .0, k .1)

@@ -3,6 +3,7 @@ use Prim.Native.Nat.{ℕ}
 use mathlib.Core.Bool.{false}
 use mathlib.Core.Path.{_≡_, refl, sym, ap, _∙_, subst}
 use mathlib.Core.List.{List, [], _∷_, append-nil}
+use Rattle.ground.proofs.Picks.{neither}
 use Rattle.maps.specs.declared.Register.the-variants.{StatusCommand}
 use Rattle.registers.specs.State.{sresetIn}
 use Rattle.registers.specs.Machine.{Machine}
@@ -25,7 +26,7 @@ use Rattle.account.specs.Claim.{Typed, Agrees}
 use Rattle.account.proofs.Rest.{Rel}
 use Rattle.account.proofs.Keeps.{keeps, closes, none-waits}
 use Rattle.account.proofs.Given.{begins-row}
-use Rattle.account.proofs.Accepted.{given, neither}
+use Rattle.account.proofs.Accepted.{given}
 
 hosted-agrees : (plain : List ℕ → Account) (way : Way) (l : List Access) (m : Machine) (q : Notes) → Rel way plain m q → Moves m l → Agrees plain (hosted way m q l)
 unfolding hosted step

@@ -15,7 +15,7 @@ use Rattle.account.specs.Plain.{Ending, Well, Unreadable}
 use Rattle.account.specs.Course.{Course, named}
 use Rattle.account.specs.Runs.{tried, stopped, runFrom, tests, unreadable, runEnds, verifySectors}
 use Rattle.account.specs.Host.{plainIn}
-use Rattle.account.proofs.Seats.{Shaped, Seated, Where, onward, passed-on, seat-next}
+use Rattle.account.proofs.Seats.{Shaped, Seated, Where, onward, done-on, seat-next}
 use Rattle.account.proofs.Tried.{stops-run, stops-ends, read-tested}
 
 -- where the registers point at sector i
@@ -42,5 +42,5 @@ verify-is (suc n) c i s b t k h q w =
     (λ (x : Tested) (e : Ending). plainIn (goesOn x (λ y. y) s (verifyFrom (suc n) (sectorDone (suc n) s) k) .state) b t k
     ≡ runEnds c (tried e (suc (suc n)) i (runFrom (tests unreadable Unreadable c k) (i + 1) (suc n))) (plainIn s b t k))
     w
-    (λ r. let z = seat-next c (suc n) i s h (where-good c i s w r) (q .2) in rw (passed-on n s) (verify-is n c (i + 1) (onward (suc n) s) b t k h (z .0) (z .1)))
+    (λ r. let z = seat-next c (suc n) i s h (where-good c i s w r) (q .2) in rw (done-on n s) (verify-is n c (i + 1) (onward (suc n) s) b t k h (z .0) (z .1)))
     (λ f z. rw (stops-run f z c (suc (suc n)) i (runFrom (tests unreadable Unreadable c k) (i + 1) (suc n)) (plainIn s b t k)) (stops-ends f true z c (suc (suc n)) i s b t k q))

@@ -37,10 +37,10 @@ use Rattle.account.proofs.Rest.{bare, here, doneOut, restAt, rest, Load
 use Rattle.account.proofs.Writing.{done-over, marked-rest}
 
 -- the tests at the last byte, of a valid address
-pub store-test : (i : ℕ) (s : State) (marks : List ℕ) → locatedIn s ≡ Located.Good (record { index = i }) →
+pub sector-test : (i : ℕ) (s : State) (marks : List ℕ) → locatedIn s ≡ Located.Good (record { index = i }) →
     sectorTest Out s marks ≡ pick (writable (getD marks i 0)) (Passes (record { index = i })) (Fails End.WriteFault)
 unfolding sectorTest addressTest
-store-test i s marks e = rw e
+sector-test i s marks e = rw e
 
 -- a valid address lies in the store
 pub here-inside : (s : State) → Shaped (s .made) (s .current) → locatedIn s ≡ Located.Good (record { index = here s }) → here s < totalOf (s .made .default)
@@ -55,7 +55,7 @@ unfolding doneOut sectorStored
 written-rest Buffer m d h l k = unfold restAt in refl
 written-rest (Sectors zero) m d h l k = absurd (omega (arith, k .1))
 written-rest (Sectors (suc n)) m d h l k =
-    rw (store-test (here (m .state)) (m .state) (m .marks) (k .0), sub-one (suc n))
+    rw (sector-test (here (m .state)) (m .state) (m .marks) (k .0), sub-one (suc n))
     (marked-rest (writable (getD (m .marks) (here (m .state)) 0)) (unwritable (getD (m .marks) (here (m .state)) 0)) n (courseIn (m .state)) (here (m .state)) m d
     (unwrite-opposite (getD (m .marks) (here (m .state)) 0)) (here-inside (m .state) h (k .0)) h l (k .2, k .3, refl) (k .0))
 

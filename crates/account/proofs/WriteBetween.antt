@@ -30,10 +30,10 @@ use Rattle.account.specs.Course.{Course}
 use Rattle.account.specs.Runs.{putSector}
 use Rattle.account.specs.Host.{plainOf}
 use Rattle.account.specs.Notes.{None, Waiting}
-use Rattle.account.proofs.Seats.{Seated, Where, pastEnd, courseIn, onward, passed-on, seat-next}
+use Rattle.account.proofs.Seats.{Seated, Where, pastEnd, courseIn, onward, done-on, seat-next}
 use Rattle.account.proofs.Stored.{stored-is, stored-lent}
 use Rattle.account.proofs.Rest.{bare, here, Ground, Running, Between, Loaded, loaded-of}
-use Rattle.account.proofs.WordWritten.{store-test, here-inside}
+use Rattle.account.proofs.WordWritten.{sector-test, here-inside}
 
 past-between : (l : Bool) (n : ℕ) (first : Bool) (s : State) (b t k : List ℕ) → Ground Out (idle s b t k) →
     Between Out (machine (askTested (testedOf (pick l Located.BadLba Located.BadCylinder)) n first s) b t k) None
@@ -58,7 +58,7 @@ unfolding nextAsked
 asked-between zero c i s b t k f g q e = unfold sectorDone in (g, refl)
 asked-between (suc n) c i s b t k f g q e =
     let z = seat-next c (suc n) i s (g .0) e (q .2) in
-    rw (passed-on n s, ne-eqb (suc n) 0 (omega arith)) (ask-between n false c (i + 1) (onward (suc n) s) b t k f g (z .0) (z .1))
+    rw (done-on n s, ne-eqb (suc n) 0 (omega arith)) (ask-between n false c (i + 1) (onward (suc n) s) b t k f g (z .0) (z .1))
 
 marked-between : (u : Bool) (n : ℕ) (c : Course) (i : ℕ) (m : Machine) → i < totalOf (m .state .made .default) → length (m .buffer) ≡ 512 → Ground Out m → Seated c i (suc n) (m .state) →
     locatedIn (m .state) ≡ Located.Good (record { index = i }) →
@@ -74,7 +74,7 @@ unfolding sectorStored
 written-between Buffer m f g k = (g, refl)
 written-between (Sectors zero) m f g k = absurd (omega (arith, k .1))
 written-between (Sectors (suc n)) m f g k =
-    rw (store-test (here (m .state)) (m .state) (m .marks) (k .0), sub-one (suc n))
+    rw (sector-test (here (m .state)) (m .state) (m .marks) (k .0), sub-one (suc n))
     (marked-between (writable (getD (m .marks) (here (m .state)) 0)) n (courseIn (m .state)) (here (m .state)) m (here-inside (m .state) (g .0) (k .0)) f g (k .2, k .3, refl) (k .0))
 
 pub word-written-between : (v : Bool) (t : Transfer) (m : Machine) (b : List ℕ) (q : Waiting) → ltb (t .words) 255 ≡ v → length b ≡ 512 → Ground Out m → Running Out t (plainOf m) q →

@@ -24,7 +24,7 @@ use Rattle.account.specs.Plain.{Plain, withBuffer, Ending, Well, NotFoun
 use Rattle.account.specs.Course.{Course}
 use Rattle.account.specs.Runs.{tried, runFrom, tests, unwritable, firstSectors, lastSectors, replaced, cleared, movedBy, putSector, writeDone, writeSectors}
 use Rattle.account.specs.Host.{plainOf, plainIn}
-use Rattle.account.proofs.Seats.{Shaped, Seated, Where, pastEnd, onward, passed-on, seat-next}
+use Rattle.account.proofs.Seats.{Shaped, Seated, Where, pastEnd, onward, done-on, seat-next}
 use Rattle.account.proofs.Tried.{stops-ends}
 use Rattle.account.proofs.Stored.{LentFor, stored-is, run-later}
 use Rattle.account.proofs.Verifying.{seated-last}
@@ -106,7 +106,7 @@ unfolding nextAsked
 asked-rest zero c i s b t k d h q e = unfold sectorDone restAt writeSectors runFrom firstSectors lastSectors replaced cleared in rw (seated-last c i 1 s q)
 asked-rest (suc n) c i s b t k d h q e =
     let z = seat-next c (suc n) i s h e (q .2) in
-    rw (passed-on n s, ne-eqb (suc n) 0 (omega arith)) (ask-rest n false c (i + 1) (onward (suc n) s) b t k d (z .0) (z .1) ∙ (unfold writeSectors in refl))
+    rw (done-on n s, ne-eqb (suc n) 0 (omega arith)) (ask-rest n false c (i + 1) (onward (suc n) s) b t k d (z .0) (z .1) ∙ (unfold writeSectors in refl))
 
 -- its mark first
 pub marked-rest : (u v : Bool) (n : ℕ) (c : Course) (i : ℕ) (m : Machine) (d : List ℕ) → v ≡ not u → i < totalOf (m .state .made .default) → Shaped (m .state .made) (m .state .current) →

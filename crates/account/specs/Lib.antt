@@ -7,5 +7,6 @@ pub mod Table
 pub mod Notes
 pub mod Host
 pub mod Claim
+pub mod Follows
 pub mod Running
 pub mod Live

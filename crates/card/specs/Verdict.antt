@@ -1,4 +1,4 @@
--- 01, "Answers": rows 12, 2, 3 and 5 speak of the card and what is lent, not of the access; an access changes none of it, so a run tries them once.
+-- An access by the verdict of rows 12, 2, 3 and 5 (`verdictOf`, Access.antt): no access changes what they say, so a run tries them once.
 use Rattle.answers.specs.declared.Outcome.{Outcome}
 use Rattle.registers.specs.State.{lineOf}
 use Rattle.registers.specs.Machine.{Machine}

@@ -31,7 +31,7 @@ chs-less c h s g f =
     let d = f .1 in
     omega arith
 
--- Such an address is good, and a good one is such.
+-- such an address is good, and a good one is such.
 pub chs-good : (c h s : ℕ) (g : Geometry) → Chs c h s g → locateChs c h s g ≡ Located.Good (record { index = chsIndex c h s g })
 unfolding locateChs every
 chs-good c h s g f = rw (lt-ltb _ _ (f .0), le-leb _ _ (f .1), le-leb _ _ (f .2), lt-ltb _ _ (f .3))
@@ -61,7 +61,7 @@ pub lba-facts : (i n : ℕ) (p : Spot) → locateLba i n ≡ Located.Good p → 
 unfolding locateLba
 lba-facts i n p e = let k = below (ltb i n) i p e in (ltb-true i n (k .0), k .1)
 
--- The run's room, by either way of addressing.
+-- the run's room, by either way of addressing.
 inside-by : (b : Bool) (a : Address) (g : Geometry) (n : ℕ) (p : Spot) →
     capacityOf g ≤ n →
     pick b (locateLba (lbaOf a) n) (locateChs (cylinderOf a) (headOf a) (a .sector) g) ≡ Located.Good p →

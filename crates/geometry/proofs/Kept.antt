@@ -9,14 +9,14 @@ use Rattle.geometry.specs.declared.Address.{Address}
 use Rattle.geometry.specs.Address.{byLba, headOf, cylinderOf, lbaOf}
 use Rattle.geometry.specs.Next.{atLba, atChs, nextChs, nextOf}
 
--- Registers of 8 bits.
+-- registers of 8 bits.
 abbrev pub Bytes : Address → Type 0
 Bytes a = (a .sector < 256) × (a .low < 256) × (a .high < 256) × (a .head < 256)
 
 bit-kept : (d h : ℕ) → (d / 16 * 16 + h % 16) / 64 % 2 ≡ d / 64 % 2
 bit-kept d h = omega arith
 
--- Another head nibble is the same way of addressing.
+-- another head nibble is the same way of addressing.
 pub same-way : (a b : Address) (h : ℕ) → b .head ≡ a .head / 16 * 16 + h % 16 → byLba b ≡ byLba a
 unfolding byLba
 same-way a b h e = ap (λ (x : ℕ). eqb (x / 64 % 2) 1) e ∙ ap (λ (x : ℕ). eqb x 1) (bit-kept (a .head) h)

@@ -21,7 +21,7 @@ use Rattle.geometry.proofs.Kept.{same-way}
 use Rattle.geometry.proofs.Inside.{Chs, chs-less, chs-good, chs-facts, lba-facts}
 use Rattle.geometry.proofs.Bounds.{row-more}
 
--- The registers made of a cylinder, head and sector name them.
+-- the registers made of a cylinder, head and sector name them.
 at-chs-located : (a : Address) (g : Geometry) (n c h s : ℕ) → byLba a ≡ false → c < 65536 → h < 16 → s < 256 → locate (atChs a c h s) g n ≡ locateChs c h s g
 unfolding locate
 at-chs-located a g n c h s b x y z =
@@ -30,14 +30,14 @@ at-chs-located a g n c h s b x y z =
     let k : s % 256 ≡ s = omega arith in
     rw (same-way a (atChs a c h s) h refl, b, i, j, k)
 
--- The registers made of a number name it.
+-- the registers made of a number name it.
 at-lba-located : (a : Address) (g : Geometry) (n i : ℕ) → byLba a ≡ true → i < 268435456 → locate (atLba a i) g n ≡ locateLba i n
 unfolding locate
 at-lba-located a g n i b x =
     let l : lbaOf (atLba a i) ≡ i = omega arith in
     rw (same-way a (atLba a i) (i / 16777216) refl, b, l)
 
--- What comes after index i, with room for m sectors.
+-- what comes after index i, with room for m sectors.
 abbrev After : ℕ → ℕ → Located → Located
 After i m bad = pick (ltb (i + 1) m) (Located.Good (record { index = i + 1 })) bad
 
@@ -47,7 +47,7 @@ landed i j m bad e l = rw (e, lt-ltb j m l)
 past : (i m : ℕ) (bad : Located) → m ≤ i + 1 → bad ≡ After i m bad
 past i m bad l = rw (le-ltb (i + 1) m l)
 
--- A CHS address one further on is good.
+-- a CHS address one further on is good.
 step-chs : (a : Address) (g : Geometry) (n i c h s : ℕ) →
     byLba a ≡ false →
     Small g →
@@ -59,7 +59,7 @@ step-chs a g n i c h s b l f q =
     ∙ chs-good c h s g f
     ∙ landed i (chsIndex c h s g) (capacityOf g) Located.BadCylinder q (chs-less c h s g f)
 
--- The last sector of a cylinder: the first of the next one, if there is one.
+-- the last sector of a cylinder: the first of the next one, if there is one.
 step-cylinder : (t : Bool) (a : Address) (g : Geometry) (n i c : ℕ) →
     ltb (c + 1) (g .cylinders) ≡ t →
     byLba a ≡ false →
@@ -130,7 +130,7 @@ pub next-law : (a : Address) (g : Geometry) (n : ℕ) (p : Spot) →
 unfolding locate nextOf roomOf
 next-law a g n p c m e = next-by (byLba a) a g n p refl c m e
 
--- Past the end the decision says 2FH.
+-- past the end the decision says 2FH.
 past-code : (b : Bool) → locatedCode (pick b Located.BadLba Located.BadCylinder) ≡ 0x2F
 past-code true = refl
 past-code false = refl

@@ -19,7 +19,7 @@ current-of : (g : Geometry) (n : ℕ) → Current g n → currentFor g n ≡ tru
 unfolding currentFor every
 current-of g n f = rw (le-leb _ _ (f .0), le-leb _ _ (f .1), le-leb _ _ (f .2), le-leb _ _ (f .3), le-leb _ _ (f .4), eq-eqb _ _ (f .5))
 
--- A geometry within the limits is a good current geometry of its own card.
+-- a geometry within the limits is a good current geometry of its own card.
 pub fits-current : (g : Geometry) → fits g ≡ true → currentFor g (totalOf g) ≡ true
 fits-current g e =
     let f = fits-facts g e in
@@ -33,7 +33,7 @@ taken true u x g e = let z : _≡_ {A = ℕ} 0x21 0 = ap reshapedCode e in absur
 taken false true x g e = let z : _≡_ {A = ℕ} 0x21 0 = ap reshapedCode e in absurd (omega arith)
 taken false false x g e = (refl, refl, ap (λ (r : Reshaped). currentAfter r x) e)
 
--- What 91H takes from the Count register is a good current geometry: its C is at least 1.
+-- what 91H takes from the Count register is a good current geometry: its C is at least 1.
 pub reshaped-current : (count head n : ℕ) (g : Geometry) → count < 256 → reshaped count head n ≡ Reshaped.Taken g → currentFor g n ≡ true
 unfolding reshaped
 reshaped-current count head n g b e =
@@ -44,7 +44,7 @@ reshaped-current count head n g b e =
     let q : 1 ≤ n / ((head % 16 + 1) * count) = le-div-iff-mul-le p .1 (omega arith) in
     rw (← t .2) (current-of (geometryBy (head % 16 + 1) count n) n (omega arith, omega arith, omega arith, omega arith, q, refl))
 
--- So 91H, taken or refused, leaves a good current geometry.
+-- so 91H, taken or refused, leaves a good current geometry.
 pub after-current : (count head n : ℕ) (r : Reshaped) (old : Geometry) → count < 256 → reshaped count head n ≡ r → currentFor old n ≡ true → currentFor (currentAfter r old) n ≡ true
 after-current count head n (Reshaped.Taken g) old b e h = reshaped-current count head n g b e
 after-current count head n Reshaped.Refused old b e h = h

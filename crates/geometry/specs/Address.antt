@@ -34,7 +34,7 @@ chsIndex c h s g = (c * g .heads + h) * g .sectors + s - 1
 unfoldable pub locateLba : ℕ → ℕ → Located
 locateLba i n = pick (ltb i n) (Located.Good (record { index = i })) Located.BadLba
 
--- "with c<C, h<H, s 1..S, all current. Bad head or sector: code 21H. Otherwise bad cylinder or LBA: 2FH."
+-- "with c<C, h<H, s 1..S, all current. … Bad head or sector: code 21H. Otherwise bad cylinder or LBA: 2FH."
 unfoldable pub locateChs : ℕ → ℕ → ℕ → Geometry → Located
 locateChs c h s g =
     pick (every (ltb h (g .heads) ∷ leb 1 s ∷ leb s (g .sectors) ∷ []))
@@ -51,11 +51,11 @@ seek a g n =
     (pick (ltb (lbaOf a) n) Sought.Good Sought.BadLba)
     (pick (ltb (headOf a) (g .heads)) (pick (ltb (cylinderOf a) (g .cylinders)) Sought.Good Sought.BadCylinder) Sought.BadHead)
 
--- The end of a run's room: the current capacity in CHS, N in LBA.
+-- the end of a run's room: the current capacity in CHS, N in LBA.
 unfoldable pub roomOf : Address → Geometry → ℕ → ℕ
 roomOf a g n = pick (byLba a) n (capacityOf g)
 
--- Is there such a sector, and where.
+-- is there such a sector, and where.
 abbrev pub found : Located → Bool
 found (Located.Good p) = true
 found Located.BadHeadOrSector = false

@@ -11,23 +11,23 @@ abbrev pub capacityOf : Geometry → ℕ
 capacityOf g = g .cylinders * g .heads * g .sectors
 
 -- "H 1..16, S 1..255", of a card's geometry and of its current one
-abbrev pub headTests : Geometry → List Bool
-headTests g =
+abbrev pub shapeTests : Geometry → List Bool
+shapeTests g =
     leb 1 (g .heads)
     ∷ leb (g .heads) 16
     ∷ leb 1 (g .sectors)
     ∷ leb (g .sectors) 255
     ∷ []
 
-abbrev pub headsFit : Geometry → Bool
-headsFit g = every (headTests g)
+abbrev pub shapeFits : Geometry → Bool
+shapeFits g = every (shapeTests g)
 
 -- "Geometry: C 1..65,535, H 1..16, S 1..255, N = C·H·S at most 65,535."
 abbrev pub limits : Geometry → List Bool
 limits g =
     leb 1 (g .cylinders)
     ∷ leb (g .cylinders) 65535
-    ∷ headsFit g
+    ∷ shapeFits g
     ∷ leb (capacityOf g) 65535
     ∷ []
 
@@ -45,7 +45,7 @@ cylindersFor heads sectors total = total / (heads * sectors)
 -- "the current H is 1..16 and S 1..255 with current C = N div (H·S), at least 1"; a test is made only where those before it hold, so no division is by 0.
 abbrev pub currentTests : Geometry → ℕ → List Bool
 currentTests g n =
-    headsFit g
+    shapeFits g
     ∷ leb 1 (g .cylinders)
     ∷ eqb (g .cylinders) (cylindersFor (g .heads) (g .sectors) n)
     ∷ []

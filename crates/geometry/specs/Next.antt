@@ -6,11 +6,11 @@ use Rattle.geometry.specs.declared.Geometry.{Geometry}
 use Rattle.geometry.specs.declared.Address.{Address}
 use Rattle.geometry.specs.Address.{byLba, headOf, cylinderOf, lbaOf}
 
--- The registers of an LBA: its low 28 bits.
+-- the registers of an LBA: its low 28 bits.
 abbrev pub atLba : Address → ℕ → Address
 atLba a i = record { sector = i % 256; low = i / 256 % 256; high = i / 65536 % 256; head = a .head / 16 * 16 + i / 16777216 % 16 }
 
--- The registers of a cylinder, head and sector: as many bits as each has.
+-- the registers of a cylinder, head and sector: as many bits as each has.
 abbrev pub atChs : Address → ℕ → ℕ → ℕ → Address
 atChs a c h s = record { sector = s % 256; low = c % 256; high = c / 256 % 256; head = a .head / 16 * 16 + h % 16 }
 

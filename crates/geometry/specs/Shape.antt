@@ -6,7 +6,7 @@ use Rattle.geometry.specs.declared.Geometry.{Geometry}
 use Rattle.geometry.specs.declared.Reshaped.{Reshaped}
 use Rattle.geometry.specs.Limits.{cylindersFor}
 
--- The geometry of N sectors by H and S: "current C = N div (H·S)".
+-- the geometry of N sectors by H and S: "current C = N div (H·S)".
 abbrev pub geometryBy : ℕ → ℕ → ℕ → Geometry
 geometryBy heads sectors total = record { cylinders = cylindersFor heads sectors total; heads = heads; sectors = sectors }
 
@@ -16,7 +16,7 @@ reshaped count head total =
     (pick (ltb total ((head % 16 + 1) * count)) Reshaped.Refused
     (Reshaped.Taken (geometryBy (head % 16 + 1) count total)))
 
--- The geometry after 91H: "old geometry stays" where it is refused.
+-- the geometry after 91H: "old geometry stays" where it is refused.
 abbrev pub currentAfter : Reshaped → Geometry → Geometry
 currentAfter (Reshaped.Taken g) old = g
 currentAfter Reshaped.Refused old = old

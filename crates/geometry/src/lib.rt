@@ -1,7 +1,7 @@
 // The card's geometry: its limits, a sector's address and the one after it, and the geometry that 91H asks for (document 01, "What is lent" and "Commands").
 ghost use mathlib.Core.Path.{_≡_};
 ghost use Prim.Native.Nat.{_<_};
-ghost use Rattle.geometry.specs.Limits.{capacityOf, headsFit, fits, totalOf, currentFor};
+ghost use Rattle.geometry.specs.Limits.{capacityOf, shapeFits, fits, totalOf, currentFor};
 ghost use Rattle.geometry.specs.Address.{byLba, headOf, cylinderOf, lbaOf, locateLba, locateChs, locate, seek};
 ghost use Rattle.geometry.specs.Next.{atChs, atLba, nextChs, nextOf};
 ghost use Rattle.geometry.specs.Shape.{reshaped};
@@ -53,8 +53,8 @@ impl Geometry {
     }
 
     // H 1..16 and S 1..255.
-    fn heads_fit(self) -> bool
-        ensures { λ r. ⌜ r ≡ headsFit self ⌝ }
+    fn shape_fits(self) -> bool
+        ensures { λ r. ⌜ r ≡ shapeFits self ⌝ }
     {
         if self.heads < 1 {
             return false;
@@ -77,7 +77,7 @@ impl Geometry {
         if self.cylinders < 1 {
             return false;
         }
-        if !self.heads_fit() {
+        if !self.shape_fits() {
             return false;
         }
         let capacity = self.capacity();
@@ -100,7 +100,7 @@ impl Geometry {
     pub fn current_for(self, total: u16) -> bool
         ensures { λ r. ⌜ r ≡ currentFor self total ⌝ }
     {
-        if !self.heads_fit() {
+        if !self.shape_fits() {
             return false;
         }
         if self.cylinders < 1 {

@@ -1,5 +1,5 @@
--- Laws of a choice: what holds of both branches, each under its test, holds of the choice.
-use mathlib.Core.Bool.{Bool, true, false, not}
+-- Laws of a choice: what holds of both branches, each under its test, holds of the choice; what a choice tells of its test.
+use mathlib.Core.Bool.{Bool, true, false, not, true≢false, false≢true}
 use mathlib.Core.Path.{_≡_, refl, ap}
 use Rattle.ground.specs.Choice.{pick}
 
@@ -15,6 +15,19 @@ pick-same false x = refl
 pub pick-of {ℓ κ} : {A : Type ℓ} {B : Type κ} (f : A → B) (b : Bool) (x y : A) → f (pick b x y) ≡ pick b (f x) (f y)
 pick-of f true x y = refl
 pick-of f false x y = refl
+
+-- a choice that came out as it can in one way only tells its test
+pub neither : (t u : Bool) → pick t true u ≡ false → (t ≡ false) × (u ≡ false)
+neither true u e = absurd (true≢false e)
+neither false u e = (refl, e)
+
+pub both-of : (t u : Bool) → pick t u false ≡ true → (t ≡ true) × (u ≡ true)
+both-of true u e = (refl, e)
+both-of false u e = absurd (false≢true e)
+
+pub not-first : (t u : Bool) → pick t false u ≡ true → (t ≡ false) × (u ≡ true)
+not-first true u e = absurd (false≢true e)
+not-first false u e = (refl, e)
 
 -- a test of a negation tells of what is negated
 pub un-not : (b t : Bool) → not b ≡ t → b ≡ not t

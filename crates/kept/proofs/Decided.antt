@@ -1,13 +1,12 @@
 -- What the refusals before an access leave: an option that may be written, and no register written while SRESET holds.
 use Prim.Native.Nat.{ℕ, _*_, _%_, _<_, _≤_}
-use mathlib.Core.Bool.{Bool, true, false}
+use mathlib.Core.Bool.{true, false}
 use mathlib.Core.Path.{_≡_, refl}
 use native.Mathlib.Omega.{arith}
 use lib.Dec.{eqb}
 use lib.ListN.{length}
 use borrow.Author.Tests.{eqb-true, eq-eqb, ne-eqb, le-leb}
-use Rattle.ground.specs.Choice.{pick}
-use Rattle.ground.proofs.Picks.{pick-elim}
+use Rattle.ground.proofs.Picks.{pick-elim, neither}
 use Rattle.answers.specs.declared.Refusal.the-variants.{NotWellMade, StoreLength, MarksLength, TupleBufferLength, HeldBySreset, SpaceSilent}
 use Rattle.maps.specs.declared.Mode.{Mode}
 use Rattle.maps.specs.declared.Mode.the-variants.{PcCard, TrueIde}
@@ -79,13 +78,9 @@ unfolding indexFits
 index-fits v h = le-leb (v % 256 % 64) 3 (omega arith)
 
 -- outside attribute memory nothing is reached while SRESET holds
-not-away : (b : Bool) → pick b true false ≡ false → b ≡ false
-not-away true e = e
-not-away false e = e
-
 free : (option space address : ℕ) → (space ≡ 0 → ⊥) → heldAway option space address ≡ false → sresetIn option ≡ false
 unfolding heldAway
-free option space address n e = not-away (sresetIn option) (rw (ne-eqb space 0 n) at e)
+free option space address n e = neither (sresetIn option) false (rw (ne-eqb space 0 n) at e) .0
 
 stands-allowed : (t : Standing) (s : State) (a : Access) → Known (a .space) (a .width) (a .write) (a .value) t →
     heldAway (s .option) (a .space) (a .address) ≡ false →

@@ -46,7 +46,7 @@ back-well c x b = together (c .state .made) (x .phase) (x .state) (b .0 .0) (b .
 
 back-sound : (c x : Card) (store marks : List ℕ) → Sound (machineOf c store marks) → Back c x → Sound (machineOf x store marks)
 back-sound c x store marks s b =
-    sound-next (machineOf c store marks) (machineOf x store marks) s ((b .0 .0, b .0 .1, b .0 .2 (s .bytes)), λ l. (refl, refl, b .1 l))
+    sound-next (machineOf c store marks) (machineOf x store marks) s ((b .0 .0, b .0 .1, b .0 .2 (s .count)), λ l. (refl, refl, b .1 l))
 
 pub option-kept : (v : ℕ) (c : Card) → wellMade (c .phase) (c .state) ≡ true → wellMade (optionAnswered v c .card .phase) (optionAnswered v c .card .state) ≡ true
 option-kept v c e = back-well c (optionAnswered v c .card) (option-back v c e)

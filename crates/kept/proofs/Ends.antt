@@ -91,22 +91,22 @@ mark-elim P allows e marks l b f g =
     (λ spot h. pick-elim P (allows (getD marks (spot .index) 0)) _ _ (λ x. f spot h) (λ x. g e b))
     g
 
-pub passed-fine : (left : ℕ) (d : Made) (s : State) → Fine d s → Fine d (sectorDone left s)
+pub done-fine : (left : ℕ) (d : Made) (s : State) → Fine d s → Fine d (sectorDone left s)
 unfolding sectorDone
-passed-fine left d s f =
+done-fine left d s f =
     pick-elim (λ (x : State). Fine d x) (eqb left 0) _ _ (λ e. (f .0, omega arith)) (λ e. (f .0, omega arith))
 
-passed-held : (left : ℕ) (s : State) → heldIn (sectorDone left s) ≡ heldIn s
+done-held : (left : ℕ) (s : State) → heldIn (sectorDone left s) ≡ heldIn s
 unfolding sectorDone heldIn
-passed-held left s = pick-elim (λ (x : State). heldIn x ≡ heldIn s) (eqb left 0) _ _ (λ e. refl) (λ e. refl)
+done-held left s = pick-elim (λ (x : State). heldIn x ≡ heldIn s) (eqb left 0) _ _ (λ e. refl) (λ e. refl)
 
 pub done-ready : (left : ℕ) (d : Made) (s : State) → Ready d s → Ready d (sectorDone left s)
-done-ready left d s r = (passed-fine left d s (r .0), passed-held left s ∙ r .1)
+done-ready left d s r = (done-fine left d s (r .0), done-held left s ∙ r .1)
 
-pub passed-count : (left : ℕ) (s : State) → left % 256 ≡ sectorDone left s .registers .count
+pub done-count : (left : ℕ) (s : State) → left % 256 ≡ sectorDone left s .registers .count
 unfolding sectorDone
-passed-count left s =
+done-count left s =
     pick-elim (λ (x : State). left % 256 ≡ x .registers .count) (eqb left 0) _ _ (λ e. let z = eqb-true left 0 e in omega arith) (λ e. refl)
 
 pub done-agrees : (left : ℕ) (s : State) → eqb left 0 ≡ false → left ≤ 255 → CountAgrees left (sectorDone left s)
-done-agrees left s e l = let n = eqb-false left 0 e in (omega arith, omega arith, passed-count left s)
+done-agrees left s e l = let n = eqb-false left 0 e in (omega arith, omega arith, done-count left s)

@@ -47,7 +47,7 @@ powered-sound g mode store marks f s k =
       store = s;
       marks = k;
       buffer = zeros-length;
-      bytes = omega arith;
+      count = omega arith;
     }
 
 abbrev refusalIn : Outcome → Refusal → Refusal

@@ -16,7 +16,7 @@ use Rattle.transfers.specs.Before.{sectorTest, sectorStored, storedBy}
 use Rattle.transfers.specs.Steps.{sectorDone}
 use Rattle.commands.specs.Runs.{goesOn, verifyFrom, Erased, erased, allFF, eraseFrom}
 use Rattle.kept.proofs.Registers.{CoreFits}
-use Rattle.kept.proofs.Ends.{Fine, ended-left, passed-fine}
+use Rattle.kept.proofs.Ends.{Fine, ended-left, done-fine}
 use Rattle.kept.proofs.Steps.{sector-stored}
 
 -- a sector of Erase by its tests, with n to come
@@ -53,13 +53,13 @@ erase-elim I P w f g (suc n) s store marks h =
     (erase-elim I P w f g n (sectorDone n s) (k .store) (k .marks) (f n s (k .store) (k .marks) i))
 
 pub verify-left : (n : ℕ) (d : Made) (s : State) (marks : List ℕ) → Fine d s → CoreFits d (verifyFrom n s marks)
-verify-left n d = verify-elim (Fine d) (CoreFits d) (λ n s f. passed-fine n d s f) (λ e s f. ended-left e true d s f) n
+verify-left n d = verify-elim (Fine d) (CoreFits d) (λ n s f. done-fine n d s f) (λ e s f. ended-left e true d s f) n
 
 -- what Erase leaves
 abbrev pub Blanked : Made → List ℕ → List ℕ → Erased → Type 0
 Blanked d store marks x = CoreFits d (x .core) × (length (x .store) ≡ length store) × (length (x .marks) ≡ length marks)
 
-all-FF-length : length allFF ≡ 512
+pub all-FF-length : length allFF ≡ 512
 unfolding allFF
 all-FF-length = length-replicate {A = ℕ} 512 0xFF
 
@@ -67,6 +67,6 @@ pub erase-left : (n : ℕ) (d : Made) (s : State) (store marks : List ℕ) → F
 erase-left n d s store marks f =
     erase-elim (λ (x : State) (st mk : List ℕ). Fine d x × (length st ≡ length store) × (length mk ≡ length marks)) (Blanked d store marks)
     (λ x st mk h. let w = sector-stored x allFF st mk all-FF-length in (h .0, w .0 ∙ h .1, w .1 ∙ h .2))
-    (λ k x st mk h. (passed-fine k d x (h .0), h .1, h .2))
+    (λ k x st mk h. (done-fine k d x (h .0), h .1, h .2))
     (λ e x st mk h. (ended-left e true d x (h .0), h .1, h .2))
     n s store marks (f, refl, refl)

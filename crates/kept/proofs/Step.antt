@@ -74,14 +74,14 @@ sound-next m n s x =
       store = l .0 ∙ s .store ∙ ap (λ (k : ℕ). 512 * k) t;
       marks = l .1 ∙ s .marks ∙ t;
       buffer = l .2;
-      bytes = x .0 .2;
+      count = x .0 .2;
     }
 
 pub fit-step-sound : (m : Machine) (a : Access) → Sound m → Sound (fitStep m a .next)
-fit-step-sound m a s = sound-next m (fitStep m a .next) s (fit-step-next m a (s .bytes) (s .made))
+fit-step-sound m a s = sound-next m (fitStep m a .next) s (fit-step-next m a (s .count) (s .made))
 
 pub sound-kept : (m : Machine) (a : Access) → Sound m → Sound (step m a .next)
-sound-kept m a s = sound-next m (step m a .next) s (step-next m a (s .bytes) (s .made))
+sound-kept m a s = sound-next m (step m a .next) s (step-next m a (s .count) (s .made))
 
 -- Of such a machine, and a tuple buffer of 256 bytes, rows 12, 2, 3 and 5 do not apply.
 pub sound-fit-step : (m : Machine) (a : Access) → Sound m → length (a .tuples) ≡ 256 → fitStep m a ≡ step m a

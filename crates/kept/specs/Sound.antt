@@ -18,4 +18,4 @@ pub record Sound (m : Machine) : Type 0 where
   pub store : length (m .store) ≡ 512 * totalIn (m .state)
   pub marks : length (m .marks) ≡ totalIn (m .state)
   pub buffer : length (m .buffer) ≡ 512
-  pub bytes : CountFits (m .state)
+  pub count : CountFits (m .state)

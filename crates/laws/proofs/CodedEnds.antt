@@ -96,9 +96,9 @@ erases n s store marks =
 
 -- ---- the table
 
-geometry-set : (r : Reshaped) (s : State) → Coded (reshapedEnded r s .state)
-geometry-set (Reshaped.Taken g) s = end-coded Good _
-geometry-set Reshaped.Refused s = end-coded BadGeometry 0
+reshaped-ended : (r : Reshaped) (s : State) → Coded (reshapedEnded r s .state)
+reshaped-ended (Reshaped.Taken g) s = end-coded Good _
+reshaped-ended Reshaped.Refused s = end-coded BadGeometry 0
 
 obeys : (c : Command) (s : State) (m : Machine) → Coded (obeyed c s m .state)
 obeys Read s m = read-sector _ _
@@ -108,7 +108,7 @@ obeys Erase s m = erases _ s (m .store) (m .marks)
 obeys Identify s m = begun-coded _
 obeys ReadBuffer s m = begun-coded _
 obeys WriteBuffer s m = begun-coded _
-obeys SetGeometry s m = geometry-set (reshaped (s .registers .count) (s .registers .address .head) (totalIn s)) s
+obeys SetGeometry s m = reshaped-ended (reshaped (s .registers .count) (s .registers .address .head) (totalIn s)) s
 obeys Diagnose s m = end-coded Good _
 obeys Recalibrate s m = end-coded Good _
 obeys Seek s m = end-coded (soughtEnd (seek (s .registers .address) (s .current) (totalIn s))) (s .code)

@@ -27,8 +27,8 @@ use Rattle.kept.proofs.Runs.{erasesOn}
 
 -- ---- a stored sector's mark is 0, and so it can be written as before
 
-abbrev Same : List ℕ → List ℕ → Type 0
-Same marks marks0 = (j : ℕ) → writable (getD marks j 0) ≡ writable (getD marks0 j 0)
+abbrev SameWritable : List ℕ → List ℕ → Type 0
+SameWritable marks marks0 = (j : ℕ) → writable (getD marks j 0) ≡ writable (getD marks0 j 0)
 
 by-place : (b : Bool) (marks : List ℕ) (i j : ℕ) → eqb j i ≡ b → i < length marks → writable (getD marks i 0) ≡ true → writable (getD (set marks i 0) j 0) ≡ writable (getD marks j 0)
 unfolding writable
@@ -36,11 +36,11 @@ by-place true marks i j e l w =
     subst (λ (x : ℕ). writable (getD (set marks i 0) x 0) ≡ writable (getD marks x 0)) (sym (eqb-true j i e)) (ap writable (getD-set-same marks i 0 0 l) ∙ sym w)
 by-place false marks i j e l w = ap writable (getD-set-other marks i j 0 0 (eqb-false j i e))
 
-same-stored : (store marks marks0 bytes : List ℕ) (i : ℕ) → Same marks marks0 → writable (getD marks i 0) ≡ true → Same (stored store marks i bytes .marks) marks0
+same-stored : (store marks marks0 bytes : List ℕ) (i : ℕ) → SameWritable marks marks0 → writable (getD marks i 0) ≡ true → SameWritable (stored store marks i bytes .marks) marks0
 unfolding stored
 same-stored store marks marks0 bytes i h w =
-    pick-elim (λ (k : StoreMarks). Same (k .marks) marks0) (ltb i (length store / 512)) _ _
-    (λ e. pick-elim (λ (k : StoreMarks). Same (k .marks) marks0) (ltb i (length marks)) _ _
+    pick-elim (λ (k : StoreMarks). SameWritable (k .marks) marks0) (ltb i (length store / 512)) _ _
+    (λ e. pick-elim (λ (k : StoreMarks). SameWritable (k .marks) marks0) (ltb i (length marks)) _ _
     (λ f j. by-place (eqb j i) marks i j refl (ltb-true _ _ f) w ∙ h j)
     (λ f. h))
     (λ e. h)
@@ -55,7 +55,7 @@ abbrev Rest : ℕ → State → List Change → List ℕ → List ℕ → Type 0
 Rest n s rest store marks = storeMarksOf (eraseFrom n s store marks) ≡ changed rest (storeMarks store marks)
 
 by-mark : (b : Bool) (spot : Spot) (n : ℕ) (s : State) (store marks marks0 : List ℕ) (rest : List Change) →
-    Same marks marks0 → writable (getD marks (spot .index) 0) ≡ b → ((st mk : List ℕ) → Same mk marks0 → Rest n (sectorDone n s) rest st mk) →
+    SameWritable marks marks0 → writable (getD marks (spot .index) 0) ≡ b → ((st mk : List ℕ) → SameWritable mk marks0 → Rest n (sectorDone n s) rest st mk) →
     storeMarksOf (erasesOn (pick b (Passes spot) (Fails WriteFault)) n s store marks)
     ≡ changed (pick b (record { index = spot .index; bytes = replicate 512 0xFF } ∷ rest) []) (storeMarks store marks)
 unfolding changed allFF
@@ -63,7 +63,7 @@ by-mark true spot n s store marks marks0 rest h w f = f _ _ (same-stored store m
 by-mark false spot n s store marks marks0 rest h w f = refl
 
 by-address : (l : Located) (n : ℕ) (s : State) (store marks marks0 : List ℕ) (rest : List Change) →
-    Same marks marks0 → ((st mk : List ℕ) → Same mk marks0 → Rest n (sectorDone n s) rest st mk) →
+    SameWritable marks marks0 → ((st mk : List ℕ) → SameWritable mk marks0 → Rest n (sectorDone n s) rest st mk) →
     storeMarksOf (erasesOn (markTested writable WriteFault (testedOf l) marks) n s store marks) ≡ changed (writes l marks0 (replicate 512 0xFF) rest) (storeMarks store marks)
 unfolding changed
 by-address (Located.Good spot) n s store marks marks0 rest h f =
@@ -82,7 +82,7 @@ unfolding erasures sectorDone
 next-address zero s marks = refl
 next-address (suc n) s marks = rw (ne-eqb (suc n) 0 (λ e. omega arith))
 
-erased-sectors : (n : ℕ) (s : State) (store marks marks0 : List ℕ) → Same marks marks0 → Rest n s (erasuresIn n s marks0) store marks
+erased-sectors : (n : ℕ) (s : State) (store marks marks0 : List ℕ) → SameWritable marks marks0 → Rest n s (erasuresIn n s marks0) store marks
 unfolding eraseFrom erasures changed sectorStored sectorTest addressTest
 erased-sectors zero s store marks marks0 h = refl
 erased-sectors (suc n) s store marks marks0 h =

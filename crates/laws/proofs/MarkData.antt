@@ -28,7 +28,7 @@ use Rattle.transfers.specs.declared.Way.the-variants.{In, Out}
 use Rattle.transfers.specs.Before.{addressTest, sectorTest, sectorStored}
 use Rattle.transfers.specs.Steps.{phaseOf, idleWith, sectorDone, readTested, readSector, nextRead, loadRead, askTested, askSector, nextAsked, coreWritten, loadWritten, dropped}
 use Rattle.port.specs.Data.{Effect, dataRead, dataWritten}
-use Rattle.kept.proofs.Ends.{bad, mark-elim, passed-count}
+use Rattle.kept.proofs.Ends.{bad, mark-elim, done-count}
 use Rattle.kept.proofs.DataElim.{partCome, data-read-elim, data-written-elim}
 use Rattle.laws.specs.Mark.{asks, another, MarkRule}
 use Rattle.laws.specs.Acts.{DataRead, DataWrite}
@@ -55,7 +55,7 @@ left-facts : (left : ℕ) (s : State) → loadFits (Sectors left) s ≡ true →
 unfolding loadFits sectorsFit
 left-facts left s f e =
     let t = each (found (locatedIn s) ∷ leb 1 left ∷ leb left 256 ∷ eqb (left % 256) (s .registers .count) ∷ []) f in
-    rw (← passed-count (left - 1) s) (counts-down left (s .registers .count) (leb-true _ _ (t 1)) (eqb-true _ _ (t 3)))
+    rw (← done-count (left - 1) s) (counts-down left (s .registers .count) (leb-true _ _ (t 1)) (eqb-true _ _ (t 3)))
 
 -- ---- reading
 

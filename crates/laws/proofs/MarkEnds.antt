@@ -50,9 +50,9 @@ erases : (n : ℕ) (s : State) (store marks : List ℕ) → Over (eraseFrom n s 
 erases n s store marks =
     erase-elim (λ (x : State) (st mk : List ℕ). Unit {0}) (λ (k : Erased). Over (k .core .state)) (λ s st mk u. tt) (λ n s st mk u. tt) (λ e s st mk u. (refl, end-asks e)) n s store marks tt
 
-geometry-set : (r : Reshaped) (s : State) → Over (reshapedEnded r s .state)
-geometry-set (Reshaped.Taken g) s = (refl, refl)
-geometry-set Reshaped.Refused s = (refl, refl)
+reshaped-ended : (r : Reshaped) (s : State) → Over (reshapedEnded r s .state)
+reshaped-ended (Reshaped.Taken g) s = (refl, refl)
+reshaped-ended Reshaped.Refused s = (refl, refl)
 
 -- the rule of a row whose command is over
 done : (c : Command) (s n : State) → Over n → MarkRule (CommandWrite c) s n
@@ -76,7 +76,7 @@ obeys Erase s n m e = done Erase s _ (erases (countOf n) n (m .store) (m .marks)
 obeys Identify s n m e = ready Identify s (obeyed Identify n m .state) refl refl refl
 obeys ReadBuffer s n m e = ready ReadBuffer s (obeyed ReadBuffer n m .state) refl refl refl
 obeys WriteBuffer s n m e = asked WriteBuffer s (obeyed WriteBuffer n m .state) refl e refl
-obeys SetGeometry s n m e = done SetGeometry s _ (geometry-set (reshaped (n .registers .count) (n .registers .address .head) (totalIn n)) n)
+obeys SetGeometry s n m e = done SetGeometry s _ (reshaped-ended (reshaped (n .registers .count) (n .registers .address .head) (totalIn n)) n)
 obeys Diagnose s n m e = over Diagnose s (obeyed Diagnose n m .state) refl refl
 obeys Recalibrate s n m e = over Recalibrate s (obeyed Recalibrate n m .state) refl refl
 obeys Seek s n m e = over Seek s (obeyed Seek n m .state) refl (end-asks (soughtEnd (seek (n .registers .address) (n .current) (totalIn n))))

@@ -7,6 +7,7 @@ use mathlib.Core.List.{List}
 use lib.Dec.{leb}
 use lib.ListN.{length}
 use borrow.Author.Tests.{le-ltb, lt-ltb, leb-true, leb-false}
+use Rattle.ground.proofs.Picks.{pick-same}
 use Rattle.ground.specs.Choice.{pick}
 use Rattle.answers.specs.declared.Refusal.the-variants.{SpaceSilent, IndexAboveThree}
 use Rattle.maps.specs.declared.Mode.{Mode}
@@ -34,13 +35,9 @@ pub step-as : (m : Machine) (a : Access) (k : Meaning) → meaning m a ≡ k →
 unfolding step
 step-as m a k e = ap (λ (x : Meaning). stepped (perform x m)) e
 
-either : (b : Bool) → pick b false false ≡ false
-either true = refl
-either false = refl
-
 not-away : (option : ℕ) → heldAway option 0 0x200 ≡ false
 unfolding heldAway
-not-away option = either (leb 128 option)
+not-away option = pick-same (leb 128 option) false
 
 abbrev optionMeaning : Mode → ℕ → Meaning
 optionMeaning TrueIde v = Meaning.Refused SpaceSilent

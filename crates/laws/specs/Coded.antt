@@ -11,7 +11,7 @@ use Rattle.transfers.specs.declared.Tested.the-variants.{Passes, Fails}
 use Rattle.transfers.specs.Ends.{endCode}
 use Rattle.card.specs.Step.{Stepped}
 
--- "ends in error" is read off Status
+-- an error is read off Status
 abbrev pub inError : ℕ → Bool
 inError status = pick (eqb status 0x51) true (eqb status 0x71)
 

@@ -6,7 +6,7 @@ use mathlib.Core.Path.{_≡_, refl, sym, subst, _∙_}
 use mathlib.Core.Bool.{Bool, true, false, not, _&&_, _||_, true≢false}
 use borrow.Author.Tests.{eqb-true, eqb-false, leb-true, ltb-false}
 use Rattle.ground.specs.Choice.{pick}
-use Rattle.ground.proofs.Picks.{pick-elim}
+use Rattle.ground.proofs.Picks.{pick-elim, pick-same}
 use Rattle.answers.specs.Answers.{numberOf}
 use Rattle.answers.specs.declared.Refusal.{Refusal}
 use Rattle.answers.specs.declared.Refusal.the-variants.{NoRegister}
@@ -48,15 +48,12 @@ byte-fits even width write value one =
     (λ e f. record { one = eqb-true _ _ e; small = λ w. ltb-false 255 value (rw w at f) })
     (λ e f. absurd (true≢false (sym one ∙ f)))
 
-no-word : (width : ℕ) → pick (eqb width 2) (not false) true ≡ true
-no-word width = pick-elim (λ (t : Bool). t ≡ true) (eqb width 2) _ _ (λ e. refl) (λ e. refl)
-
 byte-at-known : (target : Target) (space width : ℕ) (write : Bool) (value : ℕ) → (Byte width write value → Known space width write value (There target)) → Known space width write value (byteAt target width write value)
 unfolding byteAt
 byte-at-known target space width write value f =
     pick-elim (Known space width write value) (misfits false width write value) _ _
     (λ e. refl)
-    (λ e. f (byte-fits false width write value (no-word width) e))
+    (λ e. f (byte-fits false width write value (pick-same (eqb width 2) true) e))
 
 tuple-known : (number space width : ℕ) (write : Bool) (value : ℕ) → space ≡ 0 → number ≤ 255 → Known space width write value (tupleAt number width write value)
 unfolding tupleAt
@@ -70,7 +67,7 @@ option-known space width write value z =
     (λ e. refl)
     (λ e. pick-elim (Known space width write value) (write && ltb 3 (value % 64)) _ _
     (λ a. refl)
-    (λ a. (z, λ w. ltb-false 3 (value % 64) (rw w at a), byte-fits false width write value (no-word width) e)))
+    (λ a. (z, λ w. ltb-false 3 (value % 64) (rw w at a), byte-fits false width write value (pick-same (eqb width 2) true) e)))
 
 attribute-known : (space address width : ℕ) (write : Bool) (value : ℕ) → space ≡ 0 → Known space width write value (attributeAt address width write value)
 unfolding attributeAt

@@ -40,7 +40,7 @@ pub fn marks_fit(marks: &[u8]) -> bool
 }
 
 // Sector i comes into the buffer.
-pub fn load_sector(store: &[u8], i: usize, buffer: &mut [u8; 512])
+pub fn fetch_sector(store: &[u8], i: usize, buffer: &mut [u8; 512])
     ensures { λ _. ⌜ now (buffer .exit) ≡ bufferRead (now (store .entry)) i (now (buffer .entry)) ⌝ }
 {
     let sectors = store.len() / 512;

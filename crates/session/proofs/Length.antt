@@ -26,7 +26,7 @@ use Rattle.records.specs.declared.After.{After}
 use Rattle.session.specs.declared.Ending.{Ending}
 use Rattle.session.specs.declared.Ending.the-variants.{Whole, Broken, Unopened}
 use Rattle.records.specs.Record.{recordAt, afterOf, firstOf, sizeOf}
-use Rattle.session.specs.Run.{Script, byTurn, scriptFrom, wrapped, lineText, linesOf, endText, resultOf}
+use Rattle.session.specs.Run.{Script, byAfter, scriptFrom, wrapped, lineText, linesOf, endText, resultOf}
 use Rattle.session.specs.Play.{Session, opensAs, openedOn, opening, byFirst, sessionOf, printOf, geometryOf, zeroBytes, noTuples}
 use Rattle.records.proofs.Fits.{access-fits}
 
@@ -39,7 +39,7 @@ size-least true = omega arith
 size-least false = omega arith
 
 turn-short : (t : After) (bound : ℕ) (part tuples : List ℕ) (rest : ℕ → Script) (at : ℕ) → length part ≤ bound → at < length part → afterOf (recordAt part at false) ≡ t →
-    ((next : ℕ) → next ≤ bound → Short bound next (rest next)) → Short bound at (byTurn t rest tuples at)
+    ((next : ℕ) → next ≤ bound → Short bound next (rest next)) → Short bound at (byAfter t rest tuples at)
 turn-short (After.Access write q) bound part tuples rest at h g e ih =
     let f = access-fits write q part at g e in
     let w = size-least write in

@@ -38,7 +38,7 @@ fit-sound : (m : Machine) (tuples : List ℕ) → VerdictIs Fit m tuples → Cou
 unfolding verdictOf
 fit-sound m tuples e b l =
     let h = all-hold (wellMade (m .phase) (m .state)) (eqb (length (m .store)) (512 * totalIn (m .state))) (eqb (length (m .marks)) (totalIn (m .state))) (eqb (length tuples) 256) e in
-    (record { made = h .0; store = eqb-true _ _ (h .1); marks = eqb-true _ _ (h .2); buffer = l; bytes = b }, eqb-true _ _ (h .3))
+    (record { made = h .0; store = eqb-true _ _ (h .1); marks = eqb-true _ _ (h .2); buffer = l; count = b }, eqb-true _ _ (h .3))
 
 sound-fit : (m : Machine) (tuples : List ℕ) → Sound m → length tuples ≡ 256 → VerdictIs Fit m tuples
 unfolding verdictOf

@@ -6,7 +6,7 @@ use lib.Dec.{eqb, ltb}
 use lib.ListN.{length, replicate}
 use Rattle.ground.specs.Choice.{pick}
 use Rattle.answers.specs.declared.Outcome.{Outcome}
-use Rattle.answers.specs.declared.Refusal.the-variants.{GeometryOrMode}
+use Rattle.answers.specs.declared.Refusal.the-variants.{GeometryOrMode, SessionBroken}
 use Rattle.answers.specs.Answers.{numberOf}
 use Rattle.geometry.specs.declared.Geometry.{Geometry}
 use Rattle.geometry.specs.Limits.{capacityOf}
@@ -101,5 +101,5 @@ toldAs t bytes = record { place = t .place; done = t .done; end = t .end; out = 
 -- each ending has the number of 01's table: 17 is a broken file's
 abbrev pub endNumber : Ending → ℕ
 endNumber Whole = 0
-endNumber (Broken why) = 17
+endNumber (Broken why) = numberOf SessionBroken
 endNumber (Unopened r) = numberOf r

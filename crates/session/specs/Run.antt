@@ -35,16 +35,16 @@ asks a s = record { accesses = a ∷ s .accesses; place = s .place; end = s .end
 abbrev pub accessOf : Bool → Asked → List ℕ → Access
 accessOf write a tuples = record { space = a .space; width = a .width; write = write; address = a .address; value = a .value; tuples = tuples }
 
-abbrev pub byTurn : After → (ℕ → Script) → List ℕ → ℕ → Script
-byTurn (After.Access write a) rest tuples at = asks (accessOf write a tuples) (rest (at + sizeOf write))
-byTurn (After.Stop why) rest tuples at = ends at (Broken why)
+abbrev pub byAfter : After → (ℕ → Script) → List ℕ → ℕ → Script
+byAfter (After.Access write a) rest tuples at = asks (accessOf write a tuples) (rest (at + sizeOf write))
+byAfter (After.Stop why) rest tuples at = ends at (Broken why)
 
 -- at most so many accesses, from a place on: "accesses before it stand", and nothing after it
 unfoldable pub scriptFrom : ℕ → List ℕ → List ℕ → ℕ → Script
 scriptFrom zero part tuples at = ends at Whole
 scriptFrom (suc most) part tuples at =
     pick (leb (length part) at) (ends at Whole)
-    (byTurn (afterOf (recordAt part at false)) (scriptFrom most part tuples) tuples at)
+    (byAfter (afterOf (recordAt part at false)) (scriptFrom most part tuples) tuples at)
 
 -- numbers and places have 64 bits
 abbrev pub wrapped : ℕ → ℕ

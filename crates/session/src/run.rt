@@ -187,7 +187,7 @@ fn lines(
 }
 
 // The same of any card with anything lent.
-pub fn run_from(
+pub(crate) fn run_from(
     card: Card,
     part: &[u8],
     from: usize,

@@ -49,7 +49,7 @@ lineBy number write answer value =
 abbrev pub line : ℕ → Bool → ℕ → ℕ → List ℕ
 line number write answer value = lineBy (decimal number) write answer value
 
--- "the value read or written …(0000 if refused)"
+-- "the value read or written … (0000 if refused)"
 abbrev pub shownValue : Outcome → Bool → ℕ → ℕ
 shownValue (Outcome.Accepted v) write value = pick write value v
 shownValue (Outcome.Refused r) write value = 0

@@ -230,7 +230,7 @@ fn put_byte(out: &mut [u8], at: usize, b: u8) -> usize
 }
 
 // Any text, as far as the output goes.
-pub fn put(out: &mut [u8], at: usize, text: &[u8]) -> usize
+fn put(out: &mut [u8], at: usize, text: &[u8]) -> usize
     ensures { λ r. ⌜ output (now (out .exit)) r ≡ put (output (now (out .entry)) at) (now (text .entry)) ⌝ }
 {
     let mut next = at;

@@ -32,7 +32,7 @@ pub enum Tested {
     Fails(End),
 }
 
-// Which way a sector goes, as the host sees it: it is read or verified, or it is stored.
+// Which way a sector or the buffer goes: in, where it is read (a sector also verified), or out, where it is written (a sector also erased).
 pub enum Way {
     In,
     Out,
@@ -257,7 +257,7 @@ pub fn read_sector(
     match sector_test(state, Way::In, marks) {
         Tested::Passes(spot) => {
             let i = spot.index;
-            sectors::load_sector(store, i, buffer);
+            sectors::fetch_sector(store, i, buffer);
             begun(state, Way::In, Load::Sectors(left), true)
         }
         Tested::Fails(end) => ended(state, end, true),

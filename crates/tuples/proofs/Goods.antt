@@ -1,6 +1,6 @@
 -- What a tuple that may be written is known to be.
-use mathlib.Core.Path.{_≡_, refl}
-use mathlib.Core.Bool.{Bool, true, false, false≢true}
+use mathlib.Core.Path.{_≡_}
+use mathlib.Core.Bool.{true, false}
 use mathlib.Core.List.{List}
 use Prim.Native.Nat.{ℕ, _+_, _≤_}
 use native.Mathlib.Omega.{arith}
@@ -8,17 +8,9 @@ use lib.ListN.{length, drop, length-drop}
 use lib.Seq.{length-take-le}
 use lib.Dec.{eqb}
 use borrow.Author.Tests.{leb-true}
-use Rattle.ground.specs.Choice.{pick}
+use Rattle.ground.proofs.Picks.{not-first}
 use Rattle.tuples.specs.Write.{good, bodyOf}
 use Rattle.tuples.specs.declared.Entry.{Entry}
-
-pub both-of : (t u : Bool) → pick t u false ≡ true → (t ≡ true) × (u ≡ true)
-both-of true u p = (refl, p)
-both-of false u p = absurd (false≢true p)
-
-not-first : (t u : Bool) → pick t false u ≡ true → (t ≡ false) × (u ≡ true)
-not-first true u p = absurd (false≢true p)
-not-first false u p = (refl, p)
 
 pub record Good (bs : List ℕ) (e : Entry) : Type 0 where
   pub not-0 : eqb (e .code) 0 ≡ false

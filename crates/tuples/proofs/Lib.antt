@@ -3,7 +3,7 @@ pub mod Counts
 pub mod Goods
 pub mod Filling
 pub mod Bounds
-pub mod Fills
+pub mod PutTuple
 pub mod Pages
 pub mod Doors
 pub mod RoundTrip

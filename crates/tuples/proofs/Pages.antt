@@ -11,7 +11,7 @@ use lib.Seq.{paste}
 use lib.Dec.{leb, eqb}
 use borrow.Author.Tests.{leb-true, leb-false}
 use Rattle.ground.specs.Choice.{pick}
-use Rattle.ground.proofs.Picks.{pick-elim, pick-same, pick-of}
+use Rattle.ground.proofs.Picks.{pick-elim, pick-same, pick-of, both-of}
 use Rattle.answers.specs.declared.Outcome.{Outcome}
 use Rattle.answers.specs.declared.Outcome.the-variants.{Accepted, Refused}
 use Rattle.answers.specs.declared.Refusal.the-variants.{TupleBufferLength, TuplesTooLong, TupleBad}
@@ -20,8 +20,8 @@ use Rattle.tuples.specs.Page.{page, newPage, withTuple, addedTo, pages, 
 use Rattle.tuples.specs.Write.{good, bodyOf, tupleBytes, allGood, filledUp, writeOutcome, Writes}
 use Rattle.tuples.specs.declared.Entry.{Entry}
 use Rattle.tuples.specs.declared.Page.{Page}
-use Rattle.tuples.proofs.Fills.{put}
-use Rattle.tuples.proofs.Goods.{Good, is-good, both-of, long-body}
+use Rattle.tuples.proofs.PutTuple.{put}
+use Rattle.tuples.proofs.Goods.{Good, is-good, long-body}
 
 -- ---- the marks
 bad-pick : (t u : Bool) (b : Bool) → pick u (pick t b true) true ≡ pick (pick t u false) b true

@@ -11,13 +11,13 @@ use lib.ListN.{length, take, drop, replicate, length-append, length-drop}
 use lib.Seq.{length-take-le, drop-at, take-at}
 use lib.Dec.{leb, eqb}
 use borrow.Author.Tests.{le-leb}
-use Rattle.ground.proofs.Picks.{pick-elim}
+use Rattle.ground.proofs.Picks.{pick-elim, both-of}
 use Rattle.tuples.specs.Chain.{Chain, grow, entry, chainFrom}
-use Rattle.tuples.specs.Write.{good, bodyOf, tupleBytes, allGood, nullsDropped}
+use Rattle.tuples.specs.Write.{good, bodyOf, tupleBytes, allGood, nullsDropped, codes}
 use Rattle.tuples.specs.declared.Entry.{Entry}
 use Rattle.tuples.proofs.Chains.{skip}
 use Rattle.tuples.proofs.Filling.{after-one, after-two}
-use Rattle.tuples.proofs.Goods.{both-of, is-good, long-body}
+use Rattle.tuples.proofs.Goods.{is-good, long-body}
 
 -- ---- reading what was written
 -- the same tuples, as they lie in a row from a place on
@@ -50,9 +50,6 @@ reads-back bs (e ∷ es) m at p =
     (ap (λ (l : List ℕ). chainFrom (e .length) l (at + 2)) (append-assoc body (tupleBytes bs es) (replicate (suc m) 255))
     ∙ over-body body rest (e .length) (at + 2) (long-body bs e g)
     ∙ reads-back bs es m (at + 2 + e .length) (gs .1)))
-
-abbrev pub codes : List Entry → List ℕ
-codes es = map (λ (e : Entry). e .code) es
 
 pub same-codes : (es : List Entry) (at : ℕ) → codes (laid at es) ≡ codes es
 unfolding laid

@@ -17,12 +17,12 @@ use Rattle.answers.specs.declared.Refusal.the-variants.{TupleBufferLength, Tupl
 use Rattle.tuples.specs.Chain.{Chain, chainFrom, chainAt}
 use Rattle.tuples.specs.Read.{readOutcome, counted, unlessRefused, Reads}
 use Rattle.answers.specs.Answers.{refused}
-use Rattle.tuples.specs.Write.{bodyOf, tupleBytes, allGood, filledUp, writeOutcome, backOutcome, nullsDropped, Writes, WritesBack}
+use Rattle.tuples.specs.Write.{bodyOf, tupleBytes, allGood, filledUp, writeOutcome, backOutcome, nullsDropped, Writes, WritesBack, codes, SameTuples}
 use Rattle.tuples.specs.declared.Entry.{Entry}
 use Rattle.tuples.proofs.Filling.{all}
 use Rattle.tuples.proofs.Bounds.{most-entries, read-well}
 use Rattle.tuples.proofs.Doors.{entries-first, back-written}
-use Rattle.tuples.proofs.RoundTrip.{laid, whole, reads-back, codes, same-codes, same-count, same-bodies, back}
+use Rattle.tuples.proofs.RoundTrip.{laid, whole, reads-back, same-codes, same-count, same-bodies, back}
 use Rattle.answers.proofs.Outcomes.{accepts-not}
 
 -- ---- what an accepted writing says
@@ -51,9 +51,6 @@ written-length ts h =
     let R : List ℕ = replicate (256 - length ts) 255 in
     let l : length R ≡ 256 - length ts = length-replicate (256 - length ts) 255 in
     omega (arith, length-append ts R, l)
-
-abbrev SameTuples : List ℕ → List Entry → List ℕ → Outcome → List Entry → Type 0
-SameTuples bs es z r zs = (r ≡ Accepted (length es)) × ((codes (take (length es) zs) ≡ codes es) × (map (bodyOf z) (take (length es) zs) ≡ map (bodyOf bs) es))
 
 of-page : (bs : List ℕ) (es ls : List Entry) (r : Outcome) (zs : List Entry) → allGood bs es ≡ true → length (tupleBytes bs es) ≤ 255 → 127 ≤ length ls
     → Reads (filledUp (tupleBytes bs es)) ls r zs → SameTuples bs es (filledUp (tupleBytes bs es)) r zs

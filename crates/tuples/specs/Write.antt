@@ -2,7 +2,7 @@
 use Prim.Native.Nat.{ℕ, zero, suc, _+_, _-_}
 use mathlib.Core.Path.{_≡_}
 use mathlib.Core.Bool.{Bool, true, false}
-use mathlib.Core.List.{List, _∷_, _++_, []}
+use mathlib.Core.List.{List, _∷_, _++_, map, []}
 use lib.ListN.{length, take, drop, replicate}
 use lib.Dec.{leb, eqb}
 use Rattle.ground.specs.Choice.{pick}
@@ -73,3 +73,10 @@ nullsDropped k [] = []
 nullsDropped (suc k) (b ∷ r) = b ∷ nullsDropped k r
 nullsDropped zero (b ∷ []) = []
 nullsDropped zero (b ∷ (n ∷ r)) = pick (eqb b 255) [] (pick (eqb b 0) (nullsDropped zero (n ∷ r)) (b ∷ (n ∷ nullsDropped n r)))
+
+-- "Reading back gives the same codes and bodies, starts apart": of the first places of a list that was read back from the page z
+abbrev pub codes : List Entry → List ℕ
+codes es = map (λ (e : Entry). e .code) es
+
+abbrev pub SameTuples : List ℕ → List Entry → List ℕ → Outcome → List Entry → Type 0
+SameTuples bs es z r zs = (r ≡ Accepted (length es)) × ((codes (take (length es) zs) ≡ codes es) × (map (bodyOf z) (take (length es) zs) ≡ map (bodyOf bs) es))

@@ -1,4 +1,6 @@
 // 01, "Tuples": the reader and the writer of a tuple chain, over a lent buffer and a lent list of entries.
+use answers::Outcome;
+use answers::Refusal;
 ghost use mathlib.Core.Path.{_≡_};
 ghost use Prim.Native.Nat.{_≤_, _+_, min};
 ghost use mathlib.Core.List.{[]};
@@ -9,8 +11,6 @@ ghost use Rattle.tuples.specs.Chain.{endOf, stepAt, chainAt, nextAt, fir
 ghost use Rattle.tuples.specs.Read.{counted, readOutcome, checked, heldAfter, Reads, handed};
 ghost use Rattle.tuples.specs.Write.{good, Writes, WritesBack, made, lastPlace};
 ghost use Rattle.tuples.specs.Page.{newPage, addedTo, Puts};
-use answers::Outcome;
-use answers::Refusal;
 
 // A tuple: its code, and where its body starts and how long it is.
 pub struct Entry {

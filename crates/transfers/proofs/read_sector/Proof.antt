@@ -10,8 +10,8 @@ sector-test-requires c κs = search needs
 enum-known-spot : tie.Need-enum-known-spot
 enum-known-spot c = search needs
 
-load-sector-requires : tie.Need-load-sector-requires
-load-sector-requires c κs = search needs
+fetch-sector-requires : tie.Need-fetch-sector-requires
+fetch-sector-requires c κs = search needs
 
 begun-requires : tie.Need-begun-requires
 begun-requires c κs = search needs
@@ -28,7 +28,7 @@ returns c =
     let c4 = c .before .before .before .before in
     let c6 = c4 .before .before in
     let e = sym (c6 .sector-test .ensures) ∙ c4 .spot .given .1 in
-    simp (e, c .begun .ensures, c .before .load-sector .ensures)
+    simp (e, c .begun .ensures, c .before .fetch-sector .ensures)
 
 returns-2 : tie.Need-returns-2
 unfolding readSector
@@ -40,7 +40,7 @@ read-sector-spec =
     (tie.spec
     sector-test-requires
     enum-known-spot
-    load-sector-requires
+    fetch-sector-requires
     begun-requires
     enum-known-end
     ended-requires

@@ -2,7 +2,7 @@ use mathlib.Core.Path.{sym, _∙_}
 use native.Mathlib.Omega.{arith}
 use borrow.Author.Tests.{leb-true, lt-leb, ne-eqb}
 use Rattle.ground.specs.Choice.{every}
-use Rattle.geometry.specs.Limits.{headTests, currentTests, currentFor}
+use Rattle.geometry.specs.Limits.{shapeTests, currentTests, currentFor}
 use Rattle.ground.proofs.Tests.{tests}
 use Rattle.ground.proofs.Every.{each, one-fails}
 use Rattle.ground.proofs.Picks.{un-not}
@@ -11,13 +11,13 @@ use borrow.Author.Needs.{needs}
 use Rattle.geometry.proofs.Geometry.current_for.Statement.{statement}
 use Rattle.geometry.proofs.Geometry.current_for.Tie as tie
 
-heads-fit-requires : tie.Need-heads-fit-requires
-heads-fit-requires c κs = search needs
+shape-fits-requires : tie.Need-shape-fits-requires
+shape-fits-requires c κs = search needs
 
 returns : tie.Need-returns
 unfolding currentFor
 returns c =
-    let h = sym (c .before .heads-fit .ensures) ∙ un-not _ _ (c .if1 .taken) in
+    let h = sym (c .before .shape-fits .ensures) ∙ un-not _ _ (c .if1 .taken) in
     sym (one-fails (currentTests (c .before .before .args .self) _) 0 h)
 
 returns-2 : tie.Need-returns-2
@@ -28,7 +28,7 @@ mul-cylinders : tie.Need-mul-cylinders
 mul-cylinders c =
     let c4 = c .before .before .before .before in
     let g = c4 .before .args .self in
-    let h = each (headTests g) (sym (c4 .heads-fit .ensures) ∙ un-not _ _ (c .before .before .before .if1 .left)) in
+    let h = each (shapeTests g) (sym (c4 .shape-fits .ensures) ∙ un-not _ _ (c .before .before .before .if1 .left)) in
     let p = product-most (g .heads) (g .sectors) 16 255 (leb-true _ _ (h 1)) (leb-true _ _ (h 3)) in
     record { fits = omega arith }
 
@@ -36,7 +36,7 @@ div-cylinders : tie.Need-div-cylinders
 div-cylinders c =
     let c4 = c .before .before .before .before in
     let g = c4 .before .args .self in
-    let h = each (headTests g) (sym (c4 .heads-fit .ensures) ∙ un-not _ _ (c .before .before .before .if1 .left)) in
+    let h = each (shapeTests g) (sym (c4 .shape-fits .ensures) ∙ un-not _ _ (c .before .before .before .if1 .left)) in
     let p = product-positive (g .heads) (g .sectors) (leb-true _ _ (h 0)) (leb-true _ _ (h 2)) in
     omega arith
 
@@ -44,7 +44,7 @@ returns-3 : tie.Need-returns-3
 unfolding currentFor every
 returns-3 c =
     let c5 = c .before .before .before .before .before in
-    let h = sym (c5 .before .heads-fit .ensures) ∙ un-not _ _ (c5 .if1 .left) in
+    let h = sym (c5 .before .shape-fits .ensures) ∙ un-not _ _ (c5 .if1 .left) in
     search (tests, h)
 
 returns-4 : tie.Need-returns-4
@@ -56,4 +56,4 @@ returns-4 c =
 pub current-for-spec : {M : Type 1} → statement M
 current-for-spec =
     tie.close
-    (tie.spec heads-fit-requires returns returns-2 mul-cylinders div-cylinders returns-3 returns-4)
+    (tie.spec shape-fits-requires returns returns-2 mul-cylinders div-cylinders returns-3 returns-4)

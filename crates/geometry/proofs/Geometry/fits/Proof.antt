@@ -13,13 +13,13 @@ returns : tie.Need-returns
 unfolding fits
 returns c = sym (one-fails (limits (c .before .before .args .self)) 0 (lt-leb _ _ (c .if1 .taken)))
 
-heads-fit-requires : tie.Need-heads-fit-requires
-heads-fit-requires c κs = search needs
+shape-fits-requires : tie.Need-shape-fits-requires
+shape-fits-requires c κs = search needs
 
 returns-2 : tie.Need-returns-2
 unfolding fits
 returns-2 c =
-    let h = sym (c .before .heads-fit .ensures) ∙ un-not _ _ (c .if2 .taken) in
+    let h = sym (c .before .shape-fits .ensures) ∙ un-not _ _ (c .if2 .taken) in
     sym (one-fails (limits (c .before .before .before .before .args .self)) 2 h)
 
 capacity-requires : tie.Need-capacity-requires
@@ -35,10 +35,10 @@ returns-3 c =
 returns-4 : tie.Need-returns-4
 unfolding fits every
 returns-4 c =
-    let h = sym (c .before .before .before .heads-fit .ensures) ∙ un-not _ _ (c .before .before .if2 .left) in
+    let h = sym (c .before .before .before .shape-fits .ensures) ∙ un-not _ _ (c .before .before .if2 .left) in
     let f = rw (c .before .capacity .ensures) at (c .if3 .left) in
     search (tests, h, f)
 
 pub fits-spec : {M : Type 1} → statement M
 fits-spec =
-    tie.close (tie.spec returns heads-fit-requires returns-2 capacity-requires returns-3 returns-4)
+    tie.close (tie.spec returns shape-fits-requires returns-2 capacity-requires returns-3 returns-4)

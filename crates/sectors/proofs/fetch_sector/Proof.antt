@@ -1,8 +1,8 @@
 use borrow.Author.Tests.{lt-ltb, le-ltb}
 use Rattle.sectors.specs.Sectors.{bufferRead}
 use borrow.Author.Needs.{needs}
-use Rattle.sectors.proofs.load_sector.Statement.{statement}
-use Rattle.sectors.proofs.load_sector.Tie as tie
+use Rattle.sectors.proofs.fetch_sector.Statement.{statement}
+use Rattle.sectors.proofs.fetch_sector.Tie as tie
 
 get-sector-requires : tie.Need-get-sector-requires
 get-sector-requires c κs = search needs
@@ -15,5 +15,5 @@ returns-2 : tie.Need-returns-2
 unfolding bufferRead
 returns-2 c = simp (le-ltb _ _ (c .if1 .left))
 
-pub load-sector-spec : {M : Type 1} → statement M
-load-sector-spec = tie.close (tie.spec get-sector-requires returns returns-2)
+pub fetch-sector-spec : {M : Type 1} → statement M
+fetch-sector-spec = tie.close (tie.spec get-sector-requires returns returns-2)

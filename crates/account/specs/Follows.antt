@@ -1,0 +1,55 @@
+-- What the corollaries speak of.
+use Prim.Native.Nat.{ℕ, _+_, _*_, _≤_, _<_}
+use mathlib.Core.Bool.{Bool, true, false}
+use mathlib.Core.Path.{_≡_}
+use mathlib.Core.List.{List}
+use lib.ListN.{length, getD}
+use Rattle.geometry.specs.declared.Located.{Located}
+use Rattle.maps.specs.declared.Register.the-variants.{StatusCommand}
+use Rattle.registers.specs.Machine.{Machine}
+use Rattle.registers.specs.WellMade.{heldIn}
+use Rattle.card.specs.declared.Meaning.the-variants.{WriteRegister}
+use Rattle.card.specs.Access.{Access, meaning}
+use Rattle.card.specs.Step.{step}
+use Rattle.account.specs.Plain.{Plain}
+use Rattle.account.specs.Rows.{Row, Reads, Writes, Verifies, Erases, Identifies, ReadsBuffer, WritesBuffer, SetsGeometry, Diagnoses, Recalibrates, Seeks, Senses, Others, rowOf}
+use Rattle.account.specs.Host.{Hosted, hosted}
+use Rattle.account.specs.Notes.{noNotes, wayOf}
+use Rattle.account.specs.Claim.{Typed}
+
+-- a Command write that the theorem speaks of
+pub record AcceptedCommand (m : Machine) (a : Access) (v : ℕ) : Type 0 where
+  pub accepted : meaning m a ≡ WriteRegister StatusCommand v
+  pub free : heldIn (m .state) ≡ false
+  pub typed : Typed m
+
+-- the host after it
+abbrev pub after : Machine → Access → ℕ → List Access → Hosted
+after m a v l = hosted (wayOf (rowOf v)) (step m a .next) noNotes l
+
+-- a row without data needs no host
+abbrev pub dataless : Row → Bool
+dataless Reads = false
+dataless Writes = false
+dataless Verifies = true
+dataless Erases = true
+dataless Identifies = false
+dataless ReadsBuffer = false
+dataless WritesBuffer = false
+dataless SetsGeometry = true
+dataless Diagnoses = true
+dataless Recalibrates = true
+dataless Seeks = true
+dataless Senses = true
+dataless Others = true
+
+-- as long, and the same below one place and from another one on
+abbrev pub SameOutside : ℕ → ℕ → List ℕ → List ℕ → Type 0
+SameOutside low high s t = ((k : ℕ) → k < low → getD t k 0 ≡ getD s k 0) × ((k : ℕ) → high ≤ k → getD t k 0 ≡ getD s k 0) × (length t ≡ length s)
+
+-- the store and the marks are as long as before, and the same outside n sectors from the first one; with no first sector, all the same
+abbrev pub OnlyNamed : Located → ℕ → Plain → Plain → Type 0
+OnlyNamed (Located.Good spot) n p q = SameOutside (512 * spot .index) (512 * (spot .index + n)) (p .store) (q .store) × SameOutside (spot .index) (spot .index + n) (p .marks) (q .marks)
+OnlyNamed Located.BadHeadOrSector n p q = (q .store ≡ p .store) × (q .marks ≡ p .marks)
+OnlyNamed Located.BadCylinder n p q = (q .store ≡ p .store) × (q .marks ≡ p .marks)
+OnlyNamed Located.BadLba n p q = (q .store ≡ p .store) × (q .marks ≡ p .marks)
