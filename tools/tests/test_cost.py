@@ -49,3 +49,9 @@ def test_this_tree_has_a_row_for_each_crate():
         crates = [line.split(":")[0] for line in file if line.strip() and not line.startswith("#")]
     assert [cells(line)[0] for line in done.stdout.splitlines()[2:]] == [*crates, "**all**"], done
     assert call("--help").returncode == 0
+
+
+def test_wrong_calls_are_told():
+    for words in (("--what",), ("one", "two"), ("--root",)):
+        done = call(*words)
+        assert done.returncode == 2 and done.stderr.startswith("cost: ") and done.stderr.endswith("; see tools/cost --help\n") and done.stderr.count("\n") == 1, (words, done)

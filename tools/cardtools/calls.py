@@ -1,0 +1,35 @@
+"""How the tools are called and what they print: a wrong call is told in one line, and a table is one for pages."""
+import argparse
+import shlex
+import sys
+
+
+def fail(name, message, status=2):
+    """Says why the tool of this name can't go on, and ends it."""
+    print(f"{name}: {message}", file=sys.stderr)
+    sys.exit(status)
+
+
+class Parser(argparse.ArgumentParser):
+    """The words of a call of the tool; its help is its own text, so --help is only noted."""
+
+    def __init__(self, name, command):
+        super().__init__(prog=command, add_help=False)
+        self.name = name
+        self.add_argument("-h", "--help", action="store_true")
+
+    def error(self, message):
+        fail(self.name, f"{message}; see {self.prog} --help")
+
+
+def words_of(name, option, command):
+    """The words of a command that an option of the tool gives."""
+    try:
+        return shlex.split(command)
+    except ValueError as fault:
+        return fail(name, f"{option} {command}: {fault}")
+
+
+def table(head, rows):
+    lines = ["| " + " | ".join(row) + " |" for row in (head, *rows)]
+    return "\n".join([lines[0], "|---" * len(head) + "|", *lines[1:]])
