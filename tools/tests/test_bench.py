@@ -1,13 +1,17 @@
-"""bench/: its sessions, its straight-line check, its plot; and the check itself, on counts."""
+"""bench/: its sessions, its straight-line check, its plot; and its three calls: the tables, --write to another folder, --check."""
 import argparse
 import contextlib
 import importlib.machinery
 import importlib.util
 import io
+import os
+import re
+import shutil
 import subprocess
 import sys
 import tempfile
 import xml.etree.ElementTree
+from unittest import mock
 
 sys.path.append("bench")
 import plot  # noqa: E402
@@ -19,6 +23,11 @@ from made import program  # noqa: E402
 LOADER = importlib.machinery.SourceFileLoader("bench_run", "bench/run")
 bench = importlib.util.module_from_spec(importlib.util.spec_from_loader("bench_run", LOADER))
 LOADER.exec_module(bench)
+
+
+def text_of(path):
+    with open(path, encoding="utf-8") as file:
+        return file.read()
 
 
 def test_sessions_are_well_formed_and_equal_each_time():
@@ -72,10 +81,9 @@ def test_the_check_fails_where_nothing_counts():
 
 
 def test_both_programs_are_built_each_time():
-    names, really = [], bench.build
-    bench.build = names.append
-    bench.programs(argparse.Namespace(cardrun=None))
-    bench.build = really
+    names = []
+    with mock.patch.object(bench, "build", names.append):
+        bench.programs(argparse.Namespace(cardrun=None))
     assert names == ["oracle", "cardrun"], names
 
 
@@ -90,8 +98,7 @@ def test_a_program_is_looked_for_as_a_shell_does():
 
 
 def test_what_stands_by_hand_on_the_page_is_kept():
-    with open("bench/RESULTS.md", encoding="utf-8") as file:
-        page = file.read()
+    page = text_of("bench/RESULTS.md")
     by_hand = page[page.index("## Kept by hand"):]
     for before in (page, bench.page_of("other numbers", page)):
         after = bench.page_of("new numbers", before)
@@ -106,7 +113,60 @@ def test_the_plot_is_svg():
     assert xml.etree.ElementTree.fromstring(text).tag.endswith("svg") and text.count("<polyline") == 2
 
 
-def test_the_cost_of_cardrun_is_a_straight_line():
-    done = subprocess.run([sys.executable, "bench/run", "--check"], capture_output=True, text=True, check=False)
+def test_times_of_both_programs_are_in_the_table():
+    class Quick:
+        programs = {"cardrun": ["true"], "independent": ["true"]}
+
+        def path(self, kind, blocks):
+            return "README.md"
+
+    head, _, *rows = bench.time_table(Quick(), 1).splitlines()
+    assert head == "| session | cardrun | independent | cardrun / independent |", head
+    assert [row.split(" | ")[0] for row in rows] == [f"| {kind}" for kind in sessions.KINDS] and all(row.count("|") == 5 for row in rows), rows
+
+
+def well_reported(text, rounds, native):
+    """What the bench prints without --check: where it ran, and a row for each session, twice where times are taken."""
+    assert re.search(r"^- date: \d{4}-\d\d-\d\d$", text, re.M), text
+    for name, holds in (("machine", "processors"), ("load", "processes"), ("Rattle", "rattle"), ("Rust", "rustc "), ("counts", "valgrind-" if native else "the trace of ")):
+        assert re.search(rf"^- {name}: .*{holds}", text, re.M), (name, text)
+    counts = re.findall(r"^\| (\w+) \| [\d,]+ \| [\d,.]+ \| \S+ \| \S+ \| [\d.]+ % \|$", text, re.M)
+    assert "**Instructions an access**" in text and counts == list(sessions.KINDS), text
+    if native:
+        times = re.findall(r"^\| (\w+) \| [^|]+ \| [^|]+ \| \S+ \|$", text, re.M)
+        assert f"the best of {rounds} turns" in text and times == list(sessions.KINDS), text
+    else:
+        assert text.endswith("must emulate x86-64 to run cardrun: times mean nothing here, so none are given.\n") and "a second" not in text, text
+
+
+def test_the_tables():
+    done = subprocess.run(["bench/run"], capture_output=True, text=True, check=False)
+    assert done.returncode == 0, done
+    well_reported(done.stdout, 500, bench.native())
+    assert subprocess.run(["bench/run", "--help"], capture_output=True, text=True, check=True).stdout.startswith("Measures cardrun")
+
+
+def test_the_page_of_results_is_such_a_report():
+    well_reported(text_of("bench/RESULTS.md"), 500, True)
+
+
+def test_results_are_written():
+    """--write, to another folder; two short sessions of each kind are counted for it."""
+    before, printed = text_of("bench/RESULTS.md"), io.StringIO()
+    with tempfile.TemporaryDirectory() as folder:
+        shutil.copy("bench/RESULTS.md", folder)
+        with contextlib.redirect_stdout(printed), mock.patch.object(sessions, "lengths", lambda kind: [0, 1]):
+            assert bench.main(["--write", "--rounds", "2"], folder) == 0
+        assert sorted(os.listdir(folder)) == ["RESULTS.md", "cost.svg"]
+        after, svg = (text_of(os.path.join(folder, name)) for name in ("RESULTS.md", "cost.svg"))
+    well_reported(printed.getvalue(), 2, bench.native())
+    assert after == bench.page_of(printed.getvalue().rstrip("\n"), before) and after.endswith(before[before.index("\n## Kept by hand\n"):]), after
+    names = [f"{kind}, {name}" for kind in sessions.KINDS for name in (["cardrun", "independent"] if bench.native() else ["cardrun"])]
+    assert xml.etree.ElementTree.fromstring(svg).tag.endswith("svg") and svg.count("<polyline") == len(names)
+    assert all(f">{name}</text>" in svg for name in names) and ">instructions</text>" in svg, svg
+
+
+def test_cardrun_keeps_to_the_line_and_the_bound():
+    done = subprocess.run(["bench/run", "--check"], capture_output=True, text=True, check=False)
     print("".join(f"       {line}\n" for line in done.stdout.splitlines()[:-1]), end="")
     assert done.returncode == 0, done.stdout + done.stderr
