@@ -7,12 +7,14 @@ import glob
 import os
 import re
 import subprocess
+import tempfile
 
 # Commands that are not run here, and why.
 ELSEWHERE = {
     "./test": "it is what runs these tests",
+    "bench/run": "the bench's tests run it",
     "bench/run --check": "the bench's tests run it",
-    "rt fmt": "it writes",
+    "bench/run --write": "the bench's tests run it, to another folder",
     "tools/tests/run": "it is what runs these tests",
 }
 # For a quick run by hand: words that begin commands to leave out, as DOCS_WITHOUT="rt bench/run".
@@ -86,6 +88,17 @@ def test_every_command_in_the_docs():
     assert not faults, "\n" + "\n".join(faults)
     assert ran, "no block found"
     assert tree() == before, "the commands changed the tree"
+
+
+def test_a_block_ends_at_its_first_command_that_fails():
+    """So `rt fmt` rewrites nothing where `rt fmt --check` tells of something."""
+    with tempfile.TemporaryDirectory() as folder:
+        page, made = (os.path.join(folder, name) for name in ("page.md", "made"))
+        with open(page, "w", encoding="utf-8") as file:
+            file.write(f"```sh\nfalse\ntouch {made}\n```\n")
+        faults = []
+        assert run_page(page, faults) == 1 and len(faults) == 1 and "page.md:1: exit status 1" in faults[0], faults
+        assert not os.path.exists(made)
 
 
 def test_commands_that_run_elsewhere_are_in_the_docs():

@@ -18,6 +18,11 @@ def test_a_launcher_has_one_word_on_a_line():
     assert status == 1 and "can't run /no such/launcher: " in printed, printed[:500]
 
 
+def test_compare_finds_a_small_change():
+    status, printed, _ = call("compare", "-", "trial", ORACLE_LAUNCHER=ORACLE, ORACLE_MUTANT="3")
+    assert status == 1 and re.search(r"\n\d+ passed, [1-9]\d* failed\n$", printed), printed[-500:]
+
+
 def test_wrong_environment_values_are_told():
     for name, value, words in (("ORACLE_SEED", "abc", "coverage"), ("ORACLE_SEED", "-1", "mutants"), ("ORACLE_MUTANT", "999", "play"), ("ORACLE_MUTANT", "x", "trial")):
         status, printed, said = call(words, **{name: value})
