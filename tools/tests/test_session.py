@@ -315,6 +315,11 @@ def test_the_command_itself():
     assert status == 1 and said.startswith("standard input:2: "), said
     status, text, _ = call("--annotate", "--run", "printf '" + SAMPLE_PRINTED.replace("\n", "\\n") + "'", given=file)
     assert status == 0 and text.decode().count("\n") == 6
+    kept = ["--annotate", "sessions/sample.session", "--printed"]
+    status, text, _ = call(*kept, "sessions/sample.txt")
+    assert status == 0 and text.decode().count("\n") == 6
+    status, _, said = call(*kept, "sessions/identify.txt")
+    assert status == 1 and "printed line " in said, said
     assert call("--help")[0] == 0 and b"usage:" in call("--help")[1]
 
 
