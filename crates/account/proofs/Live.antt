@@ -36,7 +36,7 @@ use Rattle.account.specs.Table.{account}
 use Rattle.account.specs.Host.{plainOf, calm, asks, Moves}
 use Rattle.account.specs.Notes.{Waiting, None, Notes, noNotes, note, wayOf}
 use Rattle.account.specs.Claim.{Typed}
-use Rattle.account.specs.Live.{wordOf, WordsOnly}
+use Rattle.account.specs.Live.{wordOf, Ends}
 use Rattle.account.proofs.Rest.{Rel, Running, Waits, Pending, bare}
 use Rattle.account.proofs.Keeps.{keeps, free-read, free-written}
 use Rattle.account.proofs.Given.{begins-row}
@@ -44,10 +44,6 @@ use Rattle.account.proofs.Accepted.{given, lent-facts}
 use Rattle.account.proofs.Theorem.{command-given}
 use Rattle.account.proofs.WordMeans.{wordMeaning, word-means, width-two}
 use Rattle.account.proofs.Sizes.{size, sizeOf, left-some, read-less, write-less}
-
--- a list of words that a host may use, up to where the card stops asking
-abbrev pub Ends : Machine → Type 0
-Ends m = (l : List Access) × WordsOnly l × Moves m l
 
 -- nothing waits, so nothing of the word at hand has moved
 none-moved : (h : Half) (q : Waiting) (w : ℕ) (b : List ℕ) → q ≡ None → Pending h q w b → h ≡ Half.Nothing

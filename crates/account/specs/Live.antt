@@ -8,7 +8,9 @@ use lib.ListN.{replicate}
 use Rattle.ground.specs.Choice.{pick}
 use Rattle.maps.specs.declared.Mode.{Mode}
 use Rattle.maps.specs.declared.Mode.the-variants.{PcCard, TrueIde}
+use Rattle.registers.specs.Machine.{Machine}
 use Rattle.card.specs.Access.{Access}
+use Rattle.account.specs.Host.{Moves}
 
 -- a word of 0 at an address of a space
 abbrev pub wordAt : ℕ → ℕ → Bool → Access
@@ -26,3 +28,7 @@ wordOf PcCard index write =
 abbrev pub WordsOnly : List Access → Type 0
 WordsOnly [] = Unit {0}
 WordsOnly (a ∷ l) = (a .width ≡ 2) × WordsOnly l
+
+-- a list of words that a host may use, up to where the card stops asking
+abbrev pub Ends : Machine → Type 0
+Ends m = (l : List Access) × WordsOnly l × Moves m l

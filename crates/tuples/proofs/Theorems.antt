@@ -17,7 +17,7 @@ use Rattle.answers.specs.declared.Refusal.the-variants.{TupleBufferLength, Tupl
 use Rattle.tuples.specs.Chain.{Chain, chainFrom, chainAt}
 use Rattle.tuples.specs.Read.{readOutcome, counted, unlessRefused, Reads}
 use Rattle.answers.specs.Answers.{refused}
-use Rattle.tuples.specs.Write.{bodyOf, tupleBytes, allGood, filledUp, writeOutcome, backOutcome, nullsDropped, Writes, WritesBack, codes, SameTuples}
+use Rattle.tuples.specs.Write.{bodyOf, tupleBytes, allGood, filledUp, writeOutcome, backOutcome, Writes, WritesBack, codes, SameTuples, WrittenBack}
 use Rattle.tuples.specs.declared.Entry.{Entry}
 use Rattle.tuples.proofs.Filling.{all}
 use Rattle.tuples.proofs.Bounds.{most-entries, read-well}
@@ -72,9 +72,6 @@ written-reads-back bs es out r z w v p ls r′ zs l e =
     subst (λ (y : List ℕ). Reads y ls r′ zs → SameTuples bs es y r′ zs) (sym is) (of-page bs es ls r′ zs (ok .all-good) (ok .short) l) e
 
 -- ---- what was read is written back
-abbrev WrittenBack : List ℕ → Outcome → List ℕ → Type 0
-WrittenBack s r z = (r ≡ Accepted 0) × (z ≡ filledUp (nullsDropped 0 s))
-
 of-chain : (s out : List ℕ) (r : Outcome) (z : List ℕ) → length s ≡ 256 → chainAt s 0 .ended ≡ true → length out ≡ 256 → Writes s (all s) out r z → WrittenBack s r z
 unfolding writeOutcome
 of-chain s out r z ls c lo w =

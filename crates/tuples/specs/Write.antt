@@ -80,3 +80,7 @@ codes es = map (λ (e : Entry). e .code) es
 
 abbrev pub SameTuples : List ℕ → List Entry → List ℕ → Outcome → List Entry → Type 0
 SameTuples bs es z r zs = (r ≡ Accepted (length es)) × ((codes (take (length es) zs) ≡ codes es) × (map (bodyOf z) (take (length es) zs) ≡ map (bodyOf bs) es))
+
+-- "writing back equals the chain up to its end mark, null (00H) tuples dropped"
+abbrev pub WrittenBack : List ℕ → Outcome → List ℕ → Type 0
+WrittenBack s r z = (r ≡ Accepted 0) × (z ≡ filledUp (nullsDropped 0 s))
