@@ -1,8 +1,10 @@
 -- The numbers of the refusals; that no outcome is accepted and refused; what equal outcomes say.
-use Prim.Native.Nat.{ℕ, _≤_}
+use Prim.Native.Nat.{ℕ, _-_, _≤_}
 use mathlib.Core.Bool.{false, false≢true}
-use mathlib.Core.Path.{_≡_, refl, sym, ap}
+use mathlib.Core.Path.{_≡_, refl, sym, ap, _∙_}
+use mathlib.Core.List.{List, [], _∷_}
 use native.Mathlib.Omega.{arith}
+use lib.ListN.{getD}
 use Rattle.answers.specs.declared.Outcome.{Outcome}
 use Rattle.answers.specs.declared.Refusal.{Refusal}
 use Rattle.answers.specs.declared.Refusal.the-variants.{GeometryOrMode, StoreLength, MarksLength, MarkAboveTwo, TupleBufferLength, NoRegister, SpaceSilent, HeldBySreset, WidthOrValue, IndexAboveThree, HalfMoved, NotWellMade, ChainBroken, TuplesTooLong, TupleBad, ListTooShort, SessionBroken}
@@ -26,6 +28,38 @@ number-range TuplesTooLong = (omega arith, omega arith)
 number-range TupleBad = (omega arith, omega arith)
 number-range ListTooShort = (omega arith, omega arith)
 number-range SessionBroken = (omega arith, omega arith)
+
+-- no two refusals have one number: the refusal is found by it
+abbrev refusals : List Refusal
+refusals =
+    GeometryOrMode ∷ StoreLength ∷ MarksLength ∷ MarkAboveTwo ∷ TupleBufferLength ∷ NoRegister
+    ∷ SpaceSilent ∷ HeldBySreset ∷ WidthOrValue ∷ IndexAboveThree ∷ HalfMoved ∷ NotWellMade
+    ∷ ChainBroken ∷ TuplesTooLong ∷ TupleBad ∷ ListTooShort ∷ SessionBroken ∷ []
+
+abbrev refusalAt : ℕ → Refusal
+refusalAt n = getD refusals (n - 1) SessionBroken
+
+found : (r : Refusal) → refusalAt (numberOf r) ≡ r
+found GeometryOrMode = refl
+found StoreLength = refl
+found MarksLength = refl
+found MarkAboveTwo = refl
+found TupleBufferLength = refl
+found NoRegister = refl
+found SpaceSilent = refl
+found HeldBySreset = refl
+found WidthOrValue = refl
+found IndexAboveThree = refl
+found HalfMoved = refl
+found NotWellMade = refl
+found ChainBroken = refl
+found TuplesTooLong = refl
+found TupleBad = refl
+found ListTooShort = refl
+found SessionBroken = refl
+
+pub same-number : (r s : Refusal) → numberOf r ≡ numberOf s → r ≡ s
+same-number r s e = sym (found r) ∙ ap refusalAt e ∙ found s
 
 pub accepts-not : {P : Type 0} (value : ℕ) (r : Refusal) → Outcome.Accepted value ≡ Outcome.Refused r → P
 accepts-not value r e = absurd (false≢true (ap refused e))

@@ -1,1 +1,5 @@
 pub mod Verdicts
+pub mod RowTests
+pub mod HalfRow
+pub mod PlaceRows
+pub mod FirstRow

@@ -1,11 +1,12 @@
 -- What an access means: 01, "Answers", the rows 12, 2, 3, 5, 8, 7, 6, 9, 10 in this order, then what stands there.
 use Prim.Native.Nat.{ℕ, _*_, _%_}
 use mathlib.Core.Bool.{Bool, true, false, not}
-use mathlib.Core.List.{List}
+use mathlib.Core.List.{List, [], _∷_}
 use lib.Dec.{eqb}
 use lib.ListN.{length, getD}
 use Rattle.ground.specs.Choice.{pick}
 use Rattle.answers.specs.declared.Refusal.the-variants.{NotWellMade, StoreLength, MarksLength, TupleBufferLength, HeldBySreset, SpaceSilent}
+use Rattle.answers.specs.Rows.{Row, When, Unless, firstOf}
 use Rattle.maps.specs.declared.Target.{Target}
 use Rattle.maps.specs.declared.Target.the-variants.{Tuple, Option, Named, Data}
 use Rattle.maps.specs.declared.Standing.{Standing}
@@ -44,34 +45,49 @@ standing (Standing.Refused r) write value tuples = Meaning.Refused r
 unfoldable pub heldAway : ℕ → ℕ → ℕ → Bool
 heldAway option space address = pick (sresetIn option) (pick (eqb space 0) (not (eqb address 0x200)) true) false
 
--- rows 8, 7, then 6, 9, 10
-unfoldable pub decided : State → Access → Meaning
-decided s a =
-    pick (heldAway (s .option) (a .space) (a .address)) (Meaning.Refused HeldBySreset)
-    (pick (answersAt (a .space) (s .made .mode) (indexIn (s .option)))
-    (standing (standsAt (a .space) (indexIn (s .option)) (a .address) (a .width) (a .write) (a .value)) (a .write) (a .value) (a .tuples))
-    (Meaning.Refused SpaceSilent))
+-- rows 8, 7
+abbrev pub doorTable : State → Access → List Row
+doorTable s a =
+    When (heldAway (s .option) (a .space) (a .address)) HeldBySreset
+    ∷ Unless (answersAt (a .space) (s .made .mode) (indexIn (s .option))) SpaceSilent
+    ∷ []
 
--- rows 12, 2, 3, 5: "Store length is 512·N, marks length N", "a 256-byte tuple buffer"; by the four tests, each as it came out
+-- rows 6, 9, 10, then what stands there
+abbrev pub placed : State → Access → Meaning
+placed s a = standing (standsAt (a .space) (indexIn (s .option)) (a .address) (a .width) (a .write) (a .value)) (a .write) (a .value) (a .tuples)
+
+unfoldable pub decided : State → Access → Meaning
+decided s a = firstOf (doorTable s a) Meaning.Refused (placed s a)
+
+-- "Store length is 512·N, marks length N", "a 256-byte tuple buffer"
+abbrev pub storeSized : State → List ℕ → Bool
+storeSized s store = eqb (length store) (512 * totalIn s)
+
+abbrev pub marksSized : State → List ℕ → Bool
+marksSized s marks = eqb (length marks) (totalIn s)
+
+abbrev pub tuplesSized : List ℕ → Bool
+tuplesSized tuples = eqb (length tuples) 256
+
+-- rows 12, 2, 3, 5, by the four tests, each as it came out
+abbrev pub fitTable : Bool → Bool → Bool → Bool → List Row
+fitTable w s k t =
+    Unless w NotWellMade
+    ∷ Unless s StoreLength
+    ∷ Unless k MarksLength
+    ∷ Unless t TupleBufferLength
+    ∷ []
+
 abbrev pub verdictBy : Bool → Bool → Bool → Bool → Verdict
-verdictBy w s k t =
-    pick w
-    (pick s
-    (pick k
-    (pick t
-    Verdict.Fit
-    (Verdict.Refused TupleBufferLength))
-    (Verdict.Refused MarksLength))
-    (Verdict.Refused StoreLength))
-    (Verdict.Refused NotWellMade)
+verdictBy w s k t = firstOf (fitTable w s k t) Verdict.Refused Verdict.Fit
 
 unfoldable pub verdictOf : Phase → State → List ℕ → List ℕ → List ℕ → Verdict
 verdictOf phase state store marks tuples =
     verdictBy
     (wellMade phase state)
-    (eqb (length store) (512 * totalIn state))
-    (eqb (length marks) (totalIn state))
-    (eqb (length tuples) 256)
+    (storeSized state store)
+    (marksSized state marks)
+    (tuplesSized tuples)
 
 -- they come before what is decided
 abbrev pub meantBy : Verdict → Meaning → Meaning

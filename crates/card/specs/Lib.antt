@@ -4,3 +4,4 @@ pub mod Step
 pub mod Verdict
 pub mod Opening
 pub mod Doors
+pub mod Rows

@@ -1,13 +1,14 @@
 -- The opening: refusals 1, 2, 3, 5, 4 in this order; else power-on.
 use Prim.Native.Nat.{ℕ, _*_}
-use mathlib.Core.Bool.{false}
-use mathlib.Core.List.{List}
+use mathlib.Core.Bool.{false, _&&_}
+use mathlib.Core.List.{List, [], _∷_}
 use lib.Dec.{eqb, leb}
 use lib.ListN.{length}
 use Rattle.ground.specs.Choice.{pick}
 use Rattle.answers.specs.declared.Outcome.{Outcome}
 use Rattle.answers.specs.declared.Refusal.{Refusal}
 use Rattle.answers.specs.declared.Refusal.the-variants.{GeometryOrMode, StoreLength, MarksLength, TupleBufferLength, MarkAboveTwo}
+use Rattle.answers.specs.Rows.{Row, Unless, firstOf}
 use Rattle.geometry.specs.declared.Geometry.{Geometry}
 use Rattle.geometry.specs.Limits.{fits, totalOf}
 use Rattle.maps.specs.declared.Mode.{Mode}
@@ -48,18 +49,17 @@ openRefused r = record { outcome = Outcome.Refused r; line = false; card = zeroC
 abbrev pub powered : Geometry → Mode → Card
 powered g mode = record { phase = Idle; state = powerOn (record { mode = mode; default = g }) 0; buffer = zeros }
 
+-- rows 1, 2, 3, 5, 4
+abbrev pub openingTable : Geometry → ℕ → List ℕ → List ℕ → List ℕ → List Row
+openingTable g mode store marks tuples =
+    Unless (fits g && leb mode 1) GeometryOrMode
+    ∷ Unless (eqb (length store) (512 * totalOf g)) StoreLength
+    ∷ Unless (eqb (length marks) (totalOf g)) MarksLength
+    ∷ Unless (eqb (length tuples) 256) TupleBufferLength
+    ∷ Unless (marksFit marks) MarkAboveTwo
+    ∷ []
+
 unfoldable pub opened : Geometry → ℕ → List ℕ → List ℕ → List ℕ → Answer
 opened g mode store marks tuples =
-    pick (fits g)
-    (pick (leb mode 1)
-    (pick (eqb (length store) (512 * totalOf g))
-    (pick (eqb (length marks) (totalOf g))
-    (pick (eqb (length tuples) 256)
-    (pick (marksFit marks)
+    firstOf (openingTable g mode store marks tuples) openRefused
     (record { outcome = Outcome.Accepted 0; line = false; card = powered g (modeOf mode) })
-    (openRefused MarkAboveTwo))
-    (openRefused TupleBufferLength))
-    (openRefused MarksLength))
-    (openRefused StoreLength))
-    (openRefused GeometryOrMode))
-    (openRefused GeometryOrMode)

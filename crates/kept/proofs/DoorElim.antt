@@ -1,12 +1,13 @@
 -- What the doors by value can answer: the opening, and the two resets as methods.
 use Prim.Native.Nat.{ℕ, _*_}
 use mathlib.Core.Path.{_≡_, refl}
-use mathlib.Core.Bool.{true, false}
+use mathlib.Core.Bool.{true, false, _&&_}
 use mathlib.Core.List.{List}
 use lib.Dec.{leb, eqb}
 use lib.ListN.{length}
 use borrow.Author.Tests.{eqb-true}
 use Rattle.ground.proofs.Picks.{pick-elim}
+use Rattle.ground.proofs.Every.{and-left}
 use Rattle.answers.specs.declared.Outcome.{Outcome}
 use Rattle.answers.specs.declared.Refusal.{Refusal}
 use Rattle.answers.specs.declared.Refusal.the-variants.{GeometryOrMode, StoreLength, MarksLength, TupleBufferLength, MarkAboveTwo}
@@ -30,16 +31,14 @@ pub opened-elim : (P : Answer → Type 0) (g : Geometry) (mode : ℕ) (store mar
     P (opened g mode store marks tuples)
 unfolding opened
 opened-elim P g mode store marks tuples x y z u v a =
-    pick-elim P (fits g) _ _
-    (λ f. pick-elim P (leb mode 1) _ _
-    (λ m. pick-elim P (eqb (length store) (512 * totalOf g)) _ _
+    pick-elim P (fits g && leb mode 1) _ _
+    (λ f. pick-elim P (eqb (length store) (512 * totalOf g)) _ _
     (λ s. pick-elim P (eqb (length marks) (totalOf g)) _ _
     (λ k. pick-elim P (eqb (length tuples) 256) _ _
-    (λ t. pick-elim P (marksFit marks) _ _ (λ w. a f (eqb-true _ _ s) (eqb-true _ _ k)) (λ w. v))
+    (λ t. pick-elim P (marksFit marks) _ _ (λ w. a (and-left (fits g) (leb mode 1) f) (eqb-true _ _ s) (eqb-true _ _ k)) (λ w. v))
     (λ t. u))
     (λ k. z))
     (λ s. y))
-    (λ m. x))
     (λ f. x)
 
 -- the card after the option is written

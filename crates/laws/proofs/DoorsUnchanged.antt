@@ -1,7 +1,6 @@
--- 01, "Answers", of the doors by value: the two resets' methods give back the card that came, a refused opening the all-zero card; and the rows of an opening.
+-- 01, "Answers", of the doors by value: the two resets' methods give back the card that came, a refused opening the all-zero card.
 use Prim.Native.Nat.{ℕ}
 use mathlib.Core.Path.{_≡_, refl, sym, subst}
-use mathlib.Core.Bool.{true}
 use mathlib.Core.List.{List}
 use Rattle.answers.specs.declared.Outcome.the-variants.{Refused}
 use Rattle.answers.specs.declared.Refusal.{Refusal}
@@ -10,10 +9,9 @@ use Rattle.card.specs.declared.Card.{Card}
 use Rattle.card.specs.declared.Answer.{Answer}
 use Rattle.card.specs.Opening.{opened}
 use Rattle.card.specs.Doors.{optionAnswered, controlAnswered}
-use Rattle.kept.proofs.DoorElim.{opened-elim, option-elim, control-elim}
+use Rattle.kept.proofs.DoorElim.{option-elim, control-elim}
 use Rattle.kept.proofs.Opening.{opening-refused}
 use Rattle.laws.specs.Unchanged.{SameCard, NoCard}
-use Rattle.laws.specs.Rows.{openingRows, rowIn}
 use Rattle.answers.proofs.Outcomes.{accepts-not}
 
 -- where the answer is a refusal, P holds of it
@@ -28,6 +26,3 @@ control-unchanged v c = control-elim (Where (SameCard c)) v c (λ s r e. (refl, 
 
 pub opening-unchanged : (g : Geometry) (mode : ℕ) (store marks tuples : List ℕ) (r : Refusal) → opened g mode store marks tuples .outcome ≡ Refused r → NoCard (opened g mode store marks tuples)
 opening-unchanged g mode store marks tuples r e = subst NoCard (sym (opening-refused g mode store marks tuples r e)) (refl, refl, refl)
-
-pub opening-rows : (g : Geometry) (mode : ℕ) (store marks tuples : List ℕ) → rowIn openingRows (opened g mode store marks tuples .outcome) ≡ true
-opening-rows g mode store marks tuples = opened-elim (λ (a : Answer). rowIn openingRows (a .outcome) ≡ true) g mode store marks tuples refl refl refl refl refl (λ f s k. refl)

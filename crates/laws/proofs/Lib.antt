@@ -1,6 +1,5 @@
 pub mod RefusedUnchanged
 pub mod DoorsUnchanged
-pub mod AccessRows
 pub mod OnlyOne
 pub mod CodedEnds
 pub mod CodedSteps

@@ -1,5 +1,4 @@
 pub mod Unchanged
-pub mod Rows
 pub mod Coded
 pub mod Acts
 pub mod Mark

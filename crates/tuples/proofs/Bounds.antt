@@ -11,16 +11,15 @@ use lib.ListN.{length, take, drop}
 use lib.Seq.{take-all}
 use lib.Dec.{leb, eqb}
 use borrow.Author.Tests.{leb-true, eqb-true}
-use Rattle.answers.specs.Answers.{outcomeValue}
+use Rattle.answers.specs.Answers.{outcomeValue, refused}
 use Rattle.answers.specs.declared.Outcome.{Outcome}
 use Rattle.answers.specs.declared.Outcome.the-variants.{Accepted, Refused}
-use Rattle.answers.specs.declared.Refusal.the-variants.{TupleBufferLength, ListTooShort, ChainBroken}
 use Rattle.tuples.specs.Chain.{Chain, chainFrom, chainAt}
-use Rattle.tuples.specs.Read.{counted, readOutcome, filled, unlessRefused}
+use Rattle.tuples.specs.Read.{readTable, readOutcome, filled, unlessRefused}
 use Rattle.tuples.specs.declared.Entry.{Entry}
 use Rattle.tuples.proofs.Filling.{all}
-use Rattle.answers.proofs.Outcomes.{accepts-not}
-use Rattle.ground.proofs.Picks.{pick-elim}
+use Rattle.answers.proofs.Rows.{passed}
+use Rattle.ground.proofs.Picks.{pick-elim, un-not}
 
 -- ---- how many entries a chain has room for
 abbrev Room : ℕ → ℕ → Chain → Type 0
@@ -48,14 +47,11 @@ pub record ReadWell (s : List ℕ) (places n : ℕ) : Type 0 where
   pub count : n ≡ length (all s)
 
 pub read-well : (s : List ℕ) (places n : ℕ) → readOutcome s places ≡ Accepted n → ReadWell s places n
-unfolding readOutcome counted
-read-well s places n =
-    let P : Outcome → Type 0 = λ o. o ≡ Accepted n → ReadWell s places n in
-    pick-elim P (eqb (length s) 256) _ _
-    (λ a. pick-elim P (leb 127 places) _ _
-    (λ b. pick-elim P (chainAt s 0 .ended) _ _
-    (λ c p. let q : length (all s) ≡ n = cc in record { sized = eqb-true (length s) 256 a; enough = leb-true 127 places b; ended = c; count = sym q })
-    (λ _ p. accepts-not n ChainBroken (sym p))) (λ _ p. accepts-not n ListTooShort (sym p))) (λ _ p. accepts-not n TupleBufferLength (sym p))
+unfolding readOutcome
+read-well s places n e =
+    let p = passed (readTable s places) (Accepted (length (all s))) (ap refused e) in
+    let q : length (all s) ≡ n = ap outcomeValue (sym (p .0) ∙ e) in
+    record { sized = eqb-true _ _ (un-not _ _ (p .1 5)); enough = leb-true _ _ (un-not _ _ (p .1 16)); ended = un-not _ _ (p .1 13); count = sym q }
 
 -- ---- the reader's answer
 pub record Bounds (s : List ℕ) (ls : List Entry) (o : Outcome) : Type 0 where

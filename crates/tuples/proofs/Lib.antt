@@ -11,3 +11,4 @@ pub mod Theorems
 pub mod LinkFF
 pub mod OnlyOne
 pub mod Arrays
+pub mod FirstRow

@@ -10,6 +10,7 @@ use Rattle.ground.specs.Choice.{pick}
 use Rattle.answers.specs.declared.Outcome.{Outcome}
 use Rattle.answers.specs.declared.Outcome.the-variants.{Accepted, Refused}
 use Rattle.answers.specs.declared.Refusal.the-variants.{TupleBufferLength, TuplesTooLong, TupleBad}
+use Rattle.answers.specs.Rows.{When, Unless, firstOf}
 use Rattle.tuples.specs.declared.Entry.{Entry}
 use Rattle.tuples.specs.declared.Page.{Page}
 use Rattle.tuples.specs.Read.{unlessRefused}
@@ -39,7 +40,8 @@ pages bs w (e ∷ es) = pages bs (addedTo bs w e) es
 
 -- "Writing checks 5, 15, 14."
 unfoldable pub putOutcome : Page → ℕ → Outcome
-putOutcome w n = pick (eqb n 256) (pick (w .bad) (Refused TupleBad) (pick (w .over) (Refused TuplesTooLong) (Accepted 0))) (Refused TupleBufferLength)
+putOutcome w n =
+    firstOf (Unless (eqb n 256) TupleBufferLength ∷ When (w .bad) TupleBad ∷ When (w .over) TuplesTooLong ∷ []) Refused (Accepted 0)
 
 abbrev pub putList : Page → List ℕ → List ℕ
 putList w out = unlessRefused (putOutcome w (length out)) (w .bytes) out

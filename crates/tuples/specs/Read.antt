@@ -1,7 +1,7 @@
 -- 01, "Tuples" and "Answers": what the reader answers and what it leaves in the lent list.
 use Prim.Native.Nat.{ℕ, min}
 use mathlib.Core.Path.{_≡_}
-use mathlib.Core.List.{List, _++_, []}
+use mathlib.Core.List.{List, _++_, [], _∷_}
 use lib.ListN.{length, getD, drop, replicate}
 use lib.Dec.{leb, eqb}
 use Rattle.ground.specs.Choice.{pick}
@@ -9,6 +9,7 @@ use Rattle.answers.specs.Answers.{outcomeValue}
 use Rattle.answers.specs.declared.Outcome.{Outcome}
 use Rattle.answers.specs.declared.Outcome.the-variants.{Accepted, Refused}
 use Rattle.answers.specs.declared.Refusal.the-variants.{TupleBufferLength, ListTooShort, ChainBroken}
+use Rattle.answers.specs.Rows.{Row, Unless, firstOf}
 use Rattle.tuples.specs.declared.Checked.{Checked}
 use Rattle.tuples.specs.declared.Entry.{Entry}
 use Rattle.tuples.specs.declared.Handed.{Handed}
@@ -19,8 +20,15 @@ unfoldable pub counted : Chain → Outcome
 counted c = pick (c .ended) (Accepted (length (c .entries))) (Refused ChainBroken)
 
 -- "Tuple reading checks 5, 16, 13."
+abbrev pub readTable : List ℕ → ℕ → List Row
+readTable s places =
+    Unless (eqb (length s) 256) TupleBufferLength
+    ∷ Unless (leb 127 places) ListTooShort
+    ∷ Unless (chainAt s 0 .ended) ChainBroken
+    ∷ []
+
 unfoldable pub readOutcome : List ℕ → ℕ → Outcome
-readOutcome s places = pick (eqb (length s) 256) (pick (leb 127 places) (counted (chainAt s 0)) (Refused ListTooShort)) (Refused TupleBufferLength)
+readOutcome s places = firstOf (readTable s places) Refused (Accepted (length (chainAt s 0 .entries)))
 
 -- "Every refusal … changes nothing"
 abbrev pub unlessRefused {ℓ} : {A : Type ℓ} → Outcome → A → A → A

@@ -9,6 +9,7 @@ use Rattle.ground.specs.Choice.{pick}
 use Rattle.answers.specs.declared.Outcome.{Outcome}
 use Rattle.answers.specs.declared.Outcome.the-variants.{Accepted, Refused}
 use Rattle.answers.specs.declared.Refusal.the-variants.{TupleBufferLength, TuplesTooLong, TupleBad}
+use Rattle.answers.specs.Rows.{Row, Unless, firstOf}
 use Rattle.tuples.specs.declared.Entry.{Entry}
 use Rattle.tuples.specs.Chain.{chainAt}
 use Rattle.tuples.specs.Read.{readOutcome, unlessRefused}
@@ -35,11 +36,15 @@ abbrev pub filledUp : List ℕ → List ℕ
 filledUp ts = ts ++ replicate (256 - length ts) 255
 
 -- "Writing checks 5, 15, 14."
+abbrev pub writeTable : List ℕ → List Entry → ℕ → List Row
+writeTable bs es n =
+    Unless (eqb n 256) TupleBufferLength
+    ∷ Unless (allGood bs es) TupleBad
+    ∷ Unless (leb (length (tupleBytes bs es)) 255) TuplesTooLong
+    ∷ []
+
 unfoldable pub writeOutcome : List ℕ → List Entry → ℕ → Outcome
-writeOutcome bs es n =
-    pick (eqb n 256)
-    (pick (allGood bs es) (pick (leb (length (tupleBytes bs es)) 255) (Accepted 0) (Refused TuplesTooLong)) (Refused TupleBad))
-    (Refused TupleBufferLength)
+writeOutcome bs es n = firstOf (writeTable bs es n) Refused (Accepted 0)
 
 abbrev pub writeList : List ℕ → List Entry → List ℕ → List ℕ
 writeList bs es out = unlessRefused (writeOutcome bs es (length out)) (filledUp (tupleBytes bs es)) out
