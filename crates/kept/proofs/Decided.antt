@@ -1,5 +1,5 @@
 -- What the refusals before an access leave: an option that may be written, and no register written while SRESET holds.
-use Prim.Native.Nat.{ℕ, _*_, _%_, _<_, _≤_}
+use Prim.Native.Nat.{ℕ, _*_, _%_, _≤_}
 use mathlib.Core.Bool.{true, false}
 use mathlib.Core.Path.{_≡_, refl}
 use native.Mathlib.Omega.{arith}
@@ -20,9 +20,9 @@ use Rattle.registers.specs.State.{sresetIn, indexIn, totalIn}
 use Rattle.registers.specs.Machine.{Machine}
 use Rattle.registers.specs.WellMade.{wellMade, indexFits, sresetFits}
 use Rattle.card.specs.declared.Meaning.{Meaning}
-use Rattle.card.specs.declared.Meaning.the-variants.{TupleByte, ReadOption, WriteOption, ReadRegister, WriteRegister, ReadData, WriteData}
 use Rattle.card.specs.declared.Verdict.{Verdict}
 use Rattle.card.specs.Access.{Access, standing, heldAway, decided, verdictOf, meantBy, meaning}
+use Rattle.kept.specs.Allowed.{Allowed}
 
 -- rows 8 and 7, then what stands there
 pub decided-elim : (P : Meaning → Type 0) (s : State) (a : Access) → P (Meaning.Refused HeldBySreset) → P (Meaning.Refused SpaceSilent) →
@@ -55,17 +55,6 @@ pub meaning-decided : (m : Machine) (a : Access) → wellMade (m .phase) (m .sta
     length (m .store) ≡ 512 * totalIn (m .state) → length (m .marks) ≡ totalIn (m .state) → length (a .tuples) ≡ 256 → meaning m a ≡ decided (m .state) a
 unfolding meaning verdictOf
 meaning-decided m a e s k t = rw (e, eq-eqb _ _ s, eq-eqb _ _ k, eq-eqb _ _ t)
-
--- what an access may mean
-abbrev pub Allowed : Meaning → State → Type 0
-Allowed (Meaning.Refused r) s = Unit {0}
-Allowed (TupleByte b) s = Unit {0}
-Allowed ReadOption s = Unit {0}
-Allowed (WriteOption v) s = (indexFits v ≡ true) × (sresetFits (s .made .mode) v ≡ true)
-Allowed (ReadRegister r) s = Unit {0}
-Allowed (WriteRegister r v) s = (sresetIn (s .option) ≡ false) × (v < 256)
-Allowed (ReadData port) s = Unit {0}
-Allowed (WriteData port v) s = Unit {0}
 
 -- attribute memory answers in mode 0 only
 sreset-fits : (mode : Mode) (space index v : ℕ) → space ≡ 0 → answersAt space mode index ≡ true → sresetFits mode v ≡ true

@@ -16,7 +16,7 @@ use Rattle.kept.specs.Sound.{Sound}
 use Rattle.kept.proofs.Registers.{StateFits, PhaseFits, apart, together}
 use Rattle.kept.proofs.Resets.{Turned, option-turned, control-turned, buffer-turned}
 use Rattle.kept.proofs.DoorElim.{option-elim, control-elim}
-use Rattle.kept.proofs.Step.{sound-next}
+use Rattle.kept.proofs.Perform.{sound-next}
 
 -- what comes back of the card c
 abbrev Back : Card → Card → Type 0

@@ -39,7 +39,8 @@ index-0 : indexFits 0 ≡ true
 unfolding indexFits
 index-0 = refl
 
-powered-sound : (g : Geometry) (mode : Mode) (store marks : List ℕ) → fits g ≡ true → length store ≡ 512 * totalOf g → length marks ≡ totalOf g → Sound (machineOf (powered g mode) store marks)
+-- the card that the opening makes
+pub powered-sound : (g : Geometry) (mode : Mode) (store marks : List ℕ) → fits g ≡ true → length store ≡ 512 * totalOf g → length marks ≡ totalOf g → Sound (machineOf (powered g mode) store marks)
 powered-sound g mode store marks f s k =
     let d : Made = record { mode = mode; default = g } in
     record {

@@ -92,18 +92,18 @@ register-written StatusCommand v m = command-written (m .state .control .held) v
 register-written AlternateControl v m = refl
 register-written DriveAddress v m = refl
 
-performed : (k : Meaning) (m : Machine) → storeMarksIn (perform k m .next) ≡ changed (changes k m) (storeMarksIn m)
+pub meant-sectors : (x : Meaning) (m : Machine) → storeMarksIn (perform x m .next) ≡ changed (changes x m) (storeMarksIn m)
 unfolding changed changes perform dataWritten optionWritten
-performed (Meaning.Refused r) m = refl
-performed (TupleByte b) m = refl
-performed ReadOption m = refl
-performed (WriteOption v) m = refl
-performed (ReadRegister r) m = refl
-performed (WriteRegister r v) m = register-written r v m
-performed (ReadData port) m =
+meant-sectors (Meaning.Refused r) m = refl
+meant-sectors (TupleByte b) m = refl
+meant-sectors ReadOption m = refl
+meant-sectors (WriteOption v) m = refl
+meant-sectors (ReadRegister r) m = refl
+meant-sectors (WriteRegister r v) m = register-written r v m
+meant-sectors (ReadData port) m =
     data-read-elim (λ (x : Effect). Left (storeMarksIn m) (x .next)) port m (λ v. refl) refl (λ v part t e. refl) (λ v t e w. refl) (λ v t e. load-read (t .load) (dropped m))
-performed (WriteData port v) m = by-hold (m .state .control .held) (phaseWritten (m .phase) port v m) (phaseChanges (m .phase) port v m) m 0 (phase-written (m .phase) port v m)
+meant-sectors (WriteData port v) m = by-hold (m .state .control .held) (phaseWritten (m .phase) port v m) (phaseChanges (m .phase) port v m) m 0 (phase-written (m .phase) port v m)
 
 pub by-sectors : (m : Machine) (a : Access) → storeMarksIn (step m a .next) ≡ changed (changes (meaning m a) m) (storeMarksIn m)
 unfolding step
-by-sectors m a = performed (meaning m a) m
+by-sectors m a = meant-sectors (meaning m a) m

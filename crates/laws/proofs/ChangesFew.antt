@@ -32,10 +32,11 @@ use Rattle.commands.specs.Table.{commandOf}
 use Rattle.card.specs.declared.Meaning.{Meaning}
 use Rattle.card.specs.declared.Meaning.the-variants.{TupleByte, ReadOption, WriteOption, ReadRegister, WriteRegister, ReadData, WriteData}
 use Rattle.card.specs.Access.{Access, meaning}
+use Rattle.card.specs.Perform.{perform}
 use Rattle.card.specs.Step.{step}
 use Rattle.laws.specs.Changes.{Change, changed, storeMarksIn, writes, erasures, commandChanges, registerChanges, loadChanges, takenChanges, phaseChanges, changes}
 use Rattle.laws.specs.MayChange.{erases, erasesBy, mayChange}
-use Rattle.laws.proofs.BySectors.{by-sectors}
+use Rattle.laws.proofs.BySectors.{meant-sectors}
 
 -- ---- none
 
@@ -77,9 +78,13 @@ no-change (ReadData port) m e = refl
 no-change (WriteData port v) m e = absurd (true≢false e)
 
 -- an access that is neither a data write nor the command C0H leaves store and marks
-pub untouched : (m : Machine) (a : Access) → mayChange (meaning m a) ≡ false → storeMarksIn (step m a .next) ≡ storeMarksIn m
+pub meant-untouched : (x : Meaning) (m : Machine) → mayChange x ≡ false → storeMarksIn (perform x m .next) ≡ storeMarksIn m
 unfolding changed
-untouched m a e = by-sectors m a ∙ ap (λ (l : List Change). changed l (storeMarksIn m)) (no-change (meaning m a) m e)
+meant-untouched x m e = meant-sectors x m ∙ ap (λ (l : List Change). changed l (storeMarksIn m)) (no-change x m e)
+
+pub untouched : (m : Machine) (a : Access) → mayChange (meaning m a) ≡ false → storeMarksIn (step m a .next) ≡ storeMarksIn m
+unfolding step
+untouched m a e = meant-untouched (meaning m a) m e
 
 -- ---- one
 

@@ -26,6 +26,7 @@ use Rattle.registers.specs.declared.Phase.the-variants.{Idle, DataIn, DataOut}
 use Rattle.registers.specs.declared.State.{State}
 use Rattle.registers.specs.State.{totalIn, locatedIn}
 use Rattle.registers.specs.Machine.{Machine}
+use Rattle.registers.specs.WellMade.{wellMade}
 use Rattle.port.specs.declared.Take.{Take}
 use Rattle.commands.specs.declared.Command.{Command}
 use Rattle.commands.specs.declared.Command.the-variants.{Read, Write, Verify, Erase, Identify, ReadBuffer, WriteBuffer, SetGeometry, Diagnose, Recalibrate, Seek, Sense, Other}
@@ -108,8 +109,12 @@ of-meaning (WriteRegister r v) m c b = of-register r v m c
 of-meaning (ReadData port) m c b = tt
 of-meaning (WriteData port v) m c b = pick-elim (Whole (totalIn (m .state))) (m .state .control .held) _ _ (λ e. tt) (λ e. of-phase (m .phase) port v m c b)
 
+-- of a well-made card
+pub meant-whole : (x : Meaning) (m : Machine) → wellMade (m .phase) (m .state) ≡ true → length (m .buffer) ≡ 512 → Whole (totalIn (m .state)) (changes x m)
+meant-whole x m w b = of-meaning x m (apart (m .phase) (m .state) w .0 .2) b
+
 pub changes-whole : (m : Machine) (a : Access) → length (m .buffer) ≡ 512 → Whole (totalIn (m .state)) (changes (meaning m a) m)
 unfolding changes
 changes-whole m a b =
     meaning-elim (λ (k : Meaning). Whole (totalIn (m .state)) (changes k m)) m a tt tt tt tt
-    (λ w s k t. of-meaning (decided (m .state) a) m (apart (m .phase) (m .state) w .0 .2) b)
+    (λ w s k t. meant-whole (decided (m .state) a) m w b)

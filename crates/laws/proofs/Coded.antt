@@ -18,21 +18,25 @@ use Rattle.card.specs.Opening.{zeroState, opened}
 use Rattle.card.specs.Doors.{machineOf, optionAnswered, controlAnswered}
 use Rattle.kept.proofs.DoorElim.{opened-elim, option-elim, control-elim}
 use Rattle.laws.specs.Coded.{inError, Coded, AllCoded}
-use Rattle.laws.proofs.CodedSteps.{option-coded, control-coded, given, performed}
+use Rattle.laws.proofs.CodedSteps.{option-coded, control-coded, meant-command-coded, meant-coded}
 
 -- kept by every access
 pub coded-kept : (m : Machine) (a : Access) → Coded (m .state) → Coded (step m a .next .state)
 unfolding step
-coded-kept m a h = performed (meaning m a) m h
+coded-kept m a h = meant-coded (meaning m a) m h
 
 -- a transfer that ends in error has a code, whatever the code was
+pub meant-transfer-coded : (x : Meaning) (m : Machine) → m .state .registers .status ≡ 0x58 → Coded (perform x m .next .state)
+meant-transfer-coded x m e = meant-coded x m (λ p. absurd (false≢true (sym (ap inError e) ∙ p)))
+
 pub coded-transfer : (m : Machine) (a : Access) → m .state .registers .status ≡ 0x58 → Coded (step m a .next .state)
-coded-transfer m a e = coded-kept m a (λ p. absurd (false≢true (sym (ap inError e) ∙ p)))
+unfolding step
+coded-transfer m a e = meant-transfer-coded (meaning m a) m e
 
 -- and so has a Command write that ends in error; a Command write in a Device Control hold has no effect
 pub coded-command : (m : Machine) (a : Access) (v : ℕ) → meaning m a ≡ WriteRegister StatusCommand v → m .state .control .held ≡ false → Coded (step m a .next .state)
 unfolding step
-coded-command m a v e h = subst (λ (k : Meaning). Coded (perform k m .next .state)) (sym e) (given v m h)
+coded-command m a v e h = subst (λ (k : Meaning). Coded (perform k m .next .state)) (sym e) (meant-command-coded v m h)
 
 -- after a list of accesses, and after each of them
 coded-played : (l : List Access) (m : Machine) → Coded (m .state) → Coded (play m l .last .state) × AllCoded (play m l .steps)

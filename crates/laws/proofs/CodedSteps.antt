@@ -52,19 +52,19 @@ register-written r v m h =
     (λ c. control-coded (turnOf (m .state .control .held) (bitTwo v)) (bitOne v) (m .phase) (m .state) h)
 
 -- a Command write outside a Device Control hold, whatever was there before
-pub given : (v : ℕ) (m : Machine) → m .state .control .held ≡ false → Coded (perform (WriteRegister StatusCommand v) m .next .state)
+pub meant-command-coded : (v : ℕ) (m : Machine) → m .state .control .held ≡ false → Coded (perform (WriteRegister StatusCommand v) m .next .state)
 unfolding perform registerWritten
-given v m e = subst (λ (b : Bool). Coded (pick b m (commandGiven v (dropped m)) .state)) (sym e) (commanded v (dropped m))
+meant-command-coded v m e = subst (λ (b : Bool). Coded (pick b m (commandGiven v (dropped m)) .state)) (sym e) (commanded v (dropped m))
 
-pub performed : (k : Meaning) (m : Machine) → Coded (m .state) → Coded (perform k m .next .state)
+pub meant-coded : (x : Meaning) (m : Machine) → Coded (m .state) → Coded (perform x m .next .state)
 unfolding perform optionWritten
-performed (Meaning.Refused x) m h = h
-performed (TupleByte b) m h = h
-performed ReadOption m h = h
-performed (WriteOption v) m h = option-coded (optionTurn v (m .state)) v (m .phase) (m .state) h
-performed (ReadRegister g) m h = read-elim (λ (x : State). Coded x) g (m .state) h h
-performed (WriteRegister g v) m h = register-written g v m h
-performed (ReadData port) m h =
+meant-coded (Meaning.Refused r) m h = h
+meant-coded (TupleByte b) m h = h
+meant-coded ReadOption m h = h
+meant-coded (WriteOption v) m h = option-coded (optionTurn v (m .state)) v (m .phase) (m .state) h
+meant-coded (ReadRegister g) m h = read-elim (λ (x : State). Coded x) g (m .state) h h
+meant-coded (WriteRegister g v) m h = register-written g v m h
+meant-coded (ReadData port) m h =
     data-read-elim (λ (x : Effect). Coded (x .next .state)) port m (λ v. h) h (λ v part t e. h) (λ v t e w. h) (λ v t e. load-read (t .load) (dropped m))
-performed (WriteData port v) m h =
+meant-coded (WriteData port v) m h =
     data-written-elim (λ (x : Effect). Coded (x .next .state)) port v m h h (λ part t e. h) (λ part t e w. h) (λ part t e. load-written (t .load) (dropped (partCome part t v m)))

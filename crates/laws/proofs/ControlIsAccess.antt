@@ -1,12 +1,11 @@
 -- Device Control as a method is the byte write to its register: the same answer, the same line, the same card, and what is lent as it was.
 use Prim.Native.Nat.{ℕ, zero, suc, _*_, _%_, _<_, _≤_}
 use native.Mathlib.Omega.{arith}
-use mathlib.Core.Path.{_≡_, refl, _∙_}
+use mathlib.Core.Path.{_≡_, refl, sym, _∙_}
 use mathlib.Core.Bool.{Bool, true, false}
 use mathlib.Core.List.{List}
 use lib.ListN.{length}
 use borrow.Author.Tests.{ne-eqb, le-ltb, leb-true}
-use Rattle.answers.specs.declared.Refusal.the-variants.{HeldBySreset}
 use Rattle.maps.specs.declared.Mode.{Mode}
 use Rattle.maps.specs.declared.Mode.the-variants.{PcCard, TrueIde}
 use Rattle.maps.specs.declared.Register.the-variants.{AlternateControl}
@@ -20,22 +19,27 @@ use Rattle.maps.proofs.Standings.{Known, stands-known}
 use Rattle.registers.specs.declared.State.{State}
 use Rattle.registers.specs.State.{sresetIn, indexIn, totalIn}
 use Rattle.registers.specs.WellMade.{indexFits, wellMade}
-use Rattle.card.specs.declared.Meaning.{Meaning}
-use Rattle.card.specs.declared.Meaning.the-variants.{WriteRegister}
 use Rattle.card.specs.declared.Card.{Card}
 use Rattle.card.specs.Access.{Access, heldAway, decided}
 use Rattle.card.specs.Perform.{registerWritten, perform}
-use Rattle.card.specs.Step.{step}
+use Rattle.card.specs.Step.{stepped, step}
 use Rattle.card.specs.Doors.{machineOf, answered, controlAnswered}
 use Rattle.kept.proofs.Registers.{apart}
 use Rattle.kept.proofs.Decided.{meaning-decided}
 use Rattle.kept.proofs.Step.{not-well-refused}
-use Rattle.laws.specs.DoorAccesses.{Reaches, controlSpace, controlAddress, controlAccess}
-use Rattle.laws.proofs.OptionIsAccess.{step-as}
+use Rattle.laws.specs.DoorAccesses.{Reaches, controlSpace, controlAddress, controlAccess, controlMeaning}
+use Rattle.laws.proofs.Meant.{step-as}
 
-abbrev controlMeaning : Bool → ℕ → Meaning
-controlMeaning true v = Meaning.Refused HeldBySreset
-controlMeaning false v = WriteRegister AlternateControl v
+control-by-hold : (b : Bool) (v : ℕ) (c : Card) (store marks : List ℕ) → wellMade (c .phase) (c .state) ≡ true → sresetIn (c .state .option) ≡ b →
+    answered (controlAnswered v c) store marks ≡ stepped (perform (controlMeaning b v) (machineOf c store marks))
+unfolding controlAnswered perform registerWritten
+control-by-hold true v c store marks w e = rw (w, e)
+control-by-hold false v c store marks w e = rw (w, e)
+
+-- of a well-made card
+pub meant-control : (v : ℕ) (c : Card) (store marks : List ℕ) → wellMade (c .phase) (c .state) ≡ true →
+    answered (controlAnswered v c) store marks ≡ stepped (perform (controlMeaning (sresetIn (c .state .option)) v) (machineOf c store marks))
+meant-control v c store marks w = control-by-hold (sresetIn (c .state .option)) v c store marks w refl
 
 -- it is in no attribute memory, and its value is a byte
 reaches-known : (s : State) (a : Access) → Reaches s a → Known (a .space) (a .width) (a .write) (a .value) (There (Named AlternateControl))
@@ -49,23 +53,21 @@ control-decided false s a r e =
     let n : a .value % 256 ≡ a .value = omega arith in
     rw (e, r .answers, r .stands, r .write, n)
 
-control-by : (b : Bool) (w : Bool) (c : Card) (store marks : List ℕ) (a : Access) → wellMade (c .phase) (c .state) ≡ w → sresetIn (c .state .option) ≡ b → Reaches (c .state) a →
+control-by : (w : Bool) (c : Card) (store marks : List ℕ) (a : Access) → wellMade (c .phase) (c .state) ≡ w → Reaches (c .state) a →
     length store ≡ 512 * totalIn (c .state) → length marks ≡ totalIn (c .state) → length (a .tuples) ≡ 256 →
     answered (controlAnswered (a .value) c) store marks ≡ step (machineOf c store marks) a
-unfolding controlAnswered perform registerWritten
-control-by b false c store marks a e f r s k t = rw (not-well-refused (machineOf c store marks) a e, e)
-control-by true true c store marks a e f r s k t =
+unfolding controlAnswered
+control-by false c store marks a e r s k t = rw (not-well-refused (machineOf c store marks) a e, e)
+control-by true c store marks a e r s k t =
     let m = machineOf c store marks in
-    rw (step-as m a (controlMeaning true (a .value)) (meaning-decided m a e s k t ∙ control-decided true (c .state) a r f), e, f)
-control-by false true c store marks a e f r s k t =
-    let m = machineOf c store marks in
-    rw (step-as m a (controlMeaning false (a .value)) (meaning-decided m a e s k t ∙ control-decided false (c .state) a r f), e, f)
+    let b = sresetIn (c .state .option) in
+    meant-control (a .value) c store marks e ∙ sym (step-as m a (controlMeaning b (a .value)) (meaning-decided m a e s k t ∙ control-decided b (c .state) a r refl))
 
 -- Device Control as a method is every byte write that reaches the register, in whatever map
 pub control-is-access : (c : Card) (store marks : List ℕ) (a : Access) → Reaches (c .state) a →
     length store ≡ 512 * totalIn (c .state) → length marks ≡ totalIn (c .state) → length (a .tuples) ≡ 256 →
     answered (controlAnswered (a .value) c) store marks ≡ step (machineOf c store marks) a
-control-is-access c store marks a r s k t = control-by (sresetIn (c .state .option)) (wellMade (c .phase) (c .state)) c store marks a refl refl r s k t
+control-is-access c store marks a r s k t = control-by (wellMade (c .phase) (c .state)) c store marks a refl r s k t
 
 -- offset E of each map is reached
 control-stands : (mode : Mode) (index v : ℕ) → index ≤ 3 → v < 256 →

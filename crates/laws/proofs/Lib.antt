@@ -1,3 +1,4 @@
+pub mod Meant
 pub mod RefusedUnchanged
 pub mod DoorsUnchanged
 pub mod OnlyOne
@@ -19,3 +20,14 @@ pub mod OptionIsAccess
 pub mod ControlIsAccess
 pub mod StatusBits
 pub mod StepNumber
+pub mod Blocked
+pub mod Held
+pub mod Turns
+pub mod PowerOn
+pub mod ReadValue
+pub mod SettingsKept
+pub mod SettingsRule
+pub mod LastValue
+pub mod Reached
+pub mod BlockedOffsets
+pub mod HeldOffsets

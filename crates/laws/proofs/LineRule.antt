@@ -9,11 +9,12 @@ use Rattle.registers.specs.declared.State.{State}
 use Rattle.registers.specs.State.{lineOf}
 use Rattle.registers.specs.Machine.{Machine}
 use Rattle.registers.specs.Resets.{controlWritten}
+use Rattle.card.specs.declared.Meaning.{Meaning}
 use Rattle.card.specs.declared.Card.{Card}
 use Rattle.card.specs.declared.Answer.{Answer}
 use Rattle.card.specs.Access.{Access, meaning}
 use Rattle.card.specs.Perform.{perform}
-use Rattle.card.specs.Step.{step}
+use Rattle.card.specs.Step.{stepped, step}
 use Rattle.card.specs.Opening.{opened}
 use Rattle.card.specs.Doors.{optionAnswered, controlAnswered}
 use Rattle.kept.proofs.DoorElim.{optionCard, opened-elim, option-elim, control-elim}
@@ -26,9 +27,12 @@ by-mask false mark = sym (and-true mark)
 line-of : (s : State) → lineOf s ≡ lineUp s
 line-of s = by-mask (s .control .masked) (s .mark)
 
+pub meant-line : (x : Meaning) (m : Machine) → stepped (perform x m) .line ≡ lineUp (perform x m .next .state)
+meant-line x m = line-of (perform x m .next .state)
+
 pub line-rule : (m : Machine) (a : Access) → step m a .line ≡ lineUp (step m a .next .state)
 unfolding step
-line-rule m a = line-of (perform (meaning m a) m .next .state)
+line-rule m a = meant-line (meaning m a) m
 
 abbrev Told : Answer → Type 0
 Told a = a .line ≡ lineUp (a .card .state)

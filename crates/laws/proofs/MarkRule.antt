@@ -10,6 +10,7 @@ use Rattle.registers.specs.declared.State.{State}
 use Rattle.registers.specs.declared.Core.{Core}
 use Rattle.registers.specs.State.{sresetIn}
 use Rattle.registers.specs.Machine.{Machine, coreOf}
+use Rattle.registers.specs.WellMade.{wellMade}
 use Rattle.registers.specs.Values.{afterRead}
 use Rattle.registers.specs.Resets.{turnOf, optionTurned, bitTwo, bitOne, controlTurned}
 use Rattle.transfers.specs.Steps.{dropped}
@@ -80,23 +81,25 @@ register-written DriveAddress v m = plain DriveAddress v (coreOf m)
 
 -- ---- every access
 
-performed : (k : Meaning) (m : Machine) → Runs (m .phase) (m .state) → MarkRule (actOf k (m .state .control .held)) (m .state) (perform k m .next .state)
+ruled : (x : Meaning) (m : Machine) → Runs (m .phase) (m .state) → MarkRule (actOf x (m .state .control .held)) (m .state) (perform x m .next .state)
 unfolding perform optionWritten sets clears
-performed (Meaning.Refused x) m r = no-matter (m .state) (m .state) refl
-performed (TupleByte b) m r = no-matter (m .state) (m .state) refl
-performed ReadOption m r = no-matter (m .state) (m .state) refl
-performed (WriteOption v) m r = option-turned (sresetIn (m .state .option)) (sresetIn v) v (m .phase) (m .state)
-performed (ReadRegister g) m r = register-read g (m .state)
-performed (WriteRegister g v) m r = register-written g v m
-performed (ReadData port) m r = data-read port m r
-performed (WriteData port v) m r = data-written port v m r
+ruled (Meaning.Refused r) m f = no-matter (m .state) (m .state) refl
+ruled (TupleByte b) m f = no-matter (m .state) (m .state) refl
+ruled ReadOption m f = no-matter (m .state) (m .state) refl
+ruled (WriteOption v) m f = option-turned (sresetIn (m .state .option)) (sresetIn v) v (m .phase) (m .state)
+ruled (ReadRegister r) m f = register-read r (m .state)
+ruled (WriteRegister r v) m f = register-written r v m
+ruled (ReadData port) m f = data-read port m f
+ruled (WriteData port v) m f = data-written port v m f
 
-abbrev Ruled : Meaning → Machine → Type 0
-Ruled k m = MarkRule (actOf k (m .state .control .held)) (m .state) (perform k m .next .state)
+-- of a well-made card
+pub meant-mark : (x : Meaning) (m : Machine) → wellMade (m .phase) (m .state) ≡ true → MarkRule (actOf x (m .state .control .held)) (m .state) (perform x m .next .state)
+meant-mark x m w = let f = apart (m .phase) (m .state) w in ruled x m (f .1 .0, f .1 .3)
 
+-- of every card: one that is not well made is refused
 pub mark-rule : (m : Machine) (a : Access) → MarkRule (actOf (meaning m a) (m .state .control .held)) (m .state) (step m a .next .state)
 unfolding step perform
 mark-rule m a =
     let z = no-matter (m .state) (m .state) refl in
-    meaning-elim (λ (k : Meaning). Ruled k m) m a z z z z
-    (λ w s k t. let f = apart (m .phase) (m .state) w in performed (decided (m .state) a) m (f .1 .0, f .1 .3))
+    meaning-elim (λ (x : Meaning). MarkRule (actOf x (m .state .control .held)) (m .state) (perform x m .next .state)) m a z z z z
+    (λ w s k t. meant-mark (decided (m .state) a) m w)

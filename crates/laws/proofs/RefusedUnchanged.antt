@@ -19,21 +19,21 @@ use Rattle.laws.specs.Unchanged.{Unchanged}
 abbrev Stays : Machine → Effect → Type 0
 Stays m e = (r : Refusal) → e .outcome ≡ Refused r → e .next ≡ m
 
-stays : (k : Meaning) (m : Machine) → Stays m (perform k m)
+pub meant-refused : (x : Meaning) (m : Machine) (r : Refusal) → perform x m .outcome ≡ Refused r → perform x m .next ≡ m
 unfolding perform
-stays (Meaning.Refused x) m r e = refl
-stays (TupleByte b) m r e = refl
-stays ReadOption m r e = refl
-stays (WriteOption v) m r e = accepts-not _ r e
-stays (ReadRegister g) m r e = accepts-not _ r e
-stays (WriteRegister g v) m r e = accepts-not _ r e
-stays (ReadData port) m r e =
+meant-refused (Meaning.Refused x) m r e = refl
+meant-refused (TupleByte b) m r e = refl
+meant-refused ReadOption m r e = refl
+meant-refused (WriteOption v) m r e = accepts-not _ r e
+meant-refused (ReadRegister g) m r e = accepts-not _ r e
+meant-refused (WriteRegister g v) m r e = accepts-not _ r e
+meant-refused (ReadData port) m r e =
     data-read-elim (Stays m) port m (λ v r e. refl) (λ r e. refl) (λ v part t h r e. accepts-not _ r e) (λ v t h w r e. accepts-not _ r e) (λ v t h r e. accepts-not _ r e) r e
-stays (WriteData port v) m r e =
+meant-refused (WriteData port v) m r e =
     data-written-elim (Stays m) port v m (λ r e. refl) (λ r e. refl) (λ part t h r e. accepts-not _ r e) (λ part t h w r e. accepts-not _ r e) (λ part t h r e. accepts-not _ r e) r e
 
 pub refused-unchanged : (m : Machine) (a : Access) (r : Refusal) → step m a .outcome ≡ Refused r → Unchanged m (step m a)
 unfolding step
 refused-unchanged m a r e =
-    let n = stays (meaning m a) m r e in
+    let n = meant-refused (meaning m a) m r e in
     (ap outcomeValue e, n, ap (λ (x : Machine). lineOf (x .state)) n)

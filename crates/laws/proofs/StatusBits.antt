@@ -1,26 +1,29 @@
 -- What the bits of Status say of a well-made card: "Status is 58H exactly while a transfer runs, else 50H, 51H or 71H".
 use Prim.Native.Nat.{ℕ}
-use mathlib.Core.Path.{_≡_, refl, sym, subst, _∙_}
+use mathlib.Core.Path.{_≡_, refl, sym, ap, subst, _∙_}
 use mathlib.Core.Bool.{Bool, true, false, true≢false}
 use lib.Dec.{eqb}
 use borrow.Author.Tests.{eqb-true}
 use Rattle.ground.specs.Choice.{pick}
 use Rattle.ground.proofs.Picks.{pick-elim, un-not}
-use Rattle.maps.specs.declared.Register.{Register}
+use Rattle.answers.specs.Answers.{outcomeValue}
 use Rattle.maps.specs.declared.Register.the-variants.{StatusCommand}
 use Rattle.registers.specs.declared.Phase.{Phase}
 use Rattle.registers.specs.declared.Phase.the-variants.{Idle, DataIn, DataOut}
 use Rattle.registers.specs.declared.State.{State}
-use Rattle.registers.specs.declared.Core.{Core}
 use Rattle.registers.specs.State.{sresetIn, runs}
-use Rattle.registers.specs.Machine.{core}
+use Rattle.registers.specs.Machine.{Machine}
 use Rattle.registers.specs.WellMade.{atRest, statusFits, heldIn, holdFits, wellMade}
 use Rattle.registers.specs.Values.{valueRead}
-use Rattle.card.specs.Perform.{plainCore}
+use Rattle.card.specs.declared.Meaning.{Meaning}
+use Rattle.card.specs.declared.Meaning.the-variants.{ReadRegister}
+use Rattle.card.specs.Access.{Access, meaning}
+use Rattle.card.specs.Perform.{perform}
+use Rattle.card.specs.Step.{step}
 use Rattle.kept.proofs.Registers.{apart}
-use Rattle.kept.proofs.RegisterElim.{plain-elim}
 use Rattle.laws.specs.Coded.{inError}
 use Rattle.laws.specs.Bits.{bsy, rdy, dwf, dsc, drq, err}
+use Rattle.laws.proofs.Meant.{well-meant}
 
 -- what holds of each of the four, with whether a transfer runs, holds of Status
 at-rest : (P : ℕ → Type 0) (status : ℕ) → atRest status ≡ true → P 0x50 → P 0x51 → P 0x71 → P status
@@ -59,10 +62,6 @@ pub others-stay : (p : Phase) (s : State) → wellMade p s ≡ true →
 others-stay p s e =
     made-elim (λ (n : ℕ) (b : Bool). (bsy n ≡ false) × (rdy n ≡ true) × (dsc n ≡ true)) p s e (refl, refl, refl) (refl, refl, refl) (refl, refl, refl) (refl, refl, refl)
 
--- "While DRQ is set, writes to 1..6 and D have no effect."
-pub drq-blocks : (r : Register) (v : ℕ) (p : Phase) (s : State) → wellMade p s ≡ true → drq (s .registers .status) ≡ true → plainCore r v (core p s) ≡ core p s
-drq-blocks r v p s e d = plain-elim (λ (k : Core). k ≡ core p s) r v (core p s) refl (λ f h. absurd (true≢false (sym (sym (drq-runs p s e) ∙ d) ∙ h)))
-
 -- a host sees it so: no transfer runs in a held reset, where Status reads 80H
 held-rests : (p : Phase) (b : Bool) → holdFits p b ≡ true → b ≡ true → runs p ≡ false
 unfolding holdFits
@@ -74,9 +73,18 @@ held-by : (a b : Bool) → b ≡ true → pick a true b ≡ true
 held-by true b e = refl
 held-by false b e = e
 
-pub drq-read : (p : Phase) (s : State) → wellMade p s ≡ true → drq (valueRead StatusCommand p s) ≡ runs p
+drq-value : (p : Phase) (s : State) → wellMade p s ≡ true → drq (valueRead StatusCommand p s) ≡ runs p
 unfolding valueRead heldIn
-drq-read p s e =
+drq-value p s e =
     pick-elim (λ (n : ℕ). drq n ≡ runs p) (s .control .held) _ _
     (λ h. sym (held-rests p (heldIn s) (apart p s e .1 .1) (held-by (sresetIn (s .option)) (s .control .held) h)))
     (λ h. drq-runs p s e)
+
+pub meant-drq : (m : Machine) → wellMade (m .phase) (m .state) ≡ true → drq (outcomeValue (perform (ReadRegister StatusCommand) m .outcome)) ≡ runs (m .phase)
+unfolding perform
+meant-drq m w = drq-value (m .phase) (m .state) w
+
+pub drq-read : (m : Machine) (a : Access) → meaning m a ≡ ReadRegister StatusCommand → drq (outcomeValue (step m a .outcome)) ≡ runs (m .phase)
+unfolding step
+drq-read m a e =
+    ap (λ (x : Meaning). drq (outcomeValue (perform x m .outcome))) e ∙ meant-drq m (well-meant m a (ReadRegister StatusCommand) e (λ q f. cc))

@@ -8,3 +8,7 @@ pub mod MayChange
 pub mod DoorAccesses
 pub mod Bits
 pub mod Lent
+pub mod Holds
+pub mod Turns
+pub mod ReadValue
+pub mod Settings
