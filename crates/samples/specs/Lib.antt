@@ -2,4 +2,10 @@ pub mod Lines
 pub mod Parts
 pub mod List
 pub mod Passes
+pub mod Kinds
+pub mod Faults
 pub mod Lazy
+pub mod WrongAddresses
+pub mod WrongCommands
+pub mod WrongRegisters
+pub mod WrongReaders

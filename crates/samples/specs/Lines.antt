@@ -1,6 +1,6 @@
--- How a sample is written: the accesses of a host, each with its answer's number and its value.
+-- How a sample is written: the accesses of a host, each with its answer's number and its value, and where it matters the interrupt line.
 use Prim.Native.Nat.{ℕ, _+_, _*_, _/_, _%_}
-use mathlib.Core.Bool.{Bool, true, false, _&&_}
+use mathlib.Core.Bool.{Bool, true, false, not, _&&_}
 use mathlib.Core.List.{List, [], _∷_}
 use lib.ListN.{replicate}
 use lib.Dec.{eqb}
@@ -13,11 +13,23 @@ use Rattle.card.specs.Opening.{opened}
 use Rattle.card.specs.Doors.{machineOf}
 use Rattle.ground.specs.Lists.{listed}
 
+-- "Each answer says if the line is up": what it must say, or that a sample asks nothing of it
+pub data Level : Type 0 where
+  Either : Level
+  Up : Level
+  Down : Level
+
+abbrev pub levelFits : Level → Bool → Bool
+levelFits Either up = true
+levelFits Up up = up
+levelFits Down up = not up
+
 -- an access, and what it must answer
 pub record Line : Type 0 where
   pub access : Access
   pub number : ℕ
   pub value : ℕ
+  pub level : Level
 
 -- "C 4, H 2, S 4, N 32"
 abbrev pub geometry : Geometry
@@ -49,6 +61,7 @@ reads space width address value = record {
   access = record { space = space; width = width; write = false; address = address; value = 0; tuples = tuples };
   number = 0;
   value = value;
+  level = Either;
 }
 
 abbrev pub writes : ℕ → ℕ → ℕ → ℕ → Line
@@ -56,7 +69,15 @@ writes space width address value = record {
   access = record { space = space; width = width; write = true; address = address; value = value; tuples = tuples };
   number = 0;
   value = 0;
+  level = Either;
 }
+
+-- the same, and the interrupt line is up then, or down
+abbrev pub leavesUp : Line → Line
+leavesUp l = record { access = l .access; number = l .number; value = l .value; level = Up }
+
+abbrev pub leavesDown : Line → Line
+leavesDown l = record { access = l .access; number = l .number; value = l .value; level = Down }
 
 -- do the answers of a machine agree with the lines?
 unfoldable pub agrees : (Machine → Access → Stepped) → Machine → List Line → Bool
@@ -64,4 +85,4 @@ agrees turn m [] = true
 agrees turn m (l ∷ more) =
     let s = turn m (l .access) in
     let rest = agrees turn (s .next) more in
-    eqb (outcomeNumber (s .outcome)) (l .number) && (eqb (outcomeValue (s .outcome)) (l .value) && rest)
+    eqb (outcomeNumber (s .outcome)) (l .number) && (eqb (outcomeValue (s .outcome)) (l .value) && (levelFits (l .level) (s .line) && rest))

@@ -4,8 +4,8 @@ use mathlib.Core.List.{List, [], _∷_, _++_}
 use lib.ListN.{replicate}
 use Rattle.tuples.specs.declared.Entry.{Entry}
 use Rattle.tuples.specs.Chain.{entry}
-use Rattle.samples.specs.Lines.{Line, reads, writes}
-use Rattle.samples.specs.Parts.{get, put, word, chs, lba, ends, sector, erases, shows}
+use Rattle.samples.specs.Lines.{Line, reads, writes, leavesUp, leavesDown}
+use Rattle.samples.specs.Parts.{get, put, word, chs, lba, coded, ends, sector, erases, shows}
 
 -- accesses to a card that was opened in a mode; or a chain of tuples, with its entries
 pub data Sample : Type 0 where
@@ -23,8 +23,9 @@ unfoldable pub sample1 : Sample
 sample1 = ide (chs 1 3 1 4 ++ (ends 0x40 0x50 0x00 0x00 ++ erases 31 30))
 
 -- 2. (0,0,0): 21H. 3. (4,0,1): 2FH. 4. (4,2,1): 21H.
+-- Sample 2 asks for its code twice: "03H: Error := last code, which stays".
 unfoldable pub sample2 : Sample
-sample2 = ide (chs 1 0 0 0 ++ ends 0x40 0x51 0x10 0x21)
+sample2 = ide (chs 1 0 0 0 ++ (ends 0x40 0x51 0x10 0x21 ++ coded 0x21))
 
 unfoldable pub sample3 : Sample
 sample3 = ide (chs 1 4 0 1 ++ ends 0x40 0x51 0x10 0x2F)
@@ -38,11 +39,11 @@ sample5 = ide (lba 1 31 ++ (ends 0x40 0x50 0x00 0x00 ++ (erases 31 30 ++ (lba 1 
 
 -- 6. Read LBA 30, Count 3: two sectors, then 51H, 10H, 2FH, Count 1, LBA 32.
 unfoldable pub sample6 : Sample
-sample6 = ide (lba 3 30 ++ (put 7 0x20 ∷ (sector 30 ++ (sector 31 ++ (get 7 0x51 ∷ get 1 0x10 ∷ (shows 1 32 ++ (put 7 0x03 ∷ get 1 0x2F ∷ [])))))))
+sample6 = ide (lba 3 30 ++ (put 7 0x20 ∷ (sector 30 ++ (sector 31 ++ (get 7 0x51 ∷ get 1 0x10 ∷ (shows 1 32 ++ coded 0x2F))))))
 
 -- 7. Verify LBA 0, Count 0: ends at 32, Count 224.
 unfoldable pub sample7 : Sample
-sample7 = ide (lba 0 0 ++ (put 7 0x40 ∷ get 7 0x51 ∷ get 1 0x10 ∷ (shows 224 32 ++ (put 7 0x03 ∷ get 1 0x2F ∷ []))))
+sample7 = ide (lba 0 0 ++ (put 7 0x40 ∷ get 7 0x51 ∷ get 1 0x10 ∷ (shows 224 32 ++ coded 0x2F)))
 
 -- Identify's words, of a card with current C 2, H 3, S 5: 57 and 58 are its capacity, 30
 unfoldable pub identified : List ℕ
@@ -79,16 +80,22 @@ sample8 =
 unfoldable pub sample9 : Sample
 sample9 = ide (put 2 33 ∷ put 6 0 ∷ (ends 0x91 0x51 0x04 0x21 ++ (chs 1 3 1 4 ++ ends 0x40 0x50 0x00 0x00)))
 
--- 10. Memory 3F7H is Status, 401H odd data.
+-- 10. Memory 3F7H is Status, 401H odd data. A write at 3F7H is a command, and reading it clears the interrupt mark, which Alternate Status, at
+-- 3FEH, leaves. A byte at 401H is the high half: it is written before the low one, read after it, and read before it.
 unfoldable pub sample10 : Sample
 sample10 =
     pcCard
     (reads 1 1 0x3F7 0x50
-    ∷ writes 1 1 0x007 0xE8
+    ∷ writes 1 1 0x3F7 0xE8
     ∷ reads 1 1 0x3F7 0x58
     ∷ writes 1 1 0x401 0x22
     ∷ writes 1 1 0x400 0x11
-    ∷ writes 1 1 0x007 0xE4
+    ∷ leavesUp (writes 1 1 0x3F7 0xE4)
+    ∷ leavesUp (reads 1 1 0x3FE 0x58)
+    ∷ leavesDown (reads 1 1 0x3F7 0x58)
+    ∷ reads 1 1 0x400 0x11
+    ∷ reads 1 1 0x401 0x22
+    ∷ writes 1 1 0x3F7 0xE4
     ∷ reads 1 1 0x401 0x22
     ∷ reads 1 1 0x400 0x11
     ∷ [])

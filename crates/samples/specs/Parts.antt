@@ -23,9 +23,13 @@ chs count c h s = put 2 count ∷ put 3 s ∷ put 4 c ∷ put 5 0 ∷ put 6 h �
 abbrev pub lba : ℕ → ℕ → List Line
 lba count i = put 2 count ∷ put 3 i ∷ put 4 0 ∷ put 5 0 ∷ put 6 0x40 ∷ []
 
--- a command; Status, Error; then 03H and the code
+-- 03H, and the code
+abbrev pub coded : ℕ → List Line
+coded code = put 7 0x03 ∷ get 1 code ∷ []
+
+-- a command; Status, Error; then the code
 abbrev pub ends : ℕ → ℕ → ℕ → ℕ → List Line
-ends opcode status error code = put 7 opcode ∷ get 7 status ∷ get 1 error ∷ put 7 0x03 ∷ get 1 code ∷ []
+ends opcode status error code = put 7 opcode ∷ get 7 status ∷ get 1 error ∷ coded code
 
 -- the 256 words of sector i of the store
 unfoldable pub sector : ℕ → List Line

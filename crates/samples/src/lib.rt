@@ -1,1 +1,2 @@
-// The thirteen proved samples of document 01: one list of inputs and results, and one proof over it. Statements only, nothing runs.
+// The thirteen proved samples of document 01: one list of inputs and results, and one proof over it; and wrong cards, each with a sample that it fails.
+// Statements only, nothing runs.

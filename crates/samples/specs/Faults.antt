@@ -1,0 +1,46 @@
+-- What a wrong card changes: the access before the card's step, the machine before it, or what it leaves.
+use Prim.Native.Nat.{ℕ}
+use mathlib.Core.List.{List}
+use lib.Dec.{eqb}
+use Rattle.ground.specs.Choice.{pick}
+use Rattle.answers.specs.declared.Outcome.the-variants.{Accepted}
+use Rattle.geometry.specs.declared.Address.{Address}
+use Rattle.registers.specs.declared.State.{State}
+use Rattle.registers.specs.State.{lineOf, withAddress}
+use Rattle.registers.specs.Machine.{Machine, machine, core, coreOf, withCore}
+use Rattle.card.specs.Access.{Access}
+use Rattle.card.specs.Step.{Stepped}
+
+-- the access with another value
+abbrev pub withValue : ℕ → Access → Access
+withValue v a = record { space = a .space; width = a .width; write = a .write; address = a .address; value = v; tuples = a .tuples }
+
+-- an access to memory at another address
+abbrev pub elsewhere : (ℕ → ℕ) → Access → Access
+elsewhere f a =
+    pick (eqb (a .space) 1)
+    (record { space = a .space; width = a .width; write = a .write; address = f (a .address); value = a .value; tuples = a .tuples })
+    a
+
+-- the machine with another state, with another address in its registers, with other sectors and marks
+abbrev pub withState : State → Machine → Machine
+withState s m = withCore (core (m .phase) s) m
+
+abbrev pub addressIn : Machine → Address
+addressIn m = m .state .registers .address
+
+abbrev pub atAddress : Address → Machine → Machine
+atAddress a m = withState (withAddress a (m .state)) m
+
+abbrev pub withLent : List ℕ → List ℕ → Machine → Machine
+withLent store marks m = machine (coreOf m) (m .buffer) store marks
+
+-- a step that answers another value, one that leaves another machine, one that leaves another state
+abbrev pub answering : ℕ → Stepped → Stepped
+answering value s = record { outcome = Accepted value; line = s .line; next = s .next }
+
+abbrev pub leaving : Machine → Stepped → Stepped
+leaving m s = record { outcome = s .outcome; line = lineOf (m .state); next = m }
+
+abbrev pub altered : (State → State) → Stepped → Stepped
+altered f s = leaving (withState (f (s .next .state)) (s .next)) s
