@@ -1,4 +1,4 @@
--- A card that accepts a Command write is well made, with a store and marks of its size: all that a command needs.
+-- A sound card in neither reset has all that a command needs; and a card that accepts a Command write is one.
 use Prim.Native.Nat.{ℕ, _*_}
 use mathlib.Core.Bool.{Bool, true, false, true≢false}
 use mathlib.Core.Path.{_≡_, refl, ap, _∙_}
@@ -9,7 +9,7 @@ use Rattle.ground.proofs.Picks.{neither}
 use Rattle.answers.specs.declared.Refusal.{Refusal}
 use Rattle.ground.proofs.Every.{each}
 use Rattle.geometry.proofs.Limits.{fits-facts, total-fits, current-facts}
-use Rattle.maps.specs.declared.Register.{Register}
+use Rattle.maps.specs.declared.Register.the-variants.{StatusCommand}
 use Rattle.registers.specs.State.{sresetIn, totalIn}
 use Rattle.registers.specs.Machine.{Machine}
 use Rattle.registers.specs.WellMade.{heldIn, wellMade}
@@ -17,7 +17,7 @@ use Rattle.card.specs.declared.Meaning.{Meaning}
 use Rattle.card.specs.declared.Meaning.the-variants.{TupleByte, ReadOption, WriteOption, ReadRegister, WriteRegister, ReadData, WriteData}
 use Rattle.card.specs.Access.{Access, meaning}
 use Rattle.kept.proofs.Decided.{meaning-elim}
-use Rattle.account.specs.Claim.{Typed}
+use Rattle.account.specs.Follows.{Able, AcceptedCommand}
 use Rattle.account.proofs.Commands.{Given}
 
 abbrev pub meansRefusal : Meaning → Bool
@@ -41,19 +41,26 @@ lent-facts m a y n =
     (λ (k : Meaning). k ≡ y → (wellMade (m .phase) (m .state) ≡ true) × (length (m .store) ≡ 512 * totalIn (m .state)) × (length (m .marks) ≡ totalIn (m .state))) m a
     (no y n) (no y n) (no y n) (no y n) (λ w s k t e. (w, s, k))
 
-pub given : (m : Machine) (a : Access) (r : Register) (v : ℕ) → meaning m a ≡ WriteRegister r v → heldIn (m .state) ≡ false → Typed m → Given m
+pub able : (m : Machine) (a : Access) (v : ℕ) → AcceptedCommand m a v → Able m
+able m a v w =
+    let t = w .typed in
+    let l = lent-facts m a (WriteRegister StatusCommand v) refl (w .accepted) in
+    record { sound = record { made = l .0; store = l .1; marks = l .2; buffer = t .buffer; count = t .count }; free = w .free; typed = t }
+
+pub given : (m : Machine) → Able m → Given m
 unfolding wellMade heldIn
-given m a r v e h t =
-    let l = lent-facts m a (WriteRegister r v) refl e in
-    let w = each _ (l .0) in
+given m b =
+    let s = b .sound in
+    let t = b .typed in
+    let w = each _ (s .made) in
     let f = fits-facts (m .state .made .default) (w 0) in
     let n = total-fits (m .state .made .default) (w 0) in
     let c = current-facts (m .state .current) (totalIn (m .state)) (w 1) in
-    let x = neither (sresetIn (m .state .option)) (m .state .control .held) h in
+    let x = neither (sresetIn (m .state .option)) (m .state .control .held) (b .free) in
     let d = div-le-self (totalIn (m .state)) (m .state .current .heads * m .state .current .sectors) in
     let k = c .5 in
     let u = n .2 in (
-      ((w 1, n .0, n .2), (l .1, l .2), t .storeBytes, x .1, x .0),
+      ((w 1, n .0, n .2), (s .store, s .marks), t .storeBytes, x .1, x .0),
       (t .count, (t .sector, t .low, t .high, t .head)),
       t .buffer,
       t .bufferBytes,

@@ -1,16 +1,15 @@
 -- Every command begins as its account says.
 use Prim.Native.Nat.{ℕ, _+_, _*_, _%_, _≤_}
 use mathlib.Core.Bool.{Bool, true, false, _||_}
-use mathlib.Core.Path.{_≡_, refl, sym, ap}
+use mathlib.Core.Path.{_≡_, refl, sym, _∙_}
 use mathlib.Core.List.{List}
 use lib.Dec.{ltb, eqb}
 use lib.ListN.{length}
 use Rattle.ground.specs.Choice.{pick}
 use Rattle.geometry.specs.declared.Geometry.{Geometry}
-use Rattle.geometry.specs.declared.Sought.{Sought}
+use Rattle.geometry.specs.declared.Located.{Located}
 use Rattle.geometry.specs.declared.Reshaped.{Reshaped}
 use Rattle.geometry.specs.Limits.{totalOf, currentFor}
-use Rattle.geometry.specs.Address.{locate, seek, byLba, lbaOf, headOf, cylinderOf}
 use Rattle.geometry.specs.Shape.{reshaped, currentAfter}
 use Rattle.registers.specs.declared.Phase.the-variants.{Idle}
 use Rattle.registers.specs.declared.State.{State}
@@ -21,16 +20,17 @@ use Rattle.transfers.specs.declared.Way.{Way}
 use Rattle.transfers.specs.declared.Way.the-variants.{In, Out}
 use Rattle.transfers.specs.Steps.{readSector, askSector}
 use Rattle.commands.specs.Runs.{verifyFrom, eraseFrom}
-use Rattle.commands.specs.Table.{countOf, reshapedEnded, soughtEnd}
-use Rattle.account.specs.Plain.{sectorsOf, withCurrent, Well, NotFound, Aborted, ends, Account, silent}
+use Rattle.commands.specs.Table.{countOf, reshapedEnded}
+use Rattle.account.specs.Plain.{sectorsOf, withCurrent, Well, Aborted, ends, Account, silent}
+use Rattle.account.specs.Place.{At}
 use Rattle.account.specs.Course.{courseOf}
 use Rattle.account.specs.Runs.{readSectors, writeSectors, verifySectors, eraseSectors}
-use Rattle.account.specs.Table.{asked, first, fromFirst, reads, writes, verifies, erases, shaped, setsGeometry, seeks, account}
+use Rattle.account.specs.Table.{asked, first, fromFirst, reads, writes, verifies, erases, shaped, setsGeometry, account}
 use Rattle.account.specs.Host.{plainOf, plainIn}
 use Rattle.account.specs.Notes.{None, noNotes}
 use Rattle.account.specs.Claim.{AllBytes}
+use Rattle.account.proofs.Place.{asPlace, good-at, place-is}
 use Rattle.account.proofs.Seats.{Shaped}
-use Rattle.account.proofs.Tried.{endingOf}
 use Rattle.account.proofs.Stored.{LentFor}
 use Rattle.account.proofs.Settled.{Settled}
 use Rattle.account.proofs.Rest.{ByteWise, restAt, rest, Ground, Rel, Between}
@@ -61,8 +61,11 @@ pub settled-ground : (way : Way) (s : State) (k : Core) (b t x y z w : List ℕ)
 settled-ground way s k b t x y z w h g l q = rw (h .1, h .2, h .3, h .4) (g .0, l, q, g .3, g .4)
 
 -- the first address: N is C·H·S
-pub first-is : (m : Machine) → Shaped (m .state .made) (m .state .current) → locatedIn (m .state) ≡ first (plainOf m)
-first-is m h = ap (locate (m .state .registers .address) (m .state .current)) (h .1)
+pub first-is : (m : Machine) → Shaped (m .state .made) (m .state .current) → first (plainOf m) ≡ asPlace (locatedIn (m .state))
+first-is m h = rw (h .1) (place-is (m .state .registers .address) (m .state .current) (sectorsOf (m .state .made .default)))
+
+pub first-at : (m : Machine) (i : ℕ) → Shaped (m .state .made) (m .state .current) → first (plainOf m) ≡ At i → locatedIn (m .state) ≡ Located.Good (record { index = i })
+first-at m i h e = good-at (locatedIn (m .state)) i (sym (first-is m h) ∙ e)
 
 count-is : (s : State) → countOf s ≡ asked (s .registers .count)
 unfolding countOf asked
@@ -70,46 +73,48 @@ count-is s = refl
 
 pub read-all : (m : Machine) (d : List ℕ) → Ground In m → Eight (m .state) → reads (plainOf m) ≡ rest (readSector (countOf (m .state)) m) d
 read-all m d g h =
-    rw (count-is (m .state))
-    (asked-elim (λ (n : ℕ). fromFirst (first (plainOf m)) silent (λ i. readSectors (courseOf (plainOf m)) i n (plainOf m)) (plainOf m) ≡ rest (readSector n m) d) (m .state .registers .count) (h .0)
-    (λ n e. sym (read-begins n m (h .1) e (first (plainOf m)) d g (first-is m (g .0)))))
+    rw (count-is (m .state), first-is m (g .0))
+    (asked-elim (λ (n : ℕ). fromFirst (asPlace (locatedIn (m .state))) silent (λ i. readSectors (courseOf (plainOf m)) i n (plainOf m)) (plainOf m) ≡ rest (readSector n m) d)
+    (m .state .registers .count) (h .0)
+    (λ n e. sym (read-begins n m (h .1) e (locatedIn (m .state)) d g refl)))
 
 pub read-all-between : (m : Machine) → Ground In m → Eight (m .state) → Between In (readSector (countOf (m .state)) m) None
 read-all-between m g h =
     rw (count-is (m .state))
-    (asked-elim (λ (n : ℕ). Between In (readSector n m) None) (m .state .registers .count) (h .0) (λ n e. read-begins-between n m (h .1) e (first (plainOf m)) g (first-is m (g .0))))
+    (asked-elim (λ (n : ℕ). Between In (readSector n m) None) (m .state .registers .count) (h .0) (λ n e. read-begins-between n m (h .1) e (locatedIn (m .state)) g refl))
 
 pub write-all : (m : Machine) (d : List ℕ) → Ground Out m → Eight (m .state) → writes (plainOf m) d ≡ rest (withCore (askSector (countOf (m .state)) true (m .state)) m) d
 write-all m d g h =
-    rw (count-is (m .state))
-    (asked-elim (λ (n : ℕ). fromFirst (first (plainOf m)) silent (λ i. writeSectors (courseOf (plainOf m)) i n (plainOf m) d) (plainOf m) ≡ rest (withCore (askSector n true (m .state)) m) d)
+    rw (count-is (m .state), first-is m (g .0))
+    (asked-elim (λ (n : ℕ). fromFirst (asPlace (locatedIn (m .state))) silent (λ i. writeSectors (courseOf (plainOf m)) i n (plainOf m) d) (plainOf m)
+    ≡ rest (withCore (askSector n true (m .state)) m) d)
     (m .state .registers .count) (h .0)
-    (λ n e. sym (write-begins n m (h .1) e (first (plainOf m)) d g (first-is m (g .0)))))
+    (λ n e. sym (write-begins n m (h .1) e (locatedIn (m .state)) d g refl)))
 
 pub write-all-between : (m : Machine) → length (m .buffer) ≡ 512 → Ground Out m → Eight (m .state) → Between Out (withCore (askSector (countOf (m .state)) true (m .state)) m) None
 write-all-between m f g h =
     rw (count-is (m .state))
     (asked-elim (λ (n : ℕ). Between Out (withCore (askSector n true (m .state)) m) None) (m .state .registers .count) (h .0)
-    (λ n e. write-begins-between n m (h .1) e (first (plainOf m)) f g (first-is m (g .0))))
+    (λ n e. write-begins-between n m (h .1) e (locatedIn (m .state)) f g refl))
 
 pub verify-all : (m : Machine) → Ground In m → Eight (m .state) → verifies (plainOf m) ≡ plainIn (verifyFrom (countOf (m .state)) (m .state) (m .marks) .state) (m .buffer) (m .store) (m .marks)
 verify-all m g h =
-    rw (count-is (m .state))
-    (asked-elim (λ (n : ℕ). fromFirst (first (plainOf m)) (λ q. q) (λ i. verifySectors (courseOf (plainOf m)) i n (plainOf m)) (plainOf m)
+    rw (count-is (m .state), first-is m (g .0))
+    (asked-elim (λ (n : ℕ). fromFirst (asPlace (locatedIn (m .state))) (λ q. q) (λ i. verifySectors (courseOf (plainOf m)) i n (plainOf m)) (plainOf m)
     ≡ plainIn (verifyFrom n (m .state) (m .marks) .state) (m .buffer) (m .store) (m .marks))
     (m .state .registers .count) (h .0)
-    (λ n e. sym (verify-begins n m (h .1) e (first (plainOf m)) g (first-is m (g .0)))))
+    (λ n e. sym (verify-begins n m (h .1) e (locatedIn (m .state)) g refl)))
 
 pub erase-all : (m : Machine) → Ground In m → Eight (m .state) →
     erases (plainOf m)
     ≡ plainIn (eraseFrom (countOf (m .state)) (m .state) (m .store) (m .marks) .core .state) (m .buffer)
     (eraseFrom (countOf (m .state)) (m .state) (m .store) (m .marks) .store) (eraseFrom (countOf (m .state)) (m .state) (m .store) (m .marks) .marks)
 erase-all m g h =
-    rw (count-is (m .state))
-    (asked-elim (λ (n : ℕ). fromFirst (first (plainOf m)) (λ q. q) (λ i. eraseSectors (courseOf (plainOf m)) i n (plainOf m)) (plainOf m)
+    rw (count-is (m .state), first-is m (g .0))
+    (asked-elim (λ (n : ℕ). fromFirst (asPlace (locatedIn (m .state))) (λ q. q) (λ i. eraseSectors (courseOf (plainOf m)) i n (plainOf m)) (plainOf m)
     ≡ plainIn (eraseFrom n (m .state) (m .store) (m .marks) .core .state) (m .buffer) (eraseFrom n (m .state) (m .store) (m .marks) .store) (eraseFrom n (m .state) (m .store) (m .marks) .marks))
     (m .state .registers .count) (h .0)
-    (λ n e. sym (erase-begins n m (h .1) e (first (plainOf m)) g (first-is m (g .0)))))
+    (λ n e. sym (erase-begins n m (h .1) e (locatedIn (m .state)) g refl)))
 
 -- 91H
 set-by : (a v : Bool) (g : Geometry) (s : State) (b t k : List ℕ) →
@@ -136,20 +141,3 @@ pub set-ground : (r : Reshaped) (s : State) (b t k : List ℕ) → currentFor (c
     Ground In (machine (core Idle s) b t k) → Ground In (machine (reshapedEnded r s) b t k)
 set-ground (Reshaped.Taken x) s b t k e g = ((e, g .0 .1, g .0 .2), g .1, g .2, g .3, g .4)
 set-ground Reshaped.Refused s b t k e g = g
-
--- 7XH
-seek-by : (a u v w : Bool) →
-    pick a (pick u Well (NotFound 0x2F)) (pick v (pick w Well (NotFound 0x2F)) (NotFound 0x21))
-    ≡ endingOf (soughtEnd (pick a (pick u Sought.Good Sought.BadLba) (pick v (pick w Sought.Good Sought.BadCylinder) Sought.BadHead)))
-seek-by true true v w = refl
-seek-by true false v w = refl
-seek-by false u true true = refl
-seek-by false u true false = refl
-seek-by false u false w = refl
-
-pub seek-is : (s : State) (b t k : List ℕ) → Shaped (s .made) (s .current) → seeks (plainIn s b t k) ≡ endingOf (soughtEnd (seek (s .registers .address) (s .current) (totalIn s)))
-unfolding seeks seek
-seek-is s b t k h =
-    rw (h .1)
-    (seek-by (byLba (s .registers .address)) (ltb (lbaOf (s .registers .address)) (sectorsOf (s .made .default)))
-    (ltb (headOf (s .registers .address)) (s .current .heads)) (ltb (cylinderOf (s .registers .address)) (s .current .cylinders)))

@@ -1,16 +1,13 @@
 -- What follows from the theorem.
 use Prim.Native.Nat.{ℕ}
 use mathlib.Core.Bool.{true, false, false≢true}
-use mathlib.Core.Path.{_≡_, refl, sym, ap, _∙_, subst}
+use mathlib.Core.Path.{_≡_, refl, sym, ap, _∙_}
 use mathlib.Core.List.{List, []}
-use Rattle.ground.proofs.Picks.{neither}
-use Rattle.geometry.specs.declared.Located.{Located}
 use Rattle.geometry.specs.Shape.{reshaped}
-use Rattle.registers.specs.State.{sresetIn, totalIn}
+use Rattle.registers.specs.State.{totalIn}
 use Rattle.registers.specs.Machine.{Machine}
 use Rattle.registers.specs.declared.State.{State}
 use Rattle.registers.specs.declared.Phase.the-variants.{Idle}
-use Rattle.registers.specs.WellMade.{heldIn}
 use Rattle.commands.specs.declared.Command.{Command}
 use Rattle.commands.specs.declared.Command.the-variants.{Read, Write, Verify, Erase, Identify, ReadBuffer, WriteBuffer, SetGeometry, Diagnose, Recalibrate, Seek, Sense, Other}
 use Rattle.transfers.specs.Steps.{dropped}
@@ -18,24 +15,28 @@ use Rattle.commands.specs.Table.{commandOf, obeyed, started, countOf, quiet, co
 use Rattle.card.specs.Access.{Access}
 use Rattle.card.specs.Step.{step}
 use Rattle.account.specs.Plain.{Plain, Ending, Well, NotFound, Unreadable, WriteFault, Aborted, ends, starts, Account, silent}
+use Rattle.account.specs.Place.{Place, At, Bad}
 use Rattle.account.specs.Rows.{Row, Reads, rowOf}
 use Rattle.account.specs.Course.{courseOf}
 use Rattle.account.specs.Runs.{readRun, readSectors}
 use Rattle.account.specs.Table.{asked, first, fromFirst, account}
-use Rattle.account.specs.Host.{plainOf, asks, Moves}
-use Rattle.account.specs.Follows.{AcceptedCommand, after, dataless}
+use Rattle.account.specs.Host.{plainOf, asks, Hosted, Moves}
+use Rattle.account.specs.Claim.{Agrees}
+use Rattle.account.specs.Follows.{Able, commanded, AcceptedCommand, after, dataless}
 use Rattle.account.proofs.SameRow.{rowFor, same-row}
 use Rattle.account.proofs.Settled.{verify-settled, erase-idle}
 use Rattle.account.proofs.Commands.{set-idle}
-use Rattle.account.proofs.Theorem.{command-given, as-the-account}
+use Rattle.account.proofs.Accepted.{able}
+use Rattle.account.proofs.Theorem.{command-given, by-meaning, agreed}
+
+-- Of what is claimed alone, whoever the host: the same data end the same.
+pub same-data-agrees : (plain : List ℕ → Account) (h k : Hosted) → Agrees plain h → Agrees plain k → h .notes .done ≡ k .notes .done → plainOf (h .machine) ≡ plainOf (k .machine)
+same-data-agrees plain h k p q e = ap (λ (z : Account). z .left) (sym (p .account) ∙ ap plain e ∙ q .account)
 
 -- Two hosts that move the same data end the same, whatever the order and the map.
 pub same-data-same-end : (m : Machine) (a : Access) (v : ℕ) (l k : List Access) → AcceptedCommand m a v → Moves (step m a .next) l → Moves (step m a .next) k →
     after m a v l .notes .done ≡ after m a v k .notes .done → plainOf (after m a v l .machine) ≡ plainOf (after m a v k .machine)
-same-data-same-end m a v l k w x y e =
-    let p = as-the-account m a v l (w .accepted) (w .free) (w .typed) x in
-    let q = as-the-account m a v k (w .accepted) (w .free) (w .typed) y in
-    ap (λ (z : Account). z .left) (sym (p .account) ∙ ap (account (rowOf v) (plainOf m)) e ∙ q .account)
+same-data-same-end m a v l k w x y e = same-data-agrees (account (rowOf v) (plainOf m)) (after m a v l) (after m a v k) (agreed m a v l w x) (agreed m a v k w y) e
 
 over-at-once : (k : Command) (s : State) (m : Machine) → dataless (rowFor k) ≡ true → obeyed k s m .phase ≡ Idle
 over-at-once Read s m e = absurd (false≢true e)
@@ -56,10 +57,11 @@ asks-not : (v : ℕ) (m : Machine) → dataless (rowOf v) ≡ true → asks (com
 unfolding commandGiven
 asks-not v m e = rw (over-at-once (commandOf v) (started (quiet m .state)) (quiet m) (ap dataless (sym (same-row v)) ∙ e))
 
+pub means-no-host-needed : (m : Machine) (v : ℕ) → Able m → dataless (rowOf v) ≡ true → asks (commanded v m) ≡ false
+means-no-host-needed m v k e = rw (command-given v m (k .free)) (asks-not v (dropped m) e)
+
 pub no-host-needed : (m : Machine) (a : Access) (v : ℕ) → AcceptedCommand m a v → dataless (rowOf v) ≡ true → Moves (step m a .next) []
-no-host-needed m a v w e =
-    let f : m .state .control .held ≡ false = unfold heldIn in neither (sresetIn (m .state .option)) (m .state .control .held) (w .free) .1 in
-    subst (λ (x : Machine). asks x ≡ false) (sym (command-given m a v (w .accepted) f)) (asks-not v (dropped m) e)
+no-host-needed m a v w e = by-meaning (λ x. asks x ≡ false) m a v (w .accepted) (means-no-host-needed m v (able m a v w) e)
 
 -- A read never changes the store or the marks.
 pub ends-store : (e : Ending) (p : Plain) → (ends e p .store ≡ p .store) × (ends e p .marks ≡ p .marks)
@@ -69,24 +71,24 @@ ends-store Unreadable p = (refl, refl)
 ends-store WriteFault p = (refl, refl)
 ends-store (Aborted code) p = (refl, refl)
 
-abbrev Untouched : Plain → Plain → Type 0
+abbrev pub Untouched : Plain → Plain → Type 0
 Untouched p q = (q .store ≡ p .store) × (q .marks ≡ p .marks)
 
-read-untouched : (l : Located) (n : ℕ) (p : Plain) → Untouched p (fromFirst l silent (λ i. readSectors (courseOf p) i n p) p .left)
+read-untouched : (l : Place) (n : ℕ) (p : Plain) → Untouched p (fromFirst l silent (λ i. readSectors (courseOf p) i n p) p .left)
 unfolding readSectors
-read-untouched (Located.Good spot) n p = ends-store (readRun (courseOf p) (p .marks) (spot .index) n .ending) _
-read-untouched Located.BadHeadOrSector n p = (refl, refl)
-read-untouched Located.BadCylinder n p = (refl, refl)
-read-untouched Located.BadLba n p = (refl, refl)
+read-untouched (At i) n p = ends-store (readRun (courseOf p) (p .marks) i n .ending) _
+read-untouched (Bad code) n p = (refl, refl)
 
 reads-untouched : (p : Plain) (d : List ℕ) → Untouched p (account Reads p d .left)
 unfolding account
 reads-untouched p d = read-untouched (first (starts p)) (asked (p .registers .count)) (starts p)
 
+pub reads-agree : (p : Plain) (v : ℕ) (h : Hosted) → rowOf v ≡ Reads → Agrees (account (rowOf v) p) h → Untouched p (plainOf (h .machine))
+reads-agree p v h e g =
+    let u = ap (λ (r : Row). account r p (h .notes .done)) e in
+    let z = reads-untouched p (h .notes .done) in
+    (ap (λ (y : Account). y .left .store) (sym (g .account) ∙ u) ∙ z .0, ap (λ (y : Account). y .left .marks) (sym (g .account) ∙ u) ∙ z .1)
+
 pub read-changes-no-sector : (m : Machine) (a : Access) (v : ℕ) (l : List Access) → AcceptedCommand m a v → rowOf v ≡ Reads → Moves (step m a .next) l →
     (after m a v l .machine .store ≡ m .store) × (after m a v l .machine .marks ≡ m .marks)
-read-changes-no-sector m a v l w e x =
-    let p = as-the-account m a v l (w .accepted) (w .free) (w .typed) x in
-    let u = ap (λ (r : Row). account r (plainOf m) (after m a v l .notes .done)) e in
-    let z = reads-untouched (plainOf m) (after m a v l .notes .done) in
-    (ap (λ (y : Account). y .left .store) (sym (p .account) ∙ u) ∙ z .0, ap (λ (y : Account). y .left .marks) (sym (p .account) ∙ u) ∙ z .1)
+read-changes-no-sector m a v l w e x = reads-agree (plainOf m) v (after m a v l) e (agreed m a v l w x)

@@ -29,7 +29,8 @@ use Rattle.account.proofs.Settled.{verify-settled, erase-settled}
 use Rattle.account.proofs.Identifying.{identify-is, identify-bytes}
 use Rattle.account.proofs.Rest.{restAt, Rel}
 use Rattle.account.proofs.Commands.{Given, outward, over, settled-ground, read-all, read-all-between, write-all, write-all-between}
-use Rattle.account.proofs.Commands.{verify-all, erase-all, set-is, set-idle, set-ground, seek-is}
+use Rattle.account.proofs.Commands.{verify-all, erase-all, set-is, set-idle, set-ground}
+use Rattle.account.proofs.Seeking.{seek-is}
 use Rattle.account.proofs.StartsEnds.{started-starts, starts-ends, diagnosed-is, sensed-is, buffer-read, buffer-written}
 
 pub begins : (k : Command) (m : Machine) → Given m → Rel (wayOf (rowFor k)) (account (rowFor k) (plainOf m)) (obeyed k (started (m .state)) m) noNotes

@@ -1,10 +1,12 @@
 pub mod SameRow
+pub mod Place
 pub mod Names
 pub mod Seats
 pub mod Tried
 pub mod Stored
 pub mod Verifying
 pub mod Erasing
+pub mod Seeking
 pub mod Rest
 pub mod Reading
 pub mod ReadBetween
@@ -13,6 +15,7 @@ pub mod Writing
 pub mod WordWritten
 pub mod WriteBetween
 pub mod WriteKeeps
+pub mod Aside
 pub mod Keeps
 pub mod Settled
 pub mod Identifying
@@ -22,12 +25,6 @@ pub mod StartsEnds
 pub mod Given
 pub mod Accepted
 pub mod Theorem
-pub mod WordMeans
-pub mod Sizes
-pub mod Live
 pub mod Corollaries
 pub mod Elsewhere
 pub mod OnlyNamed
-pub mod Running
-pub mod Hypotheses
-pub mod Examples

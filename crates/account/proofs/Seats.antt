@@ -21,8 +21,10 @@ use Rattle.registers.specs.declared.State.{State}
 use Rattle.registers.specs.State.{withCount, withAddress, locatedIn}
 use Rattle.transfers.specs.Steps.{sectorDone}
 use Rattle.account.specs.Plain.{sectorsOf, withPlace}
+use Rattle.account.specs.Place.{selectsLba}
 use Rattle.account.specs.Course.{Course, courseOf, named}
 use Rattle.account.specs.Host.{plainIn}
+use Rattle.account.proofs.Place.{selects-is}
 use Rattle.account.proofs.Names.{named-self, next-named}
 
 abbrev pub courseIn : State → Course
@@ -45,7 +47,7 @@ Where c i s = locatedIn s ≡ pick (ltb i (c .room)) (Located.Good (record { ind
 
 room-is : (s : State) → Shaped (s .made) (s .current) → roomOf (s .registers .address) (s .current) (totalOf (s .made .default)) ≡ courseIn s .room
 unfolding roomOf
-room-is s h = ap (λ (n : ℕ). pick (byLba (s .registers .address)) n (sectorsOf (s .current))) (h .1)
+room-is s h = rw (selects-is (s .registers .address)) (ap (λ (n : ℕ). pick (byLba (s .registers .address)) n (sectorsOf (s .current))) (h .1))
 
 -- the first sector of a run
 pub seat-room : (s : State) (i : ℕ) → Shaped (s .made) (s .current) → locatedIn s ≡ Located.Good (record { index = i }) → i < courseIn s .room
@@ -53,7 +55,7 @@ seat-room s i h e = subst (λ (n : ℕ). i < n) (room-is s h) (inside-room (s .r
 
 pub seat-address : (s : State) (i : ℕ) → Bytes (s .registers .address) → locatedIn s ≡ Located.Good (record { index = i }) → s .registers .address ≡ named (courseIn s) i
 unfolding named
-seat-address s i b e = sym (named-self (s .registers .address) (s .current) (totalOf (s .made .default)) (record { index = i }) b e)
+seat-address s i b e = rw (selects-is (s .registers .address)) (sym (named-self (s .registers .address) (s .current) (totalOf (s .made .default)) (record { index = i }) b e))
 
 -- the next one: `sectorDone` moves the registers on
 abbrev pub onward : ℕ → State → State
@@ -64,17 +66,17 @@ unfolding sectorDone
 done-on n s = rw (ne-eqb (suc n) 0 (omega arith))
 
 course-kept : (n : ℕ) (s : State) → courseIn (onward n s) ≡ courseIn s
-course-kept n s = let k = next-kept (s .registers .address) (s .current) in rw (k .0, k .1)
+course-kept n s = let k = next-kept (s .registers .address) (s .current) in rw (selects-is (nextOf (s .registers .address) (s .current)), selects-is (s .registers .address), k .0, k .1)
 
 address-next : (n i : ℕ) (s : State) → Shaped (s .made) (s .current) → locatedIn s ≡ Located.Good (record { index = i }) → onward n s .registers .address ≡ named (courseIn s) (i + 1)
 unfolding named
-address-next n i s h e = next-named (s .registers .address) (s .current) (totalOf (s .made .default)) (record { index = i }) (h .0) (h .2) e
+address-next n i s h e = rw (selects-is (s .registers .address)) (next-named (s .registers .address) (s .current) (totalOf (s .made .default)) (record { index = i }) (h .0) (h .2) e)
 
 where-next : (n i : ℕ) (s : State) → Shaped (s .made) (s .current) → locatedIn s ≡ Located.Good (record { index = i }) → Where (courseIn s) (i + 1) (onward n s)
 where-next n i s h e =
     subst (λ (r : ℕ). locatedIn (onward n s) ≡ pick (ltb (i + 1) r) (Located.Good (record { index = i + 1 })) (pastEnd (courseIn s)))
     (room-is s h)
-    (next-law (s .registers .address) (s .current) (totalOf (s .made .default)) (record { index = i }) (h .0) (h .2) e)
+    (rw (selects-is (s .registers .address)) (next-law (s .registers .address) (s .current) (totalOf (s .made .default)) (record { index = i }) (h .0) (h .2) e))
 
 pub seat-next : (c : Course) (n i : ℕ) (s : State) → Shaped (s .made) (s .current) → locatedIn s ≡ Located.Good (record { index = i }) → courseIn s ≡ c →
     Seated c (i + 1) n (onward n s) × Where c (i + 1) (onward n s)
@@ -93,4 +95,4 @@ room-by false m n h = h
 
 pub room-total : (c : Course) (s : State) → Shaped (s .made) (s .current) → courseIn s ≡ c → c .room ≤ totalOf (s .made .default)
 room-total c s h q =
-    rw (← q, h .1) (room-by (byLba (s .registers .address)) (sectorsOf (s .current)) (sectorsOf (s .made .default)) (rw (← h .1) (current-room (s .current) (totalOf (s .made .default)) (h .0))))
+    rw (← q, h .1) (room-by (selectsLba (s .registers .address)) (sectorsOf (s .current)) (sectorsOf (s .made .default)) (rw (← h .1) (current-room (s .current) (totalOf (s .made .default)) (h .0))))

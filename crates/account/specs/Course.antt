@@ -4,8 +4,8 @@ use mathlib.Core.Bool.{Bool}
 use Rattle.ground.specs.Choice.{pick}
 use Rattle.geometry.specs.declared.Geometry.{Geometry}
 use Rattle.geometry.specs.declared.Address.{Address}
-use Rattle.geometry.specs.Address.{byLba}
 use Rattle.account.specs.Plain.{Plain, sectorsOf}
+use Rattle.account.specs.Place.{selectsLba}
 
 -- LBA or CHS by which geometry, with bits 7..4 of Drive/Head; and how many sectors can be named so: N in LBA, C·H·S of the current geometry in CHS
 pub record Course : Type 0 where
@@ -16,10 +16,10 @@ pub record Course : Type 0 where
 
 abbrev pub courseOf : Plain → Course
 courseOf p = record {
-  lba = byLba (p .registers .address);
+  lba = selectsLba (p .registers .address);
   top = p .registers .address .head / 16;
   shape = p .current;
-  room = pick (byLba (p .registers .address)) (sectorsOf (p .made .default)) (sectorsOf (p .current));
+  room = pick (selectsLba (p .registers .address)) (sectorsOf (p .made .default)) (sectorsOf (p .current));
 }
 
 -- "LBA is 28 bits (from the top: head nibble, Cylinder High, Low, Sector Number)"

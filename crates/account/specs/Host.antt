@@ -13,7 +13,7 @@ use Rattle.transfers.specs.declared.Way.{Way}
 use Rattle.card.specs.declared.Meaning.{Meaning}
 use Rattle.card.specs.declared.Meaning.the-variants.{TupleByte, ReadOption, WriteOption, ReadRegister, WriteRegister, ReadData, WriteData}
 use Rattle.card.specs.Access.{Access, meaning}
-use Rattle.card.specs.Step.{step}
+use Rattle.card.specs.Perform.{perform}
 use Rattle.account.specs.Plain.{Plain}
 use Rattle.account.specs.Notes.{Notes, note}
 
@@ -59,16 +59,44 @@ calm (WriteData port v) = true
 abbrev pub asks : Machine → Bool
 asks m = runs (m .phase)
 
--- each of these accesses is made while the card asks, and is no command and no reset; after them the card asks no more
-abbrev pub Moves : Machine → List Access → Type 0
-Moves m [] = asks m ≡ false
-Moves m (a ∷ l) = (asks m ≡ true) × (calm (meaning m a) ≡ true) × Moves (step m a .next) l
+-- ---- by what its accesses mean
+
+-- each of these is done while the card asks, and is no command and no reset
+abbrev pub GoesBy : Machine → List Meaning → Type 0
+GoesBy m [] = Unit {0}
+GoesBy m (x ∷ l) = (asks m ≡ true) × (calm x ≡ true) × GoesBy (perform x m .next) l
+
+-- and after them the card asks no more
+abbrev pub MovesBy : Machine → List Meaning → Type 0
+MovesBy m [] = asks m ≡ false
+MovesBy m (x ∷ l) = (asks m ≡ true) × (calm x ≡ true) × MovesBy (perform x m .next) l
 
 -- the machine after them, and what the host has noted
 pub record Hosted : Type 0 where
   pub machine : Machine
   pub notes : Notes
 
-unfoldable pub hosted : Way → Machine → Notes → List Access → Hosted
-hosted way m q [] = record { machine = m; notes = q }
-hosted way m q (a ∷ l) = let s = step m a in hosted way (s .next) (note way (meaning m a) (s .outcome) q) l
+unfoldable pub hostedBy : Way → Machine → Notes → List Meaning → Hosted
+hostedBy way m q [] = record { machine = m; notes = q }
+hostedBy way m q (x ∷ l) = let e = perform x m in hostedBy way (e .next) (note way x (e .outcome) q) l
+
+-- what each of a list means to the card as those before it left it
+abbrev pub meaningsBy : {A : Type 0} → (Machine → A → Meaning) → Machine → List A → List Meaning
+meaningsBy means m [] = []
+meaningsBy means m (a ∷ l) = let rest = meaningsBy means (perform (means m a) m .next) l in means m a ∷ rest
+
+-- ---- by the accesses
+
+abbrev pub meanings : Machine → List Access → List Meaning
+meanings m l = meaningsBy meaning m l
+
+-- accesses that are made while the card asks, none a command or a reset
+abbrev pub Goes : Machine → List Access → Type 0
+Goes m l = GoesBy m (meanings m l)
+
+-- and after them the card asks no more
+abbrev pub Moves : Machine → List Access → Type 0
+Moves m l = MovesBy m (meanings m l)
+
+abbrev pub hosted : Way → Machine → Notes → List Access → Hosted
+hosted way m q l = hostedBy way m q (meanings m l)

@@ -1,5 +1,6 @@
 pub mod Rows
 pub mod Plain
+pub mod Place
 pub mod Course
 pub mod Runs
 pub mod Words
@@ -8,5 +9,3 @@ pub mod Notes
 pub mod Host
 pub mod Claim
 pub mod Follows
-pub mod Running
-pub mod Live

@@ -1,15 +1,14 @@
 -- 01, "Commands", the table: the plain account of each row. It knows the card's registers, not how they are reached.
 use Prim.Native.Nat.{ℕ, _+_, _*_, _/_, _%_}
-use mathlib.Core.Bool.{_||_}
+use mathlib.Core.Bool.{false, _||_}
 use mathlib.Core.List.{List}
 use lib.Dec.{ltb, eqb}
 use lib.ListN.{take}
 use Rattle.ground.specs.Choice.{pick}
 use Rattle.geometry.specs.declared.Geometry.{Geometry}
-use Rattle.geometry.specs.declared.Located.{Located}
-use Rattle.geometry.specs.Address.{byLba, lbaOf, headOf, cylinderOf, locate}
 use Rattle.account.specs.Plain.{Plain, sectorsOf, withRegisters, withCurrent, withBuffer, withError, starts, Ending, Well, NotFound, Aborted, ends, Account, silent, moving}
 use Rattle.account.specs.Rows.{Row, Reads, Writes, Verifies, Erases, Identifies, ReadsBuffer, WritesBuffer, SetsGeometry, Diagnoses, Recalibrates, Seeks, Senses, Others}
+use Rattle.account.specs.Place.{Place, At, Bad, selectsLba, badCylinder, badHead, badLba, judged, placeOf}
 use Rattle.account.specs.Course.{courseOf}
 use Rattle.account.specs.Runs.{readSectors, writeSectors, verifySectors, eraseSectors}
 use Rattle.account.specs.Words.{identifyData}
@@ -22,16 +21,14 @@ asked count = pick (eqb count 0) 256 count
 abbrev pub total : Plain → ℕ
 total p = sectorsOf (p .made .default)
 
--- the sector that the registers name at the start, by geometry's decision
-abbrev pub first : Plain → Located
-first p = locate (p .registers .address) (p .current) (total p)
+-- the sector that the registers name at the start
+abbrev pub first : Plain → Place
+first p = placeOf (p .registers .address) (p .current) (total p)
 
--- a sector command: from the first index on; "Bad head or sector: code 21H. Otherwise bad cylinder or LBA: 2FH. Both are IDNF."
-abbrev pub fromFirst {ℓ} : {A : Type ℓ} → Located → (Plain → A) → (ℕ → A) → Plain → A
-fromFirst (Located.Good spot) bad good p = good (spot .index)
-fromFirst Located.BadHeadOrSector bad good p = bad (ends (NotFound 0x21) p)
-fromFirst Located.BadCylinder bad good p = bad (ends (NotFound 0x2F) p)
-fromFirst Located.BadLba bad good p = bad (ends (NotFound 0x2F) p)
+-- a sector command: from the first index on, or the code ("Both are IDNF")
+abbrev pub fromFirst {ℓ} : {A : Type ℓ} → Place → (Plain → A) → (ℕ → A) → Plain → A
+fromFirst (At i) bad good p = good i
+fromFirst (Bad code) bad good p = bad (ends (NotFound code) p)
 
 abbrev pub reads : Plain → Account
 reads p = fromFirst (first p) silent (λ i. readSectors (courseOf p) i (asked (p .registers .count)) p) p
@@ -59,11 +56,9 @@ diagnoses p = ends Well (withRegisters (record { status = p .registers .status; 
 -- 7XH: "address test; in CHS head and cylinder only"
 unfoldable pub seeks : Plain → Ending
 seeks p =
-    pick (byLba (p .registers .address))
-    (pick (ltb (lbaOf (p .registers .address)) (total p)) Well (NotFound 0x2F))
-    (pick (ltb (headOf (p .registers .address)) (p .current .heads))
-    (pick (ltb (cylinderOf (p .registers .address)) (p .current .cylinders)) Well (NotFound 0x2F))
-    (NotFound 0x21))
+    pick (selectsLba (p .registers .address))
+    (judged false (badLba (p .registers .address) (total p)) NotFound Well)
+    (judged (badHead (p .registers .address) (p .current)) (badCylinder (p .registers .address) (p .current)) NotFound Well)
 
 -- 03H: "Error := last code, which stays"
 abbrev pub senses : Plain → Plain

@@ -1,5 +1,5 @@
 -- Identify's words, in order: 01, the last paragraph of "Commands".
-use Prim.Native.Nat.{ℕ, _+_, _/_, _%_}
+use Prim.Native.Nat.{ℕ, _/_, _%_}
 use mathlib.Core.List.{List, [], _∷_, _++_}
 use lib.ListN.{replicate}
 use Rattle.account.specs.Plain.{Plain, sectorsOf}

@@ -30,16 +30,15 @@ use Rattle.card.specs.Perform.{optionWritten, plainCore, registerWritten, perfo
 use Rattle.card.specs.Step.{step, play}
 use Rattle.card.specs.Opening.{opened}
 use Rattle.registers.specs.PowerOn.{zeros}
-use Rattle.transfers.specs.declared.Way.the-variants.{Out}
 use Rattle.maps.specs.declared.Register.the-variants.{StatusCommand}
 use Rattle.card.specs.declared.Meaning.the-variants.{WriteRegister}
 use Rattle.account.specs.Rows.{rowOf}
 use Rattle.account.specs.Table.{account}
 use Rattle.account.specs.Host.{plainOf, hosted}
-use Rattle.account.specs.Notes.{wayOf, noNotes, note}
+use Rattle.account.specs.Notes.{wayOf, noNotes}
 use Rattle.account.specs.Claim.{Agrees}
 use Rattle.account.proofs.Theorem.{as-the-account}
-use Rattle.account.proofs.Hypotheses.{moves, moves-true, bytes, typed, typed-true}
+use Rattle.hosts.proofs.Hypotheses.{moves, moves-true, bytes, typed, typed-true}
 
 -- ---- a card of two sectors, the second of which can't be written
 
@@ -66,7 +65,7 @@ two-maps =
     ++ (writeAccess 0 1 0x200 0x01 ∷ times 128 (writeAccess 2 1 0x009 0x44 ∷ writeAccess 2 1 0x008 0x33 ∷ []))
 
 unfoldable bufferAfter : List ℕ
-bufferAfter = hosted Out (step card commandE8 .next) noNotes two-maps .machine .buffer
+bufferAfter = play (step card commandE8 .next) two-maps .last .buffer
 
 computed :
     (meaning card commandE8 ≡ WriteRegister StatusCommand 0xE8)
@@ -77,7 +76,7 @@ computed :
     × (getD bufferAfter 1 0 ≡ 0x22)
     × (getD bufferAfter 510 0 ≡ 0x33)
     × (getD bufferAfter 511 0 ≡ 0x44)
-unfolding moves typed bytes twoSectors card writeAccess times commandE8 two-maps bufferAfter hosted note step meaning verdictOf decided heldAway answersAt cardAnswers standsAt attributeAt optionAt aboveThree tupleAt byteAt misfits registerAt placeAt portAt namedAt evenData offsetAt memoryAt ioAt windowAt within wellMade runFits loadFits sectorsFit wordsFit holdFits heldIn statusFits atRest sresetFits indexFits every fits totalOf currentFor locate locateChs locateLba byLba nextOf nextChs perform optionWritten registerWritten plainCore valueRead afterRead registerSet turnOf optionTurned bufferTurned controlTurned dataRead dataWritten wordRead wordWritten takeOf readSector nextRead askSector nextAsked sectorDone sectorTest addressTest sectorStored stored withSector sectorOf bufferRead readable writable marksFit countOf commandOf sectorlessCommand commandGiven opened zeros
+unfolding moves typed bytes twoSectors card writeAccess times commandE8 two-maps bufferAfter play step meaning verdictOf decided heldAway answersAt cardAnswers standsAt attributeAt optionAt aboveThree tupleAt byteAt misfits registerAt placeAt portAt namedAt evenData offsetAt memoryAt ioAt windowAt within wellMade runFits loadFits sectorsFit wordsFit holdFits heldIn statusFits atRest sresetFits indexFits every fits totalOf currentFor locate locateChs locateLba byLba nextOf nextChs perform optionWritten registerWritten plainCore valueRead afterRead registerSet turnOf optionTurned bufferTurned controlTurned dataRead dataWritten wordRead wordWritten takeOf readSector nextRead askSector nextAsked sectorDone sectorTest addressTest sectorStored stored withSector sectorOf bufferRead readable writable marksFit countOf commandOf sectorlessCommand commandGiven opened zeros
 computed = (refl, refl, refl, refl, refl, refl, refl, refl)
 
 pub two-maps-agree : Agrees (account (rowOf 0xE8) (plainOf card)) (hosted (wayOf (rowOf 0xE8)) (step card commandE8 .next) noNotes two-maps)
@@ -94,7 +93,7 @@ unfoldable pub allWords : List Access
 allWords = times 512 (writeAccess 1 2 0x000 0x4433 ∷ [])
 
 unfoldable cardAfter : Machine
-cardAfter = hosted Out (step cardAtLba0 command30 .next) noNotes allWords .machine
+cardAfter = play (step cardAtLba0 command30 .next) allWords .last
 
 faulted :
     (meaning cardAtLba0 command30 ≡ WriteRegister StatusCommand 0x30)
@@ -105,7 +104,7 @@ faulted :
     × (cardAfter .state .registers .count ≡ 1)
     × (getD (cardAfter .store) 511 0 ≡ 0x44)
     × (getD (cardAfter .store) 512 0 ≡ 0)
-unfolding moves typed bytes twoSectors card writeAccess play times cardAtLba0 command30 allWords cardAfter hosted note step meaning verdictOf decided heldAway answersAt cardAnswers standsAt attributeAt optionAt aboveThree tupleAt byteAt misfits registerAt placeAt portAt namedAt evenData offsetAt memoryAt ioAt windowAt within wellMade runFits loadFits sectorsFit wordsFit holdFits heldIn statusFits atRest sresetFits indexFits every fits totalOf currentFor locate locateChs locateLba byLba nextOf nextChs perform optionWritten registerWritten plainCore valueRead afterRead registerSet turnOf optionTurned bufferTurned controlTurned dataRead dataWritten wordRead wordWritten takeOf readSector nextRead askSector nextAsked sectorDone sectorTest addressTest sectorStored stored withSector sectorOf bufferRead readable writable marksFit countOf commandOf sectorlessCommand commandGiven opened zeros
+unfolding moves typed bytes twoSectors card writeAccess play times cardAtLba0 command30 allWords cardAfter step meaning verdictOf decided heldAway answersAt cardAnswers standsAt attributeAt optionAt aboveThree tupleAt byteAt misfits registerAt placeAt portAt namedAt evenData offsetAt memoryAt ioAt windowAt within wellMade runFits loadFits sectorsFit wordsFit holdFits heldIn statusFits atRest sresetFits indexFits every fits totalOf currentFor locate locateChs locateLba byLba nextOf nextChs perform optionWritten registerWritten plainCore valueRead afterRead registerSet turnOf optionTurned bufferTurned controlTurned dataRead dataWritten wordRead wordWritten takeOf readSector nextRead askSector nextAsked sectorDone sectorTest addressTest sectorStored stored withSector sectorOf bufferRead readable writable marksFit countOf commandOf sectorlessCommand commandGiven opened zeros
 faulted = (refl, refl, refl, refl, refl, refl, refl, refl)
 
 pub fault-agrees : Agrees (account (rowOf 0x30) (plainOf cardAtLba0)) (hosted (wayOf (rowOf 0x30)) (step cardAtLba0 command30 .next) noNotes allWords)

@@ -1,5 +1,5 @@
-use Rattle.account.proofs.typed.Statement.{statement}
-use Rattle.account.proofs.typed.Tie as tie
+use Rattle.hosts.proofs.typed.Statement.{statement}
+use Rattle.hosts.proofs.typed.Tie as tie
 use mir.Val.{Fits}
 use mir.Syntax.{w8}
 use lib.ListN.{getD}

@@ -11,21 +11,21 @@ use Rattle.ground.specs.Choice.{every}
 use Rattle.ground.proofs.Every.{each, and-left, and-right}
 use Rattle.registers.specs.Machine.{Machine}
 use Rattle.card.specs.Access.{Access, meaning}
-use Rattle.card.specs.Step.{step}
+use Rattle.card.specs.Perform.{perform}
 use Rattle.account.specs.Host.{calm, asks, Moves}
 use Rattle.account.specs.Claim.{AllBytes, Typed}
 
 -- the host's conduct as a test
 unfoldable pub moves : Machine → List Access → Bool
 moves m [] = not (asks m)
-moves m (a ∷ l) = let rest = moves (step m a .next) l in asks m && (calm (meaning m a) && rest)
+moves m (a ∷ l) = let rest = moves (perform (meaning m a) m .next) l in asks m && (calm (meaning m a) && rest)
 
 pub moves-true : (l : List Access) (m : Machine) → moves m l ≡ true → Moves m l
 unfolding moves
 moves-true [] m e = not-true _ e
 moves-true (a ∷ l) m e =
-    let p : calm (meaning m a) && moves (step m a .next) l ≡ true = and-right (asks m) _ e in
-    (and-left (asks m) _ e, and-left (calm (meaning m a)) _ p, moves-true l (step m a .next) (and-right (calm (meaning m a)) _ p))
+    let p : calm (meaning m a) && moves (perform (meaning m a) m .next) l ≡ true = and-right (asks m) _ e in
+    (and-left (asks m) _ e, and-left (calm (meaning m a)) _ p, moves-true l (perform (meaning m a) m .next) (and-right (calm (meaning m a)) _ p))
 
 -- what the types say
 unfoldable pub bytes : List ℕ → Bool

@@ -1,0 +1,55 @@
+-- How much every host has moved at the end; and a read gives the account's data.
+use Prim.Native.Nat.{ℕ}
+use mathlib.Core.Bool.{true≢false}
+use mathlib.Core.Path.{_≡_, refl, sym, ap, _∙_}
+use mathlib.Core.List.{List, [], _++_}
+use native.Mathlib.Omega.{arith}
+use lib.ListN.{length, length-append}
+use Rattle.registers.specs.Machine.{Machine}
+use Rattle.transfers.specs.declared.Way.the-variants.{In}
+use Rattle.card.specs.Access.{Access}
+use Rattle.card.specs.Step.{step}
+use Rattle.account.specs.Plain.{Plain, Account}
+use Rattle.account.specs.Rows.{Row, Reads, Writes, Verifies, Erases, Identifies, ReadsBuffer, WritesBuffer, SetsGeometry, Diagnoses, Recalibrates, Seeks, Senses, Others, rowOf}
+use Rattle.account.specs.Table.{account}
+use Rattle.account.specs.Host.{plainOf, Moves}
+use Rattle.account.specs.Notes.{wayOf}
+use Rattle.account.specs.Follows.{AcceptedCommand, after}
+use Rattle.hosts.specs.Live.{plenty, due}
+use Rattle.hosts.specs.Choices.{writes}
+use Rattle.hosts.specs.Hosts.{next}
+use Rattle.account.proofs.Rest.{notes}
+use Rattle.hosts.proofs.Due.{due-any, plenty-length}
+use Rattle.account.proofs.Theorem.{agreed}
+
+-- Every host has moved as much as the account says.
+pub moves-due : (m : Machine) (a : Access) (v : ℕ) (l : List Access) → AcceptedCommand m a v → Moves (step m a .next) l → length (after m a v l .notes .done) ≡ due (rowOf v) (plainOf m)
+moves-due m a v l w x =
+    let d = after m a v l .notes .done in
+    let e = length-append d plenty in
+    let g = plenty-length in
+    sym (ap (λ (y : Account). length (y .moved)) (agreed m a v l w x .enough plenty))
+    ∙ due-any (rowOf v) (plainOf m) (d ++ plenty) (w .typed .count) (omega arith)
+
+-- reading takes no data
+reads-alone : (row : Row) (p : Plain) (d : List ℕ) → wayOf row ≡ In → account row p d .moved ≡ account row p [] .moved
+unfolding account
+reads-alone Reads p d e = refl
+reads-alone Writes p d e = absurd (true≢false (ap writes e))
+reads-alone Verifies p d e = refl
+reads-alone Erases p d e = refl
+reads-alone Identifies p d e = refl
+reads-alone ReadsBuffer p d e = refl
+reads-alone WritesBuffer p d e = absurd (true≢false (ap writes e))
+reads-alone SetsGeometry p d e = refl
+reads-alone Diagnoses p d e = refl
+reads-alone Recalibrates p d e = refl
+reads-alone Seeks p d e = refl
+reads-alone Senses p d e = refl
+reads-alone Others p d e = refl
+
+-- A host that reads has been given the account's data.
+pub read-as-due : (m : Machine) (a : Access) (v : ℕ) (l : List Access) → AcceptedCommand m a v → wayOf (rowOf v) ≡ In → Moves (step m a .next) l →
+    after m a v l .notes .done ≡ account (rowOf v) (plainOf m) [] .moved
+read-as-due m a v l w e x =
+    sym (ap (λ (y : Account). y .moved) (agreed m a v l w x .account)) ∙ reads-alone (rowOf v) (plainOf m) (after m a v l .notes .done) e

@@ -1,0 +1,129 @@
+-- Hosts that always have a choice, whatever they would like.
+use Prim.Native.Nat.{ℕ, zero, suc, _+_, _≤_, _<_}
+use mathlib.Core.Bool.{Bool, true, false, _&&_, false≢true}
+use mathlib.Core.Path.{_≡_, refl, ap}
+use mathlib.Core.List.{List, [], _∷_}
+use native.Mathlib.Omega.{arith}
+use lib.ListN.{length}
+use borrow.Author.Tests.{leb-true, ne-eqb, lt-leb}
+use Rattle.ground.specs.Choice.{pick}
+use Rattle.ground.proofs.Every.{and-left, and-right}
+use Rattle.answers.specs.declared.Outcome.{Outcome}
+use Rattle.maps.specs.declared.Mode.{Mode}
+use Rattle.maps.specs.declared.Mode.the-variants.{PcCard, TrueIde}
+use Rattle.maps.specs.declared.Port.{Port}
+use Rattle.registers.specs.State.{indexIn}
+use Rattle.registers.specs.Machine.{Machine}
+use Rattle.transfers.specs.declared.Way.{Way}
+use Rattle.transfers.specs.declared.Way.the-variants.{In, Out}
+use Rattle.card.specs.declared.Meaning.{Meaning}
+use Rattle.card.specs.declared.Meaning.the-variants.{TupleByte, ReadOption, WriteOption, ReadRegister, WriteRegister, ReadData, WriteData}
+use Rattle.card.specs.Access.{Access, meaning}
+use Rattle.card.specs.Perform.{perform}
+use Rattle.card.specs.Step.{step}
+use Rattle.account.specs.Rows.{rowOf}
+use Rattle.account.specs.Host.{plainOf, calm, asks, Hosted, hostedBy, Goes, Moves}
+use Rattle.account.specs.Notes.{Waiting, None, LowByte, HighByte, Notes, note, wayOf}
+use Rattle.account.specs.Follows.{AcceptedCommand, after}
+use Rattle.hosts.specs.Live.{fits, most, due}
+use Rattle.hosts.specs.Choices.{offsets, dataAt}
+use Rattle.hosts.specs.Hosts.{onward, Gets, Willing, turns, next, nextOf, Sending, still}
+use Rattle.hosts.specs.Likes.{oddThere, liked, spaceOf, evenPlace, addressOf, hostOf}
+use Rattle.hosts.proofs.Live.{every-host-ends}
+
+-- ---- a place for every choice
+
+even-there : (mode : Mode) (index : ℕ) → dataAt (offsets Port.Even) mode index (spaceOf mode index) (evenPlace mode index) ≡ true
+unfolding dataAt spaceOf evenPlace
+even-there TrueIde index = refl
+even-there PcCard zero = refl
+even-there PcCard (suc zero) = refl
+even-there PcCard (suc (suc zero)) = refl
+even-there PcCard (suc (suc (suc n))) =
+    let i = suc (suc (suc n)) in
+    rw (ne-eqb i 0 (λ (e : i ≡ 0). omega arith), ne-eqb i 1 (λ (e : i ≡ 1). omega arith), ne-eqb i 2 (λ (e : i ≡ 2). omega arith), lt-leb i 1 (omega arith))
+
+odd-there : (mode : Mode) (index : ℕ) → oddThere mode index ≡ true → dataAt (offsets Port.Odd) mode index (spaceOf mode index) 0x009 ≡ true
+unfolding dataAt spaceOf oddThere
+odd-there TrueIde index e = absurd (false≢true e)
+odd-there PcCard zero e = refl
+odd-there PcCard (suc zero) e = refl
+odd-there PcCard (suc (suc n)) e = let z : suc (suc n) ≤ 1 = leb-true _ _ e in absurd (omega arith)
+
+abbrev Ready : Waiting → Mode → ℕ → Port → Type 0
+Ready w mode index port = (fits w port ≡ true) × (dataAt (offsets port) mode index (spaceOf mode index) (addressOf port mode index) ≡ true)
+
+even-ready : (w : Waiting) (mode : Mode) (index : ℕ) → Ready w mode index Port.Even
+even-ready None mode index = (refl, even-there mode index)
+even-ready (LowByte b) mode index = (refl, even-there mode index)
+even-ready (HighByte b) mode index = (refl, even-there mode index)
+
+liked-ready : (like : Port) (w : Waiting) (mode : Mode) (index : ℕ) → Ready w mode index (liked like w (oddThere mode index))
+unfolding liked
+liked-ready Port.Even w mode index = even-ready w mode index
+liked-ready Port.Odd w mode index = go (oddThere mode index && fits w Port.Odd) refl
+  where
+    go : (b : Bool) → (oddThere mode index && fits w Port.Odd) ≡ b → Ready w mode index (pick b Port.Odd Port.Even)
+    go true e = (and-right (oddThere mode index) (fits w Port.Odd) e, odd-there mode index (and-left (oddThere mode index) (fits w Port.Odd) e))
+    go false e = even-ready w mode index
+liked-ready Port.Word w mode index = go (fits w Port.Word) refl
+  where
+    go : (b : Bool) → fits w Port.Word ≡ b → Ready w mode index (pick b Port.Word Port.Even)
+    go true e = (e, even-there mode index)
+    go false e = even-ready w mode index
+
+next-most : (b : ℕ → ℕ) → ((i : ℕ) → b i < 256) → (n : ℕ) (w : Waiting) (port : Port) → fits w port ≡ true → next b n w port ≤ most port
+next-most b h n None Port.Even e = let x = h n in omega arith
+next-most b h n None Port.Odd e = let x = h (n + 1) in omega arith
+next-most b h n None Port.Word e = let x = h n in let y = h (n + 1) in omega arith
+next-most b h n (LowByte v) Port.Even e = let x = h (n + 1) in omega arith
+next-most b h n (LowByte v) Port.Odd e = let x = h (n + 1) in omega arith
+next-most b h n (LowByte v) Port.Word e = absurd (false≢true e)
+next-most b h n (HighByte v) Port.Even e = let x = h n in omega arith
+next-most b h n (HighByte v) Port.Odd e = absurd (false≢true e)
+next-most b h n (HighByte v) Port.Word e = absurd (false≢true e)
+
+module _ (way : Way) (start : Hosted) (b : ℕ → ℕ) (like : Hosted → Port) (besides : Hosted → List Access) (small : (i : ℕ) → b i < 256) where
+  -- whatever it would like
+  pub host-willing : ((h : Hosted) → Gets way start h → asks (h .machine) ≡ true → Goes (h .machine) (besides h)) → Willing way start (hostOf way b like besides)
+  host-willing g h i e =
+      let k = onward way h (besides h) in
+      let r = liked-ready (like h) (k .notes .waiting) (k .machine .state .made .mode) (indexIn (k .machine .state .option)) in
+      (g h i e, λ x. record { half = r .0; place = r .1; value = next-most b small (length (k .notes .done)) (k .notes .waiting) _ (r .0); tuples = refl })
+
+  pub host-sending : ((h : Hosted) → Gets way start h → asks (h .machine) ≡ true → onward way h (besides h) .notes ≡ h .notes) → Sending b way start (hostOf way b like besides)
+  host-sending g h i e = (g h i e, ap (λ (q : Notes). nextOf b q (hostOf way b like besides h .choice .port)) (g h i e))
+
+-- ---- one access aside, at each turn, that moves no data
+
+still-notes : (way : Way) (x : Meaning) (o : Outcome) (q : Notes) → still way x ≡ true → note way x o q ≡ q
+unfolding note
+still-notes way (Meaning.Refused r) o q e = refl
+still-notes way (TupleByte b) o q e = refl
+still-notes way ReadOption o q e = refl
+still-notes way (WriteOption v) o q e = refl
+still-notes way (ReadRegister r) o q e = refl
+still-notes way (WriteRegister r v) o q e = refl
+still-notes In (ReadData port) o q e = absurd (false≢true e)
+still-notes In (WriteData port v) o q e = refl
+still-notes Out (ReadData port) o q e = refl
+still-notes Out (WriteData port v) o q e = absurd (false≢true e)
+
+-- a status read, a refused access, a change of map, data the other way
+pub one-aside : (way : Way) (start : Hosted) (b : ℕ → ℕ) (like : Hosted → Port) (x : Hosted → Access) → ((i : ℕ) → b i < 256) →
+    ((h : Hosted) → Gets way start h → asks (h .machine) ≡ true → (calm (meaning (h .machine) (x h)) ≡ true) × (still way (meaning (h .machine) (x h)) ≡ true)) →
+    let host = hostOf way b like (λ h. x h ∷ []) in
+    Willing way start host × Sending b way start host
+unfolding hostedBy
+one-aside way start b like x small f = (
+  host-willing way start b like (λ h. x h ∷ []) small (λ h i e. (e, f h i e .0, tt)),
+  host-sending way start b like (λ h. x h ∷ []) small (λ h i e. still-notes way (meaning (h .machine) (x h)) (perform (meaning (h .machine) (x h)) (h .machine) .outcome) (h .notes) (f h i e .1)),
+)
+
+-- So after every command there is a host that comes to its end: of words only, say.
+pub not-empty : (m : Machine) (a : Access) (v : ℕ) → AcceptedCommand m a v → (l : List Access) × Moves (step m a .next) l
+not-empty m a v w =
+    let way = wayOf (rowOf v) in
+    let h = after m a v [] in
+    let host = hostOf way (λ i. 0) (λ k. Port.Word) (λ k. []) in
+    (turns (due (rowOf v) (plainOf m)) way host h, every-host-ends m a v host w (host-willing way h (λ i. 0) (λ k. Port.Word) (λ k. []) (λ i. omega arith) (λ k i e. tt)))

@@ -1,0 +1,102 @@
+-- A choice at a data place of the map that is set means data.
+use Prim.Native.Nat.{ℕ, zero, suc, _+_, _%_, _≤_}
+use mathlib.Core.Bool.{Bool, true, false, _&&_, false≢true}
+use mathlib.Core.Path.{_≡_, refl, sym, ap, _∙_, subst}
+use native.Mathlib.Omega.{arith}
+use lib.Dec.{eqb, leb, ltb}
+use borrow.Author.Tests.{leb-true, eqb-true, le-ltb}
+use Rattle.ground.specs.Choice.{pick}
+use Rattle.ground.proofs.Every.{each, and-left, and-right}
+use Rattle.maps.specs.declared.Mode.{Mode}
+use Rattle.maps.specs.declared.Mode.the-variants.{PcCard, TrueIde}
+use Rattle.maps.specs.declared.Port.{Port}
+use Rattle.maps.specs.declared.Offset.{Offset}
+use Rattle.maps.specs.declared.Standing.{Standing}
+use Rattle.maps.specs.declared.Target.the-variants.{Data}
+use Rattle.maps.specs.Spaces.{cardAnswers, answersAt}
+use Rattle.maps.specs.Offsets.{memoryAt, within, windowAt, ioAt, offsetAt}
+use Rattle.maps.specs.Places.{misfits, evenData, byteAt, portAt, namedAt, placeAt, registerAt}
+use Rattle.maps.specs.Maps.{standsAt}
+use Rattle.registers.specs.declared.State.{State}
+use Rattle.registers.specs.State.{sresetIn, indexIn}
+use Rattle.registers.specs.Machine.{Machine}
+use Rattle.registers.specs.WellMade.{indexFits, wellMade}
+use Rattle.transfers.specs.declared.Way.{Way}
+use Rattle.transfers.specs.declared.Way.the-variants.{In, Out}
+use Rattle.card.specs.Access.{heldAway, decided, meaning}
+use Rattle.kept.specs.Sound.{Sound}
+use Rattle.kept.proofs.Decided.{meaning-decided}
+use Rattle.account.specs.Host.{Hosted}
+use Rattle.hosts.specs.Live.{width, most, dataMeaning}
+use Rattle.hosts.specs.Choices.{offsets, dataAt, Choice, accessOf, Fitting}
+
+-- what the test of a place tells: the space answers, and the address has such an offset
+pub record Found (is : ℕ → Bool) (mode : Mode) (index space address : ℕ) : Type 0 where
+  pub answers : answersAt space mode index ≡ true
+  pub apart : eqb space 0 ≡ false
+  pub offset : ℕ
+  pub stands : offsetAt space index address ≡ Offset.At offset
+  pub good : is offset ≡ true
+
+module _ (is : ℕ → Bool) where
+  by-memory : (b c : Bool) (address : ℕ) → leb address 0x3FF ≡ b → leb address 0x7FF ≡ c → pick b (is (address % 16)) (c && is (8 + address % 2)) ≡ true → Found is PcCard 0 1 address
+  unfolding answersAt cardAnswers offsetAt memoryAt
+  by-memory true c address p q e = record { answers = refl; apart = refl; offset = address % 16; stands = rw p; good = e }
+  by-memory false true address p q e = record { answers = refl; apart = refl; offset = 8 + address % 2; stands = rw (p, q); good = e }
+  by-memory false false address p q e = absurd (false≢true e)
+
+  by-io : (address : ℕ) → (leb address 0x7FF && is (address % 16)) ≡ true → Found is PcCard 1 2 address
+  unfolding answersAt cardAnswers offsetAt ioAt
+  by-io address e =
+      let p : leb address 0x7FF ≡ true = and-left (leb address 0x7FF) (is (address % 16)) e in
+      record { answers = refl; apart = refl; offset = address % 16; stands = rw p; good = and-right (leb address 0x7FF) (is (address % 16)) e }
+
+  -- the first address of a window is offset 0
+  by-window : (mode : Mode) (index space first address : ℕ) → answersAt space mode index ≡ true → eqb space 0 ≡ false → offsetAt space index first ≡ Offset.At 0 →
+      (eqb address first && is 0) ≡ true → Found is mode index space address
+  by-window mode index space first address p q r e =
+      let z : address ≡ first = eqb-true address first (and-left (eqb address first) (is 0) e) in
+      record { answers = p; apart = q; offset = 0; stands = ap (offsetAt space index) z ∙ r; good = and-right (eqb address first) (is 0) e }
+
+  -- one space for each map
+  in-space : (mode : Mode) (index space own address : ℕ) (b : Bool) → (eqb space own && b) ≡ true → (b ≡ true → Found is mode index own address) → Found is mode index space address
+  in-space mode index space own address b e f =
+      subst (λ (x : ℕ). Found is mode index x address) (sym (eqb-true space own (and-left (eqb space own) b e))) (f (and-right (eqb space own) b e))
+
+  found : (mode : Mode) (index space address : ℕ) → index ≤ 3 → dataAt is mode index space address ≡ true → Found is mode index space address
+  unfolding dataAt answersAt cardAnswers offsetAt ioAt windowAt within
+  found TrueIde index space address h e = in-space TrueIde index space 3 address _ e (by-window TrueIde index 3 0x00 address refl refl refl)
+  found PcCard zero space address h e = in-space PcCard 0 space 1 address _ e (by-memory (leb address 0x3FF) (leb address 0x7FF) address refl refl)
+  found PcCard (suc zero) space address h e = in-space PcCard 1 space 2 address _ e (by-io address)
+  found PcCard (suc (suc zero)) space address h e = in-space PcCard 2 space 2 address _ e (by-window PcCard 2 2 0x1F0 address refl refl refl)
+  found PcCard (suc (suc (suc zero))) space address h e = in-space PcCard 3 space 2 address _ e (by-window PcCard 3 2 0x170 address refl refl refl)
+  found PcCard (suc (suc (suc (suc n)))) space address h e = absurd (omega arith)
+
+-- a byte of at most 255 fits
+byte-fits : (write : Bool) (v : ℕ) → v ≤ 0xFF → (write && ltb 0xFF v) ≡ false
+byte-fits true v h = le-ltb 0xFF v h
+byte-fits false v h = refl
+
+-- at such an offset stands the port
+port-stands : (port : Port) (o : ℕ) (write : Bool) (v : ℕ) → offsets port o ≡ true → v ≤ most port → placeAt o (width port) write v ≡ Standing.There (Data port)
+unfolding placeAt evenData portAt misfits namedAt byteAt
+port-stands Port.Even o write v e h = rw (e, byte-fits write v h)
+port-stands Port.Odd o write v e h = let z : o ≡ 9 = eqb-true o 9 e in rw (z, byte-fits write v h)
+port-stands Port.Word o write v e h = rw e
+
+decided-data : (s : State) (way : Way) (c : Choice) → sresetIn (s .option) ≡ false → Found (offsets (c .port)) (s .made .mode) (indexIn (s .option)) (c .space) (c .address) →
+    c .value ≤ most (c .port) → decided s (accessOf way c) ≡ dataMeaning way (c .port) (c .value)
+unfolding decided heldAway standsAt registerAt
+decided-data s In c h f v = rw (h, f .answers, f .apart, f .stands, port-stands (c .port) (f .offset) false (c .value) (f .good) v)
+decided-data s Out c h f v = rw (h, f .answers, f .apart, f .stands, port-stands (c .port) (f .offset) true (c .value) (f .good) v)
+
+index-small : (m : Machine) → wellMade (m .phase) (m .state) ≡ true → indexIn (m .state .option) ≤ 3
+unfolding wellMade indexFits
+index-small m e = leb-true _ _ (each _ e 2)
+
+pub choice-means : (way : Way) (h : Hosted) (c : Choice) → Sound (h .machine) → sresetIn (h .machine .state .option) ≡ false → Fitting h c →
+    meaning (h .machine) (accessOf way c) ≡ dataMeaning way (c .port) (c .value)
+choice-means way h c s e f =
+    meaning-decided (h .machine) (accessOf way c) (s .made) (s .store) (s .marks) (f .tuples)
+    ∙ decided-data (h .machine .state) way c e
+    (found (offsets (c .port)) (h .machine .state .made .mode) (indexIn (h .machine .state .option)) (c .space) (c .address) (index-small (h .machine) (s .made)) (f .place)) (f .value)

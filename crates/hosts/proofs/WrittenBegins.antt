@@ -1,0 +1,90 @@
+-- A command begins: what it has stored is nothing.
+use Prim.Native.Nat.{ℕ, suc, _<_}
+use mathlib.Core.Bool.{true}
+use mathlib.Core.Path.{_≡_, refl, ap, _∙_}
+use mathlib.Core.List.{List, []}
+use native.Mathlib.Nat.{zero-add}
+use borrow.Author.Tests.{lt-ltb}
+use Rattle.geometry.specs.declared.Located.{Located}
+use Rattle.registers.specs.State.{locatedIn}
+use Rattle.registers.specs.Machine.{Machine, withCore}
+use Rattle.commands.specs.declared.Command.{Command}
+use Rattle.commands.specs.declared.Command.the-variants.{Read, Write, Verify, Erase, Identify, ReadBuffer, WriteBuffer, SetGeometry, Diagnose, Recalibrate, Seek, Sense, Other}
+use Rattle.commands.specs.Table.{started, countOf, obeyed}
+use Rattle.transfers.specs.Before.{addressTest}
+use Rattle.transfers.specs.Steps.{askSector, idleWith}
+use Rattle.transfers.specs.declared.Way.the-variants.{In}
+use Rattle.account.specs.Plain.{Plain, starts, Account}
+use Rattle.account.specs.Place.{Place, At, Bad}
+use Rattle.account.specs.Rows.{Row, Reads, Writes, Verifies, Erases, Identifies, ReadsBuffer, WritesBuffer, SetsGeometry, Diagnoses, Recalibrates, Seeks, Senses, Others}
+use Rattle.account.specs.Runs.{replaced, cleared}
+use Rattle.account.specs.Table.{asked, first}
+use Rattle.account.specs.Host.{plainOf}
+use Rattle.account.specs.Notes.{Notes, noNotes}
+use Rattle.account.proofs.SameRow.{rowFor}
+use Rattle.account.proofs.Place.{asPlace}
+use Rattle.account.proofs.Seats.{Shaped, courseIn, seat-room}
+use Rattle.account.proofs.Settled.{erase-idle}
+use Rattle.account.proofs.Rest.{Rel}
+use Rattle.account.proofs.Begins.{asked-elim}
+use Rattle.account.proofs.Commands.{Given, first-is}
+use Rattle.account.proofs.Given.{begins}
+use Rattle.hosts.proofs.Written.{Target, Nowhere, From, Lies}
+use Rattle.hosts.proofs.WrittenWord.{ask-lies}
+use Rattle.hosts.proofs.WrittenKeeps.{in-lies}
+
+abbrev pub targetAt : Place → Target
+targetAt (At i) = From i
+targetAt (Bad code) = Nowhere
+
+abbrev pub targetOf : Row → Plain → Target
+targetOf Reads p = Nowhere
+targetOf Writes p = targetAt (first p)
+targetOf Verifies p = Nowhere
+targetOf Erases p = Nowhere
+targetOf Identifies p = Nowhere
+targetOf ReadsBuffer p = Nowhere
+targetOf WritesBuffer p = Nowhere
+targetOf SetsGeometry p = Nowhere
+targetOf Diagnoses p = Nowhere
+targetOf Recalibrates p = Nowhere
+targetOf Seeks p = Nowhere
+targetOf Senses p = Nowhere
+targetOf Others p = Nowhere
+
+write-begins : (n : ℕ) (m : Machine) (p : Plain) (l : Located) → p .store ≡ m .store → p .marks ≡ m .marks → Shaped (m .state .made) (m .state .current) → locatedIn (m .state) ≡ l →
+    Lies (targetAt (asPlace l)) p (withCore (askSector (suc n) true (m .state)) m) []
+unfolding askSector addressTest
+write-begins n m p (Located.Good spot) s k h e =
+    unfold askSector addressTest in
+    ask-lies (spot .index) p n true (courseIn (m .state)) (spot .index) (m .state) (m .buffer) (m .store) (m .marks) []
+    (unfold replaced cleared in record { k = 0; size = refl; stored = λ j d. simp zero-add (ap (replaced (spot .index) j d) s); marked = λ j. simp zero-add (ap (cleared (spot .index) j) k) })
+    (e ∙ (rw (lt-ltb (spot .index) (courseIn (m .state) .room) (seat-room (m .state) (spot .index) h e))))
+write-begins n m p Located.BadHeadOrSector s k h e = rw e tt
+write-begins n m p Located.BadCylinder s k h e = rw e tt
+write-begins n m p Located.BadLba s k h e = rw e tt
+
+count-is : (c : ℕ) → c < 256 → (m : Machine) → m .state .registers .count ≡ c → (P : ℕ → Type 0) → ((n : ℕ) → P (suc n)) → P (countOf (m .state))
+unfolding countOf asked
+count-is c h m e P f = unfold asked in asked-elim P (m .state .registers .count) (rw e h) (λ n q. f n)
+
+read-lies : (p : Plain) (plain : List ℕ → Account) (m : Machine) (q : Notes) → Rel In plain m q → Lies Nowhere p m (q .done)
+read-lies p plain m q y = in-lies Nowhere (m .phase) p m (q .waiting) (q .done) (y .waits)
+
+pub begins-lies : (k : Command) (m : Machine) → Given m → Lies (targetOf (rowFor k) (plainOf m)) (starts (plainOf m)) (obeyed k (started (m .state)) m) []
+begins-lies Read m h = read-lies (starts (plainOf m)) _ (obeyed Read (started (m .state)) m) noNotes (begins Read m h)
+begins-lies Write m h =
+    let x = idleWith (started (m .state)) m in
+    count-is _ (h .1 .0) x refl (λ (n : ℕ). Lies (targetAt (first (plainOf m))) (starts (plainOf m)) (withCore (askSector n true (x .state)) x) [])
+    (λ n. rw (first-is x (h .0 .0)) (write-begins n x (starts (plainOf m)) (locatedIn (x .state)) refl refl (h .0 .0) refl))
+begins-lies Verify m h = read-lies (starts (plainOf m)) _ (obeyed Verify (started (m .state)) m) noNotes (begins Verify m h)
+begins-lies Erase m h = rw (erase-idle (countOf (started (m .state))) (started (m .state)) (m .store) (m .marks)) tt
+begins-lies Identify m h = tt
+begins-lies ReadBuffer m h = tt
+begins-lies WriteBuffer m h = tt
+begins-lies SetGeometry m h = read-lies (starts (plainOf m)) _ (obeyed SetGeometry (started (m .state)) m) noNotes (begins SetGeometry m h)
+begins-lies Diagnose m h = tt
+begins-lies Recalibrate m h = tt
+begins-lies Seek m h = tt
+begins-lies Sense m h = tt
+begins-lies Other m h = tt

@@ -1,0 +1,80 @@
+-- The store and the marks at any moment of a command, by the data that has moved: what a card keeps that is pulled there.
+use Prim.Native.Nat.{ℕ, _+_, _*_, _/_, _<_}
+use mathlib.Core.Bool.{true}
+use mathlib.Core.List.{List, [], _∷_}
+use mathlib.Core.Path.{_≡_}
+use lib.Dec.{leb}
+use lib.ListN.{length, getD}
+use Rattle.ground.specs.Choice.{pick}
+use Rattle.registers.specs.Machine.{Machine}
+use Rattle.card.specs.declared.Meaning.{Meaning}
+use Rattle.card.specs.Access.{Access}
+use Rattle.card.specs.Perform.{perform}
+use Rattle.account.specs.Plain.{Plain}
+use Rattle.account.specs.Place.{Place, At, Bad}
+use Rattle.account.specs.Rows.{Row, Reads, Writes, Verifies, Erases, Identifies, ReadsBuffer, WritesBuffer, SetsGeometry, Diagnoses, Recalibrates, Seeks, Senses, Others}
+use Rattle.account.specs.Course.{courseOf}
+use Rattle.account.specs.Runs.{writeRun, replaced, cleared}
+use Rattle.account.specs.Table.{asked, first, account}
+use Rattle.account.specs.Host.{calm, meanings}
+use Rattle.account.specs.Follows.{SameOutside}
+
+-- none is a command or a reset: what `Goes` allows, and any such access when the card asks no more
+abbrev pub CalmBy : Machine → List Meaning → Type 0
+CalmBy m [] = Unit {0}
+CalmBy m (x ∷ l) = (calm x ≡ true) × CalmBy (perform x m .next) l
+
+abbrev pub Calm : Machine → List Access → Type 0
+Calm m l = CalmBy m (meanings m l)
+
+pub record Medium : Type 0 where
+  pub store : List ℕ
+  pub marks : List ℕ
+
+abbrev pub mediumOf : Plain → Medium
+mediumOf p = record { store = p .store; marks = p .marks }
+
+abbrev pub mediumIn : Machine → Medium
+mediumIn m = record { store = m .store; marks = m .marks }
+
+-- "a sector is stored, and its mark set to 0, at its last byte only": as many as have moved whole, but none from the one on where the run stops
+unfoldable pub least : ℕ → ℕ → ℕ
+least a b = pick (leb a b) a b
+
+abbrev pub wholeOf : List ℕ → ℕ
+wholeOf moved = length moved / 512
+
+-- with the first sector at index i
+abbrev pub storedOf : ℕ → Plain → List ℕ → ℕ
+storedOf i p moved = least (wholeOf moved) (writeRun (courseOf p) (p .marks) i (asked (p .registers .count)) .done)
+
+-- k sectors from index i, in the order of the run, each with the host's bytes for it
+abbrev pub storedFrom : ℕ → ℕ → Plain → List ℕ → Medium
+storedFrom i k p moved = record { store = replaced i k moved (p .store); marks = cleared i k (p .marks) }
+
+unfoldable pub writtenSoFar : Place → Plain → List ℕ → Medium
+writtenSoFar (At i) p moved = storedFrom i (storedOf i p moved) p moved
+writtenSoFar (Bad code) p moved = mediumOf p
+
+-- a write's sectors one by one, Erase's at once, and no other command's
+unfoldable pub soFar : Row → Plain → List ℕ → Medium
+soFar Reads p moved = mediumOf p
+soFar Writes p moved = writtenSoFar (first p) p moved
+soFar Verifies p moved = mediumOf p
+soFar Erases p moved = mediumOf (account Erases p moved .left)
+soFar Identifies p moved = mediumOf p
+soFar ReadsBuffer p moved = mediumOf p
+soFar WritesBuffer p moved = mediumOf p
+soFar SetsGeometry p moved = mediumOf p
+soFar Diagnoses p moved = mediumOf p
+soFar Recalibrates p moved = mediumOf p
+soFar Seeks p moved = mediumOf p
+soFar Senses p moved = mediumOf p
+soFar Others p moved = mediumOf p
+
+-- the k sectors from index i hold the first 512 * k bytes that moved, in order, and have mark 0; every other byte and mark is as it was
+pub record FirstStored (i k : ℕ) (p : Plain) (moved : List ℕ) (x : Medium) : Type 0 where
+  pub stored : (n : ℕ) → n < 512 * k → getD (x .store) (512 * i + n) 0 ≡ getD moved n 0
+  pub marked : (j : ℕ) → j < k → getD (x .marks) (i + j) 0 ≡ 0
+  pub others : SameOutside (512 * i) (512 * (i + k)) (p .store) (x .store)
+  pub otherMarks : SameOutside i (i + k) (p .marks) (x .marks)

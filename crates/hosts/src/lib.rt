@@ -1,0 +1,32 @@
+// However the host moves the data: what it may choose, that it comes to the end, the sectors at every moment, and calls of the code. Nothing
+// here is run: two functions tie the theorems to the code that is.
+use card::Answer;
+use card::Card;
+ghost use Rattle.card.specs.Doors.{machineOf};
+ghost use Rattle.account.specs.Claim.{Typed};
+ghost use Rattle.hosts.specs.Running.{Promised};
+
+// `Card::access` promises what the theorem takes a call to be.
+fn promised(
+    card: Card,
+    space: u8,
+    width: u8,
+    write: bool,
+    address: u16,
+    value: u16,
+    store: &mut [u8],
+    marks: &mut [u8],
+    tuples: &[u8],
+) -> Answer
+    ensures { λ r. ⌜ Promised card (now (store .entry)) (now (marks .entry)) (record { space = space; width = width; write = write; address = address; value = value; tuples = now (tuples .entry) }) r (now (store .exit)) (now (marks .exit)) ⌝ }
+{
+    card.access(space, width, write, address, value, store, marks, tuples)
+}
+
+// Every card and every lent store are as the theorem asks, by their types: registers of 8 bits, a buffer of 512, and bytes in both. (That a lent
+// slice holds bytes is known where it is lent on.)
+fn typed(card: Card, store: &[u8], marks: &[u8])
+    ensures { λ _. ⌜ Typed (machineOf card (now (store .entry)) (now (marks .entry))) ⌝ }
+{
+    let _first = ground::byte_or_zero(store, 0);
+}
