@@ -1,45 +1,20 @@
 -- A sound card in neither reset has all that a command needs; and a card that accepts a Command write is one.
 use Prim.Native.Nat.{ℕ, _*_}
-use mathlib.Core.Bool.{Bool, true, false, true≢false}
-use mathlib.Core.Path.{_≡_, refl, ap, _∙_}
+use mathlib.Core.Path.{refl}
 use native.Mathlib.Nat.{div-le-self}
 use native.Mathlib.Omega.{arith}
-use lib.ListN.{length}
 use Rattle.ground.proofs.Picks.{neither}
-use Rattle.answers.specs.declared.Refusal.{Refusal}
 use Rattle.ground.proofs.Every.{each}
 use Rattle.geometry.proofs.Limits.{fits-facts, total-fits, current-facts}
 use Rattle.maps.specs.declared.Register.the-variants.{StatusCommand}
 use Rattle.registers.specs.State.{sresetIn, totalIn}
 use Rattle.registers.specs.Machine.{Machine}
 use Rattle.registers.specs.WellMade.{heldIn, wellMade}
-use Rattle.card.specs.declared.Meaning.{Meaning}
-use Rattle.card.specs.declared.Meaning.the-variants.{TupleByte, ReadOption, WriteOption, ReadRegister, WriteRegister, ReadData, WriteData}
-use Rattle.card.specs.Access.{Access, meaning}
-use Rattle.kept.proofs.Decided.{meaning-elim}
+use Rattle.card.specs.declared.Meaning.the-variants.{WriteRegister}
+use Rattle.card.specs.Access.{Access}
+use Rattle.kept.proofs.Fit.{lent-facts}
 use Rattle.account.specs.Follows.{Able, AcceptedCommand}
 use Rattle.account.proofs.Commands.{Given}
-
-abbrev pub meansRefusal : Meaning → Bool
-meansRefusal (Meaning.Refused r) = true
-meansRefusal (TupleByte b) = false
-meansRefusal ReadOption = false
-meansRefusal (WriteOption v) = false
-meansRefusal (ReadRegister r) = false
-meansRefusal (WriteRegister r v) = false
-meansRefusal (ReadData p) = false
-meansRefusal (WriteData p v) = false
-
-no : {A : Type 0} {r : Refusal} (y : Meaning) → meansRefusal y ≡ false → Meaning.Refused r ≡ y → A
-no y n e = absurd (true≢false (ap meansRefusal e ∙ n))
-
--- rows 12, 2 and 3
-pub lent-facts : (m : Machine) (a : Access) (y : Meaning) → meansRefusal y ≡ false → meaning m a ≡ y →
-    (wellMade (m .phase) (m .state) ≡ true) × (length (m .store) ≡ 512 * totalIn (m .state)) × (length (m .marks) ≡ totalIn (m .state))
-lent-facts m a y n =
-    meaning-elim
-    (λ (k : Meaning). k ≡ y → (wellMade (m .phase) (m .state) ≡ true) × (length (m .store) ≡ 512 * totalIn (m .state)) × (length (m .marks) ≡ totalIn (m .state))) m a
-    (no y n) (no y n) (no y n) (no y n) (λ w s k t e. (w, s, k))
 
 pub able : (m : Machine) (a : Access) (v : ℕ) → AcceptedCommand m a v → Able m
 able m a v w =

@@ -10,7 +10,7 @@ use Rattle.geometry.proofs.Shapes.{after-current}
 use Rattle.identify.specs.Words.{identifyBytes}
 use Rattle.identify.proofs.Bytes.{identify-length}
 use Rattle.registers.specs.State.{totalIn}
-use Rattle.registers.specs.Machine.{Machine, core}
+use Rattle.registers.specs.Machine.{Machine}
 use Rattle.commands.specs.declared.Command.{Command}
 use Rattle.commands.specs.declared.Command.the-variants.{Read, Write, Verify, Erase, Identify, ReadBuffer, WriteBuffer, SetGeometry, Diagnose, Recalibrate, Seek, Sense, Other}
 use Rattle.transfers.specs.declared.End.{End}

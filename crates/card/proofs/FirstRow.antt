@@ -49,6 +49,7 @@ access-number m a =
     ∙ ap (firstOf (doorTable (m .state) a) numberOf) (stands-told (a .value) (a .tuples) m (a .space) (indexIn (m .state .option)) (a .address) (a .width) (a .write))
     ∙ doors-told (m .state) a _)
 
+-- no other row can come: 1 and 4 are the opening's, 13 to 16 the tuples', 17 the session file's
 pub first-row : (m : Machine) (a : Access) → ByRows (12 ∷ 2 ∷ 3 ∷ 5 ∷ 8 ∷ 7 ∷ 6 ∷ 9 ∷ 10 ∷ 11 ∷ []) (accessTable m a) (step m a .outcome)
 first-row m a = by-rows (accessTable m a) (step m a .outcome) refl (access-number m a)
 

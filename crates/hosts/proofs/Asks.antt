@@ -19,7 +19,7 @@ use Rattle.account.specs.Rows.{Row}
 use Rattle.account.specs.Table.{account}
 use Rattle.account.specs.Host.{plainOf, asks}
 use Rattle.account.specs.Notes.{Waiting, None, LowByte, HighByte, Notes}
-use Rattle.hosts.specs.Live.{waits, noted, moved, plenty, due}
+use Rattle.hosts.specs.Live.{waits, noted, plenty, due}
 use Rattle.account.proofs.Rest.{restAt, Waits, Rel}
 use Rattle.hosts.proofs.Due.{plenty-length, due-any}
 

@@ -1,5 +1,5 @@
 -- How much every host has moved at the end; and a read gives the account's data.
-use Prim.Native.Nat.{ℕ}
+use Prim.Native.Nat.{ℕ, _<_}
 use mathlib.Core.Bool.{true≢false}
 use mathlib.Core.Path.{_≡_, refl, sym, ap, _∙_}
 use mathlib.Core.List.{List, [], _++_}
@@ -12,24 +12,25 @@ use Rattle.card.specs.Step.{step}
 use Rattle.account.specs.Plain.{Plain, Account}
 use Rattle.account.specs.Rows.{Row, Reads, Writes, Verifies, Erases, Identifies, ReadsBuffer, WritesBuffer, SetsGeometry, Diagnoses, Recalibrates, Seeks, Senses, Others, rowOf}
 use Rattle.account.specs.Table.{account}
-use Rattle.account.specs.Host.{plainOf, Moves}
+use Rattle.account.specs.Host.{plainOf, Hosted, Moves}
 use Rattle.account.specs.Notes.{wayOf}
+use Rattle.account.specs.Claim.{Agrees}
 use Rattle.account.specs.Follows.{AcceptedCommand, after}
 use Rattle.hosts.specs.Live.{plenty, due}
 use Rattle.hosts.specs.Choices.{writes}
-use Rattle.hosts.specs.Hosts.{next}
-use Rattle.account.proofs.Rest.{notes}
 use Rattle.hosts.proofs.Due.{due-any, plenty-length}
 use Rattle.account.proofs.Theorem.{agreed}
 
--- Every host has moved as much as the account says.
-pub moves-due : (m : Machine) (a : Access) (v : ℕ) (l : List Access) → AcceptedCommand m a v → Moves (step m a .next) l → length (after m a v l .notes .done) ≡ due (rowOf v) (plainOf m)
-moves-due m a v l w x =
-    let d = after m a v l .notes .done in
+-- Of what is claimed alone, whoever the host: it has moved as much as the account says.
+pub due-agrees : (row : Row) (p : Plain) (h : Hosted) → p .registers .count < 256 → Agrees (account row p) h → length (h .notes .done) ≡ due row p
+due-agrees row p h c x =
+    let d = h .notes .done in
     let e = length-append d plenty in
     let g = plenty-length in
-    sym (ap (λ (y : Account). length (y .moved)) (agreed m a v l w x .enough plenty))
-    ∙ due-any (rowOf v) (plainOf m) (d ++ plenty) (w .typed .count) (omega arith)
+    sym (ap (λ (y : Account). length (y .moved)) (x .enough plenty)) ∙ due-any row p (d ++ plenty) c (omega arith)
+
+pub moves-due : (m : Machine) (a : Access) (v : ℕ) (l : List Access) → AcceptedCommand m a v → Moves (step m a .next) l → length (after m a v l .notes .done) ≡ due (rowOf v) (plainOf m)
+moves-due m a v l w x = due-agrees (rowOf v) (plainOf m) (after m a v l) (w .typed .count) (agreed m a v l w x)
 
 -- reading takes no data
 reads-alone : (row : Row) (p : Plain) (d : List ℕ) → wayOf row ≡ In → account row p d .moved ≡ account row p [] .moved
@@ -49,7 +50,9 @@ reads-alone Senses p d e = refl
 reads-alone Others p d e = refl
 
 -- A host that reads has been given the account's data.
+pub read-agrees : (row : Row) (p : Plain) (h : Hosted) → wayOf row ≡ In → Agrees (account row p) h → h .notes .done ≡ account row p [] .moved
+read-agrees row p h e x = sym (ap (λ (y : Account). y .moved) (x .account)) ∙ reads-alone row p (h .notes .done) e
+
 pub read-as-due : (m : Machine) (a : Access) (v : ℕ) (l : List Access) → AcceptedCommand m a v → wayOf (rowOf v) ≡ In → Moves (step m a .next) l →
     after m a v l .notes .done ≡ account (rowOf v) (plainOf m) [] .moved
-read-as-due m a v l w e x =
-    sym (ap (λ (y : Account). y .moved) (agreed m a v l w x .account)) ∙ reads-alone (rowOf v) (plainOf m) (after m a v l .notes .done) e
+read-as-due m a v l w e x = read-agrees (rowOf v) (plainOf m) (after m a v l) e (agreed m a v l w x)

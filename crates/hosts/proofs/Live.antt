@@ -12,7 +12,6 @@ use Rattle.ground.specs.Choice.{pick}
 use Rattle.maps.specs.declared.Port.{Port}
 use Rattle.registers.specs.Machine.{Machine}
 use Rattle.transfers.specs.declared.Way.{Way}
-use Rattle.commands.specs.Table.{quiet}
 use Rattle.card.specs.declared.Meaning.{Meaning}
 use Rattle.card.specs.Access.{Access}
 use Rattle.card.specs.Step.{step}
@@ -22,7 +21,7 @@ use Rattle.account.specs.Plain.{Plain, Account}
 use Rattle.account.specs.Rows.{Row, rowOf}
 use Rattle.account.specs.Table.{account}
 use Rattle.account.specs.Host.{plainOf, asks, GoesBy, Hosted, hostedBy, meanings, Goes, Moves}
-use Rattle.account.specs.Notes.{noNotes, wayOf}
+use Rattle.account.specs.Notes.{Notes, noNotes, wayOf}
 use Rattle.account.specs.Follows.{Able, commanded, afterBy, AcceptedCommand, after}
 use Rattle.hosts.specs.Live.{fits, width, most, noted, dataMeaning, Taken, due}
 use Rattle.hosts.specs.Choices.{Choice, accessOf, Fitting, TakenChoice}
@@ -34,6 +33,10 @@ use Rattle.hosts.proofs.Places.{choice-means}
 use Rattle.hosts.proofs.Asks.{asks-due}
 use Rattle.hosts.proofs.Taken.{taken}
 use Rattle.hosts.proofs.Reached.{grows, Stands, reached, moves-after, gets-on}
+
+-- what is noted is the beginning of the account's data
+beginning : (plain : List ℕ → Account) (way : Way) (m : Machine) (q : Notes) (more : List ℕ) → Rel way plain m q → take (length (q .done)) (plain (q .done ++ more) .moved) ≡ q .done
+beginning plain way m q more z = ap (λ (x : Account). take (length (q .done)) (x .moved)) (z .account more) ∙ take-append-seam (q .done) _
 
 -- ---- after a command, over what accesses mean
 
@@ -49,6 +52,9 @@ module _ (m : Machine) (v : ℕ) (l : List Meaning) (k : Able m) (g : GoesBy (co
   -- and it asks exactly as long as the host has noted less than the account moves
   pub means-asks-while-due : asks (afterBy m v l .machine) ≡ ltb (noted (afterBy m v l .notes)) (due (rowOf v) (plainOf m))
   means-asks-while-due = asks-due (rowOf v) (plainOf m) (k .typed .count) (afterBy m v l .machine) (afterBy m v l .notes) (wayOf (rowOf v)) goes
+
+  pub means-noted-so-far : (more : List ℕ) → let done = afterBy m v l .notes .done in take (length done) (account (rowOf v) (plainOf m) (done ++ more) .moved) ≡ done
+  means-noted-so-far more = beginning (account (rowOf v) (plainOf m)) (wayOf (rowOf v)) (afterBy m v l .machine) (afterBy m v l .notes) more goes
 
 -- ---- over accesses
 
@@ -123,9 +129,7 @@ asks-while-due m a v l w g =
 pub noted-so-far : (m : Machine) (a : Access) (v : ℕ) (l : List Access) (more : List ℕ) → AcceptedCommand m a v → Goes (step m a .next) l →
     let done = after m a v l .notes .done in
     take (length done) (account (rowOf v) (plainOf m) (done ++ more) .moved) ≡ done
-noted-so-far m a v l more w g =
-    let q = after m a v l .notes in
-    ap (λ (x : Account). take (length (q .done)) (x .moved)) (stands m a v l w g .1 .account more) ∙ take-append-seam (q .done) _
+noted-so-far m a v l more w g = beginning (account (rowOf v) (plainOf m)) (wayOf (rowOf v)) (after m a v l .machine) (after m a v l .notes) more (stands m a v l w g .1)
 
 -- So every willing host comes to the end, after as many turns as there are bytes, at most.
 pub every-host-ends : (m : Machine) (a : Access) (v : ℕ) (host : Hosted → Turn) → AcceptedCommand m a v → Willing (wayOf (rowOf v)) (after m a v []) host →

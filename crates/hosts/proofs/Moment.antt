@@ -3,10 +3,9 @@ use Prim.Native.Nat.{ℕ}
 use mathlib.Core.Bool.{Bool, true, false, true≢false}
 use mathlib.Core.Path.{_≡_, refl, sym, ap, _∙_, subst}
 use mathlib.Core.List.{List, [], _∷_, _++_, append-nil, append-assoc}
-use Rattle.registers.specs.Machine.{Machine, machine}
+use Rattle.registers.specs.Machine.{Machine}
 use Rattle.commands.specs.Table.{commandOf, quiet, commandGiven}
 use Rattle.transfers.specs.Steps.{dropped}
-use Rattle.port.specs.Data.{accepted}
 use Rattle.card.specs.declared.Meaning.{Meaning}
 use Rattle.card.specs.Access.{Access}
 use Rattle.card.specs.Perform.{perform}
@@ -19,7 +18,7 @@ use Rattle.account.specs.Notes.{Notes, noNotes, note, wayOf}
 use Rattle.account.specs.Follows.{Able, commanded, afterBy, AcceptedCommand, after}
 use Rattle.hosts.specs.Moment.{CalmBy, Calm, Medium, mediumIn, soFar}
 use Rattle.account.proofs.SameRow.{same-row}
-use Rattle.account.proofs.Rest.{Rel, notes}
+use Rattle.account.proofs.Rest.{Rel}
 use Rattle.account.proofs.Accepted.{given, able}
 use Rattle.account.proofs.Keeps.{keeps}
 use Rattle.account.proofs.Theorem.{command-given, begun, by-meaning}

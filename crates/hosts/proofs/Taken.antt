@@ -22,7 +22,7 @@ use Rattle.card.specs.Perform.{perform}
 use Rattle.account.specs.Plain.{Account}
 use Rattle.account.specs.Host.{plainOf, calm, asks, Hosted}
 use Rattle.account.specs.Notes.{Waiting, None, LowByte, HighByte, Notes, note, noteData, sent}
-use Rattle.hosts.specs.Live.{fits, width, most, waits, noted, moved, dataMeaning, Taken}
+use Rattle.hosts.specs.Live.{fits, width, most, noted, moved, dataMeaning, Taken}
 use Rattle.account.proofs.Rest.{Pending, Waits, Rel, notes}
 use Rattle.account.proofs.Keeps.{free-read, free-written}
 

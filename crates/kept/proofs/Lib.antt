@@ -9,6 +9,7 @@ pub mod DataElim
 pub mod Data
 pub mod Table
 pub mod Decided
+pub mod Fit
 pub mod Perform
 pub mod Step
 pub mod DoorElim

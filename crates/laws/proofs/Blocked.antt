@@ -34,7 +34,7 @@ meant-blocked r v m w d b =
 pub blocked-write : (m : Machine) (a : Access) (r : Register) (v : ℕ) → meaning m a ≡ WriteRegister r v → blocked r ≡ true → drq (m .state .registers .status) ≡ true →
     step m a ≡ stepped (accepted 0 m)
 blocked-write m a r v e b d =
-    step-by m a (WriteRegister r v) (accepted 0 m) e (meant-blocked r v m (well-meant m a (WriteRegister r v) e (λ q f. cc)) d b)
+    step-by m a (WriteRegister r v) (accepted 0 m) e (meant-blocked r v m (well-meant m a (WriteRegister r v) e refl) d b)
 
 -- of every card, at rest or not, held or not
 pub meant-drive-address : (v : ℕ) (m : Machine) → perform (WriteRegister DriveAddress v) m ≡ accepted 0 m

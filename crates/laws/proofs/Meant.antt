@@ -1,7 +1,6 @@
 -- An access by what it means: a law of `perform` is one of `step`.
 use mathlib.Core.Path.{_≡_, ap, _∙_}
-use mathlib.Core.Bool.{true}
-use Rattle.answers.specs.declared.Refusal.{Refusal}
+use mathlib.Core.Bool.{true, false}
 use Rattle.registers.specs.Machine.{Machine}
 use Rattle.registers.specs.WellMade.{wellMade}
 use Rattle.port.specs.Data.{Effect}
@@ -9,7 +8,7 @@ use Rattle.card.specs.declared.Meaning.{Meaning}
 use Rattle.card.specs.Access.{Access, meaning}
 use Rattle.card.specs.Perform.{perform}
 use Rattle.card.specs.Step.{stepped, step}
-use Rattle.kept.proofs.Decided.{meaning-elim}
+use Rattle.kept.proofs.Fit.{meansRefusal, lent-facts}
 
 pub step-as : (m : Machine) (a : Access) (x : Meaning) → meaning m a ≡ x → step m a ≡ stepped (perform x m)
 unfolding step
@@ -19,5 +18,5 @@ pub step-by : (m : Machine) (a : Access) (x : Meaning) (y : Effect) → meaning 
 step-by m a x y e f = step-as m a x e ∙ ap (λ (z : Effect). stepped z) f
 
 -- what is no refusal is meant to a well-made card
-pub well-meant : (m : Machine) (a : Access) (x : Meaning) → meaning m a ≡ x → ((r : Refusal) → Meaning.Refused r ≡ x → wellMade (m .phase) (m .state) ≡ true) → wellMade (m .phase) (m .state) ≡ true
-well-meant m a x e f = meaning-elim (λ (y : Meaning). y ≡ x → wellMade (m .phase) (m .state) ≡ true) m a (f _) (f _) (f _) (f _) (λ w s k t g. w) e
+pub well-meant : (m : Machine) (a : Access) (x : Meaning) → meaning m a ≡ x → meansRefusal x ≡ false → wellMade (m .phase) (m .state) ≡ true
+well-meant m a x e n = lent-facts m a x n e .0

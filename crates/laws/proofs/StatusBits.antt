@@ -87,4 +87,4 @@ meant-drq m w = drq-value (m .phase) (m .state) w
 pub drq-read : (m : Machine) (a : Access) → meaning m a ≡ ReadRegister StatusCommand → drq (outcomeValue (step m a .outcome)) ≡ runs (m .phase)
 unfolding step
 drq-read m a e =
-    ap (λ (x : Meaning). drq (outcomeValue (perform x m .outcome))) e ∙ meant-drq m (well-meant m a (ReadRegister StatusCommand) e (λ q f. cc))
+    ap (λ (x : Meaning). drq (outcomeValue (perform x m .outcome))) e ∙ meant-drq m (well-meant m a (ReadRegister StatusCommand) e refl)

@@ -1,5 +1,5 @@
 -- 01, "Proved samples": "These thirteen form a single list of inputs and results with one proof over it."
-use Prim.Native.Nat.{ℕ, _+_}
+use Prim.Native.Nat.{ℕ}
 use mathlib.Core.List.{List, [], _∷_, _++_}
 use lib.ListN.{replicate}
 use Rattle.tuples.specs.declared.Entry.{Entry}

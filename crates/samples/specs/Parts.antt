@@ -1,5 +1,5 @@
 -- Parts that the samples share: registers set, a command and how it ended, a sector's data.
-use Prim.Native.Nat.{ℕ, _+_}
+use Prim.Native.Nat.{ℕ}
 use mathlib.Core.List.{List, [], _∷_, _++_}
 use lib.ListN.{replicate}
 use Rattle.ground.specs.Lists.{listed}
