@@ -20,14 +20,15 @@ use Rattle.card.specs.Perform.{optionWritten, perform}
 use Rattle.kept.proofs.RegisterElim.{read-elim, set-elim}
 use Rattle.account.specs.Host.{calm}
 use Rattle.account.specs.Notes.{Waiting, None, LowByte, HighByte, Notes, note, noteData, noteRead, noteWritten, sent}
-use Rattle.hosts.specs.Moment.{Medium, mediumIn}
+use Rattle.sectors.specs.Sectors.{StoreMarks}
+use Rattle.laws.specs.Changes.{storeMarksIn}
 use Rattle.account.proofs.Aside.{stateIn, option-aside, register-aside}
 use Rattle.account.proofs.Rest.{notes}
 
-abbrev pub Rests : Medium → Machine → Type 0
-Rests k m = (m .phase ≡ Idle) × (m .state .control .held ≡ false) × (sresetIn (m .state .option) ≡ false) × (mediumIn m ≡ k)
+abbrev pub Rests : StoreMarks → Machine → Type 0
+Rests k m = (m .phase ≡ Idle) × (m .state .control .held ≡ false) × (sresetIn (m .state .option) ≡ false) × (storeMarksIn m ≡ k)
 
-module _ (k : Medium) where
+module _ (k : StoreMarks) where
   idle-read : (f : Phase) (port : Port) (m : Machine) → f ≡ Idle → Rests k m → Rests k (phaseRead f port m .next)
   idle-read Idle port m e z = z
   idle-read (DataIn t) port m e z = absurd (true≢false (ap runs e))

@@ -5,9 +5,8 @@ use mathlib.Core.Path.{_≡_, refl, sym, ap, _∙_, subst}
 use mathlib.Core.List.{List, [], _∷_}
 use Rattle.ground.specs.Choice.{pick}
 use Rattle.answers.specs.declared.Outcome.{Outcome}
-use Rattle.answers.specs.declared.Refusal.{Refusal}
 use Rattle.answers.specs.declared.Refusal.the-variants.{NotWellMade, StoreLength, MarksLength}
-use Rattle.registers.specs.Machine.{Machine}
+use Rattle.registers.specs.Machine.{Machine, coreOf}
 use Rattle.registers.specs.WellMade.{wellMade}
 use Rattle.transfers.specs.declared.Way.{Way}
 use Rattle.card.specs.declared.Card.{Card}
@@ -16,14 +15,14 @@ use Rattle.card.specs.declared.Meaning.{Meaning}
 use Rattle.card.specs.Access.{Access, storeSized, marksSized, tuplesSized, decided, verdictBy, verdictOf, meantBy, meaning}
 use Rattle.card.specs.Perform.{perform}
 use Rattle.card.specs.Step.{Stepped, stepped, step}
-use Rattle.card.specs.Doors.{machineOf, answered}
+use Rattle.card.specs.Doors.{machineOf, answered, cardOf}
 use Rattle.kept.specs.Sound.{Sound}
 use Rattle.kept.specs.Allowed.{Allowed}
 use Rattle.kept.proofs.Decided.{meaning-allowed}
 use Rattle.kept.proofs.Perform.{perform-sound}
 use Rattle.account.specs.Host.{Hosted, hostedBy}
 use Rattle.account.specs.Notes.{Notes, note}
-use Rattle.hosts.specs.Running.{Promised, Call, Own, Others, WrongLength, lent, callMeaning, callMeanings, Called}
+use Rattle.hosts.specs.Running.{Promised, Call, Own, Wrong, WrongLength, wrongRow, lent, callMeaning, callMeanings, Called}
 
 -- ---- the wrong store or marks lent
 
@@ -33,17 +32,10 @@ wrong-by true false k t d e = refl
 wrong-by true true false t d e = refl
 wrong-by true true true t d e = absurd (true≢false e)
 
--- rows 12, 2 and 3
-abbrev wrongRow : Machine → List ℕ → Refusal
-wrongRow m store = pick (wellMade (m .phase) (m .state)) (pick (storeSized (m .state) store) MarksLength StoreLength) NotWellMade
-
 wrong-means : (m : Machine) (store marks : List ℕ) (a : Access) → WrongLength (m .state) store marks → meaning (lent store marks m) a ≡ Meaning.Refused (wrongRow m store)
 unfolding meaning verdictOf
 wrong-means m store marks a e =
     wrong-by (wellMade (m .phase) (m .state)) (storeSized (m .state) store) (marksSized (m .state) marks) (tuplesSized (a .tuples)) (decided (m .state) a) e
-
-abbrev cardIn : Machine → Card
-cardIn m = record { phase = m .phase; state = m .state; buffer = m .buffer }
 
 module _ (c : Card) (store marks : List ℕ) (a : Access) (r : Answer) (store′ marks′ : List ℕ) (e : WrongLength (c .state) store marks) (p : Promised c store marks a r store′ marks′) where
   wrong-answered : answered r store′ marks′ ≡ stepped (perform (Meaning.Refused (wrongRow (machineOf c store marks) store)) (machineOf c store marks))
@@ -55,7 +47,7 @@ module _ (c : Card) (store marks : List ℕ) (a : Access) (r : Answer) (store′
   unfolding perform
   wrong-refused =
       let n = ap (λ (s : Stepped). s .next) wrong-answered in
-      (ap (λ (s : Stepped). s .outcome) wrong-answered, ap cardIn n, ap (λ (m : Machine). m .store) n, ap (λ (m : Machine). m .marks) n)
+      (ap (λ (s : Stepped). s .outcome) wrong-answered, ap (λ (m : Machine). cardOf (coreOf m) (m .buffer)) n, ap (λ (m : Machine). m .store) n, ap (λ (m : Machine). m .marks) n)
 
 -- ---- calls
 
@@ -67,7 +59,7 @@ called-is [] c store marks way q h e = e
 called-is (Own a ∷ l) c store marks way q h e =
     ap (λ (s : Stepped). hostedBy way (s .next) (note way (meaning (machineOf c store marks) a) (s .outcome) q) (callMeanings (s .next) l)) (sym (e .3))
     ∙ called-is l (e .0 .card) (e .1) (e .2) way _ h (e .4)
-called-is (Others store₁ marks₁ a ∷ l) c store marks way q h e =
+called-is (Wrong store₁ marks₁ a ∷ l) c store marks way q h e =
     let m = machineOf c store marks in
     let x = wrong-means m store₁ marks₁ a (e .4) in
     let k = wrong-refused c store₁ marks₁ a (e .0) (e .1) (e .2) (e .4) (e .3) .1 in
@@ -77,7 +69,7 @@ called-is (Others store₁ marks₁ a ∷ l) c store marks way q h e =
 
 call-allowed : (m : Machine) (c : Call) → Allowed (callMeaning m c) (m .state)
 call-allowed m (Own a) = meaning-allowed m a
-call-allowed m (Others store marks a) = meaning-allowed (lent store marks m) a
+call-allowed m (Wrong store marks a) = meaning-allowed (lent store marks m) a
 
 -- and the card stays sound
 pub sound-called : (l : List Call) (way : Way) (m : Machine) (q : Notes) → Sound m → Sound (hostedBy way m q (callMeanings m l) .machine)

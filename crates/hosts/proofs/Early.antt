@@ -17,11 +17,12 @@ use Rattle.account.specs.Runs.{writeRun, replaced, cleared}
 use Rattle.account.specs.Table.{asked, first}
 use Rattle.account.specs.Host.{plainOf}
 use Rattle.account.specs.Follows.{Able, commanded, afterBy, AcceptedCommand, after, dataless}
-use Rattle.hosts.specs.Moment.{CalmBy, Calm, mediumOf, mediumIn, wholeOf, storedOf, storedFrom, writtenSoFar, soFar}
+use Rattle.laws.specs.Changes.{storeMarksIn}
+use Rattle.hosts.specs.Moment.{CalmBy, Calm, storeMarksOf, wholeOf, storedOf, storedFrom, writtenSoFar, soFar}
 use Rattle.hosts.proofs.Moment.{means-at-every-moment, at-every-moment}
 use Rattle.hosts.proofs.FirstStored.{least-both}
 
-none-yet : (l : Place) (p : Plain) (d : List ℕ) → length d < 512 → writtenSoFar l p d ≡ mediumOf p
+none-yet : (l : Place) (p : Plain) (d : List ℕ) → length d < 512 → writtenSoFar l p d ≡ storeMarksOf p
 unfolding writtenSoFar replaced cleared
 none-yet (At i) p d h =
     let x = least-both (wholeOf d) (writeRun (courseOf p) (p .marks) i (asked (p .registers .count)) .done) in
@@ -29,7 +30,7 @@ none-yet (At i) p d h =
     ap (λ (k : ℕ). storedFrom i k p d) e
 none-yet (Bad code) p d h = refl
 
-row-none-yet : (row : Row) (p : Plain) (d : List ℕ) → dataless row ≡ false → length d < 512 → soFar row p d ≡ mediumOf p
+row-none-yet : (row : Row) (p : Plain) (d : List ℕ) → dataless row ≡ false → length d < 512 → soFar row p d ≡ storeMarksOf p
 unfolding soFar
 row-none-yet Reads p d e h = refl
 row-none-yet Writes p d e h = none-yet (first p) p d h
@@ -47,9 +48,9 @@ row-none-yet Others p d e h = refl
 
 -- Nothing is stored on the Command write of a command with data, nor before the last byte of its first sector.
 pub means-nothing-early : (m : Machine) (v : ℕ) (l : List Meaning) → Able m → dataless (rowOf v) ≡ false → CalmBy (commanded v m) l →
-    length (afterBy m v l .notes .done) < 512 → mediumIn (afterBy m v l .machine) ≡ mediumIn m
+    length (afterBy m v l .notes .done) < 512 → storeMarksIn (afterBy m v l .machine) ≡ storeMarksIn m
 means-nothing-early m v l k e g h = means-at-every-moment m v l k g ∙ row-none-yet (rowOf v) (plainOf m) (afterBy m v l .notes .done) e h
 
 pub nothing-early : (m : Machine) (a : Access) (v : ℕ) (l : List Access) → AcceptedCommand m a v → dataless (rowOf v) ≡ false → Calm (step m a .next) l →
-    length (after m a v l .notes .done) < 512 → mediumIn (after m a v l .machine) ≡ mediumIn m
+    length (after m a v l .notes .done) < 512 → storeMarksIn (after m a v l .machine) ≡ storeMarksIn m
 nothing-early m a v l w e g h = at-every-moment m a v l w g ∙ row-none-yet (rowOf v) (plainOf m) (after m a v l .notes .done) e h

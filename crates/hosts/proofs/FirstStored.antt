@@ -23,7 +23,9 @@ use Rattle.account.specs.Table.{asked, first}
 use Rattle.account.specs.Host.{plainOf, meanings, hosted}
 use Rattle.account.specs.Notes.{noNotes, wayOf}
 use Rattle.account.specs.Follows.{Able, commanded, afterBy, AcceptedCommand, after}
-use Rattle.hosts.specs.Moment.{CalmBy, Calm, Medium, mediumIn, least, wholeOf, storedOf, storedFrom, writtenSoFar, soFar, FirstStored}
+use Rattle.sectors.specs.Sectors.{StoreMarks}
+use Rattle.laws.specs.Changes.{storeMarksIn}
+use Rattle.hosts.specs.Moment.{CalmBy, Calm, least, wholeOf, storedOf, storedFrom, writtenSoFar, soFar, FirstStored}
 use Rattle.account.proofs.Seats.{courseIn, seat-room, room-total}
 use Rattle.account.proofs.Stored.{LentFor, put-length}
 use Rattle.account.proofs.Commands.{first-at}
@@ -106,7 +108,7 @@ soFar-at p i d e = rw e
 -- The sectors that a write has stored are the first ones in its order, each with the host's bytes for it, as many as have moved whole.
 pub means-first-ones-stored : (m : Machine) (v : ℕ) (l : List Meaning) (i : ℕ) → Able m → rowOf v ≡ Writes → first (plainOf m) ≡ At i → CalmBy (commanded v m) l →
     let h = afterBy m v l in
-    FirstStored i (storedOf i (plainOf m) (h .notes .done)) (plainOf m) (h .notes .done) (mediumIn (h .machine))
+    FirstStored i (storedOf i (plainOf m) (h .notes .done)) (plainOf m) (h .notes .done) (storeMarksIn (h .machine))
 means-first-ones-stored m v l i n e f g =
     let d = afterBy m v l .notes .done in
     let k = storedOf i (plainOf m) d in
@@ -115,15 +117,15 @@ means-first-ones-stored m v l i n e f g =
     let y = seat-room (m .state) i (o .0) (first-at m i (o .0) f) in
     let u = run-inside unwritable WriteFault (courseOf (plainOf m)) (m .marks) (asked (m .state .registers .count)) i (omega arith) in
     let r = room-total (courseIn (m .state)) (m .state) (o .0) refl in
-    subst (λ (z : Medium). FirstStored i k (plainOf m) d z)
+    subst (λ (z : StoreMarks). FirstStored i k (plainOf m) d z)
     (sym (means-at-every-moment m v l n g ∙ ap (λ (z : Row). soFar z (plainOf m) d) e ∙ soFar-at (plainOf m) i d f))
     (stored-first i k (totalOf (m .state .made .default)) (plainOf m) d (omega arith) (omega arith) (o .1))
 
 pub first-ones-stored : (m : Machine) (a : Access) (v : ℕ) (l : List Access) (i : ℕ) → AcceptedCommand m a v → rowOf v ≡ Writes → first (plainOf m) ≡ At i →
     Calm (step m a .next) l →
     let h = after m a v l in
-    FirstStored i (storedOf i (plainOf m) (h .notes .done)) (plainOf m) (h .notes .done) (mediumIn (h .machine))
+    FirstStored i (storedOf i (plainOf m) (h .notes .done)) (plainOf m) (h .notes .done) (storeMarksIn (h .machine))
 first-ones-stored m a v l i w e f =
     by-meaning (λ x. Calm x l → let h = hosted (wayOf (rowOf v)) x noNotes l in
-    FirstStored i (storedOf i (plainOf m) (h .notes .done)) (plainOf m) (h .notes .done) (mediumIn (h .machine))) m a v (w .accepted)
+    FirstStored i (storedOf i (plainOf m) (h .notes .done)) (plainOf m) (h .notes .done) (storeMarksIn (h .machine))) m a v (w .accepted)
     (means-first-ones-stored m v (meanings (commanded v m) l) i (able m a v w) e f)

@@ -1,10 +1,10 @@
 -- Hosts that always have a choice, whatever they would like.
 use Prim.Native.Nat.{ℕ, zero, suc, _+_, _≤_, _<_}
 use mathlib.Core.Bool.{Bool, true, false, _&&_, false≢true}
-use mathlib.Core.Path.{_≡_, refl, ap}
+use mathlib.Core.Path.{_≡_, refl, ap, _∙_}
 use mathlib.Core.List.{List, [], _∷_}
 use native.Mathlib.Omega.{arith}
-use lib.ListN.{length}
+use lib.ListN.{length, replicate, length-replicate}
 use borrow.Author.Tests.{leb-true, ne-eqb, lt-leb}
 use Rattle.ground.specs.Choice.{pick}
 use Rattle.ground.proofs.Every.{and-left, and-right}
@@ -22,14 +22,15 @@ use Rattle.card.specs.Access.{Access, meaning}
 use Rattle.card.specs.Perform.{perform}
 use Rattle.card.specs.Step.{step}
 use Rattle.account.specs.Rows.{rowOf}
-use Rattle.account.specs.Host.{plainOf, calm, asks, Hosted, hostedBy, Goes, Moves}
+use Rattle.account.specs.Host.{plainOf, calm, asks, Hosted, hostedBy, Moves}
 use Rattle.account.specs.Notes.{Waiting, None, LowByte, HighByte, Notes, note, wayOf}
 use Rattle.account.specs.Follows.{AcceptedCommand, after}
-use Rattle.hosts.specs.Live.{fits, most, due}
-use Rattle.hosts.specs.Choices.{offsets, dataAt}
-use Rattle.hosts.specs.Hosts.{onward, Gets, Willing, turns, next, nextOf, Sending, still}
-use Rattle.hosts.specs.Likes.{oddThere, liked, spaceOf, evenPlace, addressOf, hostOf}
+use Rattle.hosts.specs.Live.{fits, most, Small, due}
+use Rattle.hosts.specs.Choices.{offsets, dataAt, Fitting}
+use Rattle.hosts.specs.Hosts.{onward, Going, turns, Willing, next, Sends, still}
+use Rattle.hosts.specs.Likes.{oddThere, liked, spaceOf, evenPlace, addressOf, choiceIn, likedTurns}
 use Rattle.hosts.proofs.Live.{every-host-ends}
+use Rattle.hosts.proofs.Sent.{sends-ready-too}
 
 -- ---- a place for every choice
 
@@ -50,27 +51,27 @@ odd-there PcCard zero e = refl
 odd-there PcCard (suc zero) e = refl
 odd-there PcCard (suc (suc n)) e = let z : suc (suc n) ≤ 1 = leb-true _ _ e in absurd (omega arith)
 
-abbrev Ready : Waiting → Mode → ℕ → Port → Type 0
-Ready w mode index port = (fits w port ≡ true) × (dataAt (offsets port) mode index (spaceOf mode index) (addressOf port mode index) ≡ true)
+abbrev There : Waiting → Mode → ℕ → Port → Type 0
+There w mode index port = (fits w port ≡ true) × (dataAt (offsets port) mode index (spaceOf mode index) (addressOf port mode index) ≡ true)
 
-even-ready : (w : Waiting) (mode : Mode) (index : ℕ) → Ready w mode index Port.Even
-even-ready None mode index = (refl, even-there mode index)
-even-ready (LowByte b) mode index = (refl, even-there mode index)
-even-ready (HighByte b) mode index = (refl, even-there mode index)
+even-here : (w : Waiting) (mode : Mode) (index : ℕ) → There w mode index Port.Even
+even-here None mode index = (refl, even-there mode index)
+even-here (LowByte b) mode index = (refl, even-there mode index)
+even-here (HighByte b) mode index = (refl, even-there mode index)
 
-liked-ready : (like : Port) (w : Waiting) (mode : Mode) (index : ℕ) → Ready w mode index (liked like w (oddThere mode index))
+liked-there : (like : Port) (w : Waiting) (mode : Mode) (index : ℕ) → There w mode index (liked like w (oddThere mode index))
 unfolding liked
-liked-ready Port.Even w mode index = even-ready w mode index
-liked-ready Port.Odd w mode index = go (oddThere mode index && fits w Port.Odd) refl
+liked-there Port.Even w mode index = even-here w mode index
+liked-there Port.Odd w mode index = go (oddThere mode index && fits w Port.Odd) refl
   where
-    go : (b : Bool) → (oddThere mode index && fits w Port.Odd) ≡ b → Ready w mode index (pick b Port.Odd Port.Even)
+    go : (b : Bool) → (oddThere mode index && fits w Port.Odd) ≡ b → There w mode index (pick b Port.Odd Port.Even)
     go true e = (and-right (oddThere mode index) (fits w Port.Odd) e, odd-there mode index (and-left (oddThere mode index) (fits w Port.Odd) e))
-    go false e = even-ready w mode index
-liked-ready Port.Word w mode index = go (fits w Port.Word) refl
+    go false e = even-here w mode index
+liked-there Port.Word w mode index = go (fits w Port.Word) refl
   where
-    go : (b : Bool) → fits w Port.Word ≡ b → Ready w mode index (pick b Port.Word Port.Even)
+    go : (b : Bool) → fits w Port.Word ≡ b → There w mode index (pick b Port.Word Port.Even)
     go true e = (e, even-there mode index)
-    go false e = even-ready w mode index
+    go false e = even-here w mode index
 
 next-most : (b : ℕ → ℕ) → ((i : ℕ) → b i < 256) → (n : ℕ) (w : Waiting) (port : Port) → fits w port ≡ true → next b n w port ≤ most port
 next-most b h n None Port.Even e = let x = h n in omega arith
@@ -83,16 +84,22 @@ next-most b h n (HighByte v) Port.Even e = let x = h n in omega arith
 next-most b h n (HighByte v) Port.Odd e = absurd (false≢true e)
 next-most b h n (HighByte v) Port.Word e = absurd (false≢true e)
 
-module _ (way : Way) (start : Hosted) (b : ℕ → ℕ) (like : Hosted → Port) (besides : Hosted → List Access) (small : (i : ℕ) → b i < 256) where
-  -- whatever it would like
-  pub host-willing : ((h : Hosted) → Gets way start h → asks (h .machine) ≡ true → Goes (h .machine) (besides h)) → Willing way start (hostOf way b like besides)
-  host-willing g h i e =
-      let k = onward way h (besides h) in
-      let r = liked-ready (like h) (k .notes .waiting) (k .machine .state .made .mode) (indexIn (k .machine .state .option)) in
-      (g h i e, λ x. record { half = r .0; place = r .1; value = next-most b small (length (k .notes .done)) (k .notes .waiting) _ (r .0); tuples = refl })
+next-small : (way : Way) (b : ℕ → ℕ) → ((i : ℕ) → b i < 256) → (n : ℕ) (w : Waiting) (port : Port) → fits w port ≡ true → Small way port (next b n w port)
+next-small In b h n w port e = tt
+next-small Out b h n w port e = next-most b h n w port e
 
-  pub host-sending : ((h : Hosted) → Gets way start h → asks (h .machine) ≡ true → onward way h (besides h) .notes ≡ h .notes) → Sending b way start (hostOf way b like besides)
-  host-sending g h i e = (g h i e, ap (λ (q : Notes). nextOf b q (hostOf way b like besides h .choice .port)) (g h i e))
+-- whatever parts it would like, and whatever it does aside that is allowed and moves no data: every turn sends its own
+pub liked-sends : (way : Way) (b : ℕ → ℕ) (besides : Hosted → List Access) → ((i : ℕ) → b i < 256) →
+    ((h : Hosted) → asks (h .machine) ≡ true → Going meaning way h (besides h) × (onward meaning way h (besides h) .notes ≡ h .notes)) →
+    (likes : List Port) (h : Hosted) → Willing meaning way (Sends b way) h (likedTurns way b besides h likes)
+unfolding likedTurns
+liked-sends way b besides small g [] h = tt
+liked-sends way b besides small g (like ∷ l) h = λ e.
+    let k = onward meaning way h (besides h) in
+    let r = liked-there like (k .notes .waiting) (k .machine .state .made .mode) (indexIn (k .machine .state .option)) in
+    let f : Fitting way k (choiceIn b like k) =
+    record { half = r .0; place = r .1; value = next-small way b small (length (k .notes .done)) (k .notes .waiting) _ (r .0); tuples = refl } in
+    ((g h e .0, g h e .1, λ x. (choiceIn b like k, refl, f, refl)), liked-sends way b besides small g l _)
 
 -- ---- one access aside, at each turn, that moves no data
 
@@ -110,20 +117,27 @@ still-notes Out (ReadData port) o q e = refl
 still-notes Out (WriteData port v) o q e = absurd (false≢true e)
 
 -- a status read, a refused access, a change of map, data the other way
-pub one-aside : (way : Way) (start : Hosted) (b : ℕ → ℕ) (like : Hosted → Port) (x : Hosted → Access) → ((i : ℕ) → b i < 256) →
-    ((h : Hosted) → Gets way start h → asks (h .machine) ≡ true → (calm (meaning (h .machine) (x h)) ≡ true) × (still way (meaning (h .machine) (x h)) ≡ true)) →
-    let host = hostOf way b like (λ h. x h ∷ []) in
-    Willing way start host × Sending b way start host
+pub one-aside : (way : Way) (b : ℕ → ℕ) (x : Hosted → Access) → ((i : ℕ) → b i < 256) →
+    ((h : Hosted) → asks (h .machine) ≡ true → (calm (meaning (h .machine) (x h)) ≡ true) × (still way (meaning (h .machine) (x h)) ≡ true)) →
+    (likes : List Port) (h : Hosted) → Willing meaning way (Sends b way) h (likedTurns way b (λ k. x k ∷ []) h likes)
 unfolding hostedBy
-one-aside way start b like x small f = (
-  host-willing way start b like (λ h. x h ∷ []) small (λ h i e. (e, f h i e .0, tt)),
-  host-sending way start b like (λ h. x h ∷ []) small (λ h i e. still-notes way (meaning (h .machine) (x h)) (perform (meaning (h .machine) (x h)) (h .machine) .outcome) (h .notes) (f h i e .1)),
-)
+one-aside way b x small f =
+    liked-sends way b (λ k. x k ∷ []) small
+    (λ h e. ((e, f h e .0, tt), still-notes way (meaning (h .machine) (x h)) (perform (meaning (h .machine) (x h)) (h .machine) .outcome) (h .notes) (f h e .1)))
+
+liked-length : (way : Way) (b : ℕ → ℕ) (besides : Hosted → List Access) (h : Hosted) (likes : List Port) → length (likedTurns way b besides h likes) ≡ length likes
+unfolding likedTurns
+liked-length way b besides h [] = refl
+liked-length way b besides h (like ∷ l) = ap suc (liked-length way b besides _ l)
 
 -- So after every command there is a host that comes to its end: of words only, say.
 pub not-empty : (m : Machine) (a : Access) (v : ℕ) → AcceptedCommand m a v → (l : List Access) × Moves (step m a .next) l
+unfolding hostedBy
 not-empty m a v w =
     let way = wayOf (rowOf v) in
     let h = after m a v [] in
-    let host = hostOf way (λ i. 0) (λ k. Port.Word) (λ k. []) in
-    (turns (due (rowOf v) (plainOf m)) way host h, every-host-ends m a v host w (host-willing way h (λ i. 0) (λ k. Port.Word) (λ k. []) (λ i. omega arith) (λ k i e. tt)))
+    let n = due (rowOf v) (plainOf m) in
+    let likes = replicate n Port.Word in
+    let t = likedTurns way (λ i. 0) (λ k. []) h likes in
+    let e : length t ≡ n = liked-length way (λ i. 0) (λ k. []) h likes ∙ length-replicate n Port.Word in
+    (turns meaning way h t, every-host-ends m a v t w (omega arith) (sends-ready-too (λ i. 0) way t h (liked-sends way (λ i. 0) (λ k. []) (λ i. omega arith) (λ k x. (tt, refl)) likes h)))

@@ -20,10 +20,12 @@ use Rattle.account.specs.Table.{asked, first, account}
 use Rattle.account.specs.Host.{plainOf, Hosted, hostedBy, meanings, hosted}
 use Rattle.account.specs.Notes.{Notes, noNotes, note, wayOf}
 use Rattle.account.specs.Follows.{Able, commanded, afterBy, AcceptedCommand, after}
-use Rattle.hosts.specs.Moment.{CalmBy, Calm, mediumIn, least, wholeOf, storedFrom, writtenSoFar, soFar}
+use Rattle.laws.specs.Changes.{storeMarksIn}
+use Rattle.hosts.specs.Moment.{CalmBy, Calm, least, wholeOf, storedFrom, writtenSoFar, soFar}
 use Rattle.account.proofs.Accepted.{able}
 use Rattle.account.proofs.Theorem.{by-meaning}
 use Rattle.hosts.proofs.Afterwards.{More, note-more}
+use Rattle.hosts.proofs.Reached.{hosted-more, meanings-append}
 use Rattle.hosts.proofs.Moment.{means-at-every-moment}
 use Rattle.hosts.proofs.FirstStored.{least-both}
 
@@ -83,14 +85,9 @@ more way (y ∷ l) m q =
     let z = more way l (perform y m .next) n in
     (x .0 ++ z .0, z .1 ∙ ap (λ (t : List ℕ). t ++ z .0) (x .1) ∙ append-assoc (q .done) (x .0) (z .0))
 
-hosted-more : (way : Way) (l k : List Meaning) (m : Machine) (q : Notes) → hostedBy way m q (l ++ k) ≡ hostedBy way (hostedBy way m q l .machine) (hostedBy way m q l .notes) k
-unfolding hostedBy
-hosted-more way [] k m q = refl
-hosted-more way (x ∷ l) k m q = hosted-more way l k (perform x m .next) (note way x (perform x m .outcome) q)
-
 -- More of them, after which no more sectors have moved whole, leave the store and the marks.
 pub means-only-at-a-last-byte : (m : Machine) (v : ℕ) (l k : List Meaning) → Able m → CalmBy (commanded v m) (l ++ k) →
-    wholeOf (afterBy m v (l ++ k) .notes .done) ≡ wholeOf (afterBy m v l .notes .done) → mediumIn (afterBy m v (l ++ k) .machine) ≡ mediumIn (afterBy m v l .machine)
+    wholeOf (afterBy m v (l ++ k) .notes .done) ≡ wholeOf (afterBy m v l .notes .done) → storeMarksIn (afterBy m v (l ++ k) .machine) ≡ storeMarksIn (afterBy m v l .machine)
 means-only-at-a-last-byte m v l k b c e =
     let way = wayOf (rowOf v) in
     let h = afterBy m v l in
@@ -101,18 +98,17 @@ means-only-at-a-last-byte m v l k b c e =
     ∙ front-same (rowOf v) (plainOf m) (h .notes .done) (x .0) (ap wholeOf (sym u) ∙ e)
     ∙ sym (means-at-every-moment m v l b (calm-front l k (commanded v m) c))
 
-meanings-append : (l k : List Access) (m : Machine) → (x : List Meaning) × (meanings m (l ++ k) ≡ meanings m l ++ x)
-meanings-append [] k m = (meanings m k, refl)
-meanings-append (a ∷ l) k m = let r = meanings-append l k (perform (meaning m a) m .next) in (r .0, ap (λ (t : List Meaning). meaning m a ∷ t) (r .1))
-
 -- The same of accesses.
 pub only-at-a-last-byte : (m : Machine) (a : Access) (v : ℕ) (l k : List Access) → AcceptedCommand m a v → Calm (step m a .next) (l ++ k) →
-    wholeOf (after m a v (l ++ k) .notes .done) ≡ wholeOf (after m a v l .notes .done) → mediumIn (after m a v (l ++ k) .machine) ≡ mediumIn (after m a v l .machine)
+    wholeOf (after m a v (l ++ k) .notes .done) ≡ wholeOf (after m a v l .notes .done) → storeMarksIn (after m a v (l ++ k) .machine) ≡ storeMarksIn (after m a v l .machine)
 only-at-a-last-byte m a v l k w =
-    let r = meanings-append l k (commanded v m) in
+    let way = wayOf (rowOf v) in
     let x = meanings (commanded v m) l in
     let h = afterBy m v x in
-    by-meaning (λ n. let on = hosted (wayOf (rowOf v)) n noNotes in Calm n (l ++ k) → wholeOf (on (l ++ k) .notes .done) ≡ wholeOf (on l .notes .done) → mediumIn (on (l ++ k) .machine) ≡ mediumIn (on l .machine))
-    m a v (w .accepted)
-    (subst (λ (y : List Meaning). CalmBy (commanded v m) y → wholeOf (afterBy m v y .notes .done) ≡ wholeOf (h .notes .done) → mediumIn (afterBy m v y .machine) ≡ mediumIn (h .machine)) (sym (r .1))
-    (means-only-at-a-last-byte m v x (r .0) (able m a v w)))
+    let r = meanings-append meaning way (record { machine = commanded v m; notes = noNotes }) l k in
+    by-meaning
+    (λ n. let on = hosted way n noNotes in
+    Calm n (l ++ k) → wholeOf (on (l ++ k) .notes .done) ≡ wholeOf (on l .notes .done) → storeMarksIn (on (l ++ k) .machine) ≡ storeMarksIn (on l .machine)) m a v (w .accepted)
+    (subst
+    (λ (y : List Meaning). CalmBy (commanded v m) y → wholeOf (afterBy m v y .notes .done) ≡ wholeOf (h .notes .done) → storeMarksIn (afterBy m v y .machine) ≡ storeMarksIn (h .machine))
+    (sym r) (means-only-at-a-last-byte m v x (meanings (h .machine) k) (able m a v w)))

@@ -3,13 +3,15 @@ pub mod Due
 pub mod Asks
 pub mod Taken
 pub mod Reached
+pub mod Turns
 pub mod Written
 pub mod WrittenWord
 pub mod WrittenKeeps
 pub mod Live
-pub mod Hosts
 pub mod Ended
+pub mod Ordered
 pub mod Sent
+pub mod Hosts
 pub mod WrittenBegins
 pub mod Unwritten
 pub mod WrittenSoFar

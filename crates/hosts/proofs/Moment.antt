@@ -16,7 +16,9 @@ use Rattle.account.specs.Table.{account}
 use Rattle.account.specs.Host.{plainOf, asks, GoesBy, hostedBy, meanings, hosted}
 use Rattle.account.specs.Notes.{Notes, noNotes, note, wayOf}
 use Rattle.account.specs.Follows.{Able, commanded, afterBy, AcceptedCommand, after}
-use Rattle.hosts.specs.Moment.{CalmBy, Calm, Medium, mediumIn, soFar}
+use Rattle.sectors.specs.Sectors.{StoreMarks}
+use Rattle.laws.specs.Changes.{storeMarksIn}
+use Rattle.hosts.specs.Moment.{CalmBy, Calm, soFar}
 use Rattle.account.proofs.SameRow.{same-row}
 use Rattle.account.proofs.Rest.{Rel}
 use Rattle.account.proofs.Accepted.{given, able}
@@ -29,8 +31,8 @@ use Rattle.hosts.proofs.WrittenSoFar.{moment}
 use Rattle.hosts.proofs.Afterwards.{Rests, rests, note-more, is-idle}
 
 module _ (row : Row) (p : Plain) where
-  over-on : (k : Medium) (l : List Meaning) (m : Machine) (q : Notes) → Rests k m → ((d : List ℕ) → k ≡ soFar row p (q .done ++ d)) → CalmBy m l →
-      let h = hostedBy (wayOf row) m q l in mediumIn (h .machine) ≡ soFar row p (h .notes .done)
+  over-on : (k : StoreMarks) (l : List Meaning) (m : Machine) (q : Notes) → Rests k m → ((d : List ℕ) → k ≡ soFar row p (q .done ++ d)) → CalmBy m l →
+      let h = hostedBy (wayOf row) m q l in storeMarksIn (h .machine) ≡ soFar row p (h .notes .done)
   unfolding hostedBy
   over-on k [] m q z s c = z .3 ∙ s [] ∙ ap (soFar row p) (append-nil (q .done))
   over-on k (y ∷ l) m q z s c =
@@ -39,19 +41,19 @@ module _ (row : Row) (p : Plain) where
       (λ d. s (x .0 ++ d) ∙ ap (soFar row p) (sym (append-assoc (q .done) (x .0) d) ∙ ap (λ (t : List ℕ). t ++ d) (sym (x .1)))) (c .1)
 
   calm-on : (l : List Meaning) (m : Machine) (q : Notes) (b : Bool) → asks m ≡ b → Rel (wayOf row) (account row p) m q → Lies (targetOf row p) (starts p) m (q .done) → CalmBy m l →
-      let h = hostedBy (wayOf row) m q l in mediumIn (h .machine) ≡ soFar row p (h .notes .done)
+      let h = hostedBy (wayOf row) m q l in storeMarksIn (h .machine) ≡ soFar row p (h .notes .done)
   unfolding hostedBy
   calm-on [] m q b e y z c = moment row p m q y z [] (λ x. refl) ∙ ap (soFar row p) (append-nil (q .done))
   calm-on (x ∷ l) m q true e y z c =
       calm-on l (perform x m .next) (note (wayOf row) x (perform x m .outcome) q) _ refl (keeps (account row p) (wayOf row) x m q (c .0) e y)
       (lies-step (targetOf row p) (starts p) (account row p) (wayOf row) x m q (c .0) e y z) (c .1)
   calm-on (x ∷ l) m q false e y z c =
-      over-on (mediumIn m) (x ∷ l) m q (is-idle (m .phase) e, y .ground .3, y .ground .4, refl) (λ d. moment row p m q y z d (λ t. absurd (true≢false (sym t ∙ e)))) c
+      over-on (storeMarksIn m) (x ∷ l) m q (is-idle (m .phase) e, y .ground .3, y .ground .4, refl) (λ d. moment row p m q y z d (λ t. absurd (true≢false (sym t ∙ e)))) c
 
 -- After a command that is given to a sound card in neither reset, and anything that is no command and no reset: the store and the marks are those of the
 -- sectors whose last byte has moved, and of no other.
 pub means-at-every-moment : (m : Machine) (v : ℕ) (l : List Meaning) → Able m → CalmBy (commanded v m) l →
-    mediumIn (afterBy m v l .machine) ≡ soFar (rowOf v) (plainOf m) (afterBy m v l .notes .done)
+    storeMarksIn (afterBy m v l .machine) ≡ soFar (rowOf v) (plainOf m) (afterBy m v l .notes .done)
 unfolding commandGiven
 means-at-every-moment m v l k =
     calm-on (rowOf v) (plainOf m) l (commanded v m) noNotes _ refl (begun m v k)
@@ -60,9 +62,9 @@ means-at-every-moment m v l k =
 
 -- The same of a Command write that is accepted, and accesses.
 pub at-every-moment : (m : Machine) (a : Access) (v : ℕ) (l : List Access) → AcceptedCommand m a v → Calm (step m a .next) l →
-    mediumIn (after m a v l .machine) ≡ soFar (rowOf v) (plainOf m) (after m a v l .notes .done)
+    storeMarksIn (after m a v l .machine) ≡ soFar (rowOf v) (plainOf m) (after m a v l .notes .done)
 at-every-moment m a v l w =
-    by-meaning (λ x. Calm x l → let h = hosted (wayOf (rowOf v)) x noNotes l in mediumIn (h .machine) ≡ soFar (rowOf v) (plainOf m) (h .notes .done)) m a v (w .accepted)
+    by-meaning (λ x. Calm x l → let h = hosted (wayOf (rowOf v)) x noNotes l in storeMarksIn (h .machine) ≡ soFar (rowOf v) (plainOf m) (h .notes .done)) m a v (w .accepted)
     (means-at-every-moment m v (meanings (commanded v m) l) (able m a v w))
 
 -- what is done while the card asks is such

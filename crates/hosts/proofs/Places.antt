@@ -27,7 +27,7 @@ use Rattle.card.specs.Access.{heldAway, decided, meaning}
 use Rattle.kept.specs.Sound.{Sound}
 use Rattle.kept.proofs.Decided.{meaning-decided}
 use Rattle.account.specs.Host.{Hosted}
-use Rattle.hosts.specs.Live.{width, most, dataMeaning}
+use Rattle.hosts.specs.Live.{width, most, Small, dataMeaning}
 use Rattle.hosts.specs.Choices.{offsets, dataAt, Choice, accessOf, Fitting}
 
 -- what the test of a place tells: the space answers, and the address has such an offset
@@ -72,29 +72,30 @@ module _ (is : ℕ → Bool) where
   found PcCard (suc (suc (suc zero))) space address h e = in-space PcCard 3 space 2 address _ e (by-window PcCard 3 2 0x170 address refl refl refl)
   found PcCard (suc (suc (suc (suc n)))) space address h e = absurd (omega arith)
 
--- a byte of at most 255 fits
-byte-fits : (write : Bool) (v : ℕ) → v ≤ 0xFF → (write && ltb 0xFF v) ≡ false
-byte-fits true v h = le-ltb 0xFF v h
-byte-fits false v h = refl
-
--- at such an offset stands the port
-port-stands : (port : Port) (o : ℕ) (write : Bool) (v : ℕ) → offsets port o ≡ true → v ≤ most port → placeAt o (width port) write v ≡ Standing.There (Data port)
+-- at such an offset stands the port, for a byte that is read or one of at most 255
+port-stands : (port : Port) (o : ℕ) (write : Bool) (v : ℕ) → offsets port o ≡ true → (width port ≡ 1 → (write && ltb 0xFF v) ≡ false) →
+    placeAt o (width port) write v ≡ Standing.There (Data port)
 unfolding placeAt evenData portAt misfits namedAt byteAt
-port-stands Port.Even o write v e h = rw (e, byte-fits write v h)
-port-stands Port.Odd o write v e h = let z : o ≡ 9 = eqb-true o 9 e in rw (z, byte-fits write v h)
+port-stands Port.Even o write v e h = rw (e, h refl)
+port-stands Port.Odd o write v e h = let z : o ≡ 9 = eqb-true o 9 e in rw (z, h refl)
 port-stands Port.Word o write v e h = rw e
 
+byte-fits : (port : Port) (v : ℕ) → v ≤ most port → width port ≡ 1 → (true && ltb 0xFF v) ≡ false
+byte-fits Port.Even v h e = le-ltb 0xFF v h
+byte-fits Port.Odd v h e = le-ltb 0xFF v h
+byte-fits Port.Word v h e = absurd (omega arith)
+
 decided-data : (s : State) (way : Way) (c : Choice) → sresetIn (s .option) ≡ false → Found (offsets (c .port)) (s .made .mode) (indexIn (s .option)) (c .space) (c .address) →
-    c .value ≤ most (c .port) → decided s (accessOf way c) ≡ dataMeaning way (c .port) (c .value)
+    Small way (c .port) (c .value) → decided s (accessOf way c) ≡ dataMeaning way (c .port) (c .value)
 unfolding decided heldAway standsAt registerAt
-decided-data s In c h f v = rw (h, f .answers, f .apart, f .stands, port-stands (c .port) (f .offset) false (c .value) (f .good) v)
-decided-data s Out c h f v = rw (h, f .answers, f .apart, f .stands, port-stands (c .port) (f .offset) true (c .value) (f .good) v)
+decided-data s In c h f v = rw (h, f .answers, f .apart, f .stands, port-stands (c .port) (f .offset) false (c .value) (f .good) (λ e. refl))
+decided-data s Out c h f v = rw (h, f .answers, f .apart, f .stands, port-stands (c .port) (f .offset) true (c .value) (f .good) (byte-fits (c .port) (c .value) v))
 
 index-small : (m : Machine) → wellMade (m .phase) (m .state) ≡ true → indexIn (m .state .option) ≤ 3
 unfolding wellMade indexFits
 index-small m e = leb-true _ _ (each _ e 2)
 
-pub choice-means : (way : Way) (h : Hosted) (c : Choice) → Sound (h .machine) → sresetIn (h .machine .state .option) ≡ false → Fitting h c →
+pub choice-means : (way : Way) (h : Hosted) (c : Choice) → Sound (h .machine) → sresetIn (h .machine .state .option) ≡ false → Fitting way h c →
     meaning (h .machine) (accessOf way c) ≡ dataMeaning way (c .port) (c .value)
 choice-means way h c s e f =
     meaning-decided (h .machine) (accessOf way c) (s .made) (s .store) (s .marks) (f .tuples)

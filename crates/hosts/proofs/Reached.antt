@@ -19,10 +19,10 @@ use Rattle.kept.proofs.Step.{sound-played}
 use Rattle.account.specs.Plain.{Plain}
 use Rattle.account.specs.Rows.{Row}
 use Rattle.account.specs.Table.{account}
-use Rattle.account.specs.Host.{Hosted, hostedBy, meanings, Goes, Moves, hosted}
+use Rattle.account.specs.Host.{GoesBy, MovesBy, Hosted, hostedBy, meaningsBy, meanings}
 use Rattle.account.specs.Notes.{Waiting, None, LowByte, HighByte, Notes, note, noteData, noteRead, noteWritten}
 use Rattle.hosts.specs.Live.{noted}
-use Rattle.hosts.specs.Hosts.{onward, Gets}
+use Rattle.hosts.specs.Hosts.{onward, Going}
 use Rattle.account.proofs.Rest.{Rel, notes}
 use Rattle.account.proofs.Theorem.{goes-on, hosted-plays}
 
@@ -67,36 +67,54 @@ grows way (x ∷ l) m q =
     let n = note way x (perform x m .outcome) q in
     le-trans (note-grows way x (perform x m .outcome) q) (grows way l (perform x m .next) n)
 
+-- ---- one list after the other
+
+pub hosted-more : (way : Way) (l k : List Meaning) (m : Machine) (q : Notes) → hostedBy way m q (l ++ k) ≡ hostedBy way (hostedBy way m q l .machine) (hostedBy way m q l .notes) k
+unfolding hostedBy
+hosted-more way [] k m q = refl
+hosted-more way (x ∷ l) k m q = hosted-more way l k (perform x m .next) (note way x (perform x m .outcome) q)
+
+goes-more : (way : Way) (l k : List Meaning) (m : Machine) (q : Notes) → GoesBy m l → GoesBy (hostedBy way m q l .machine) k → GoesBy m (l ++ k)
+unfolding hostedBy
+goes-more way [] k m q g x = x
+goes-more way (y ∷ l) k m q g x = (g .0, g .1, goes-more way l k (perform y m .next) (note way y (perform y m .outcome) q) (g .2) x)
+
+moves-more : (way : Way) (l k : List Meaning) (m : Machine) (q : Notes) → GoesBy m l → MovesBy (hostedBy way m q l .machine) k → MovesBy m (l ++ k)
+unfolding hostedBy
+moves-more way [] k m q g x = x
+moves-more way (y ∷ l) k m q g x = (g .0, g .1, moves-more way l k (perform y m .next) (note way y (perform y m .outcome) q) (g .2) x)
+
+module _ {A : Type 0} (means : Machine → A → Meaning) (way : Way) where
+  meanings-at : (l k : List A) (m : Machine) (q : Notes) → meaningsBy means m (l ++ k) ≡ meaningsBy means m l ++ meaningsBy means (hostedBy way m q (meaningsBy means m l) .machine) k
+  unfolding hostedBy
+  meanings-at [] k m q = refl
+  meanings-at (a ∷ l) k m q =
+      ap (λ (r : List Meaning). means m a ∷ r) (meanings-at l k (perform (means m a) m .next) (note way (means m a) (perform (means m a) m .outcome) q))
+
+  pub meanings-append : (h : Hosted) (l k : List A) → meaningsBy means (h .machine) (l ++ k) ≡ meaningsBy means (h .machine) l ++ meaningsBy means (onward means way h l .machine) k
+  meanings-append h l k = meanings-at l k (h .machine) (h .notes)
+
+  pub onward-append : (h : Hosted) (l k : List A) → onward means way h (l ++ k) ≡ onward means way (onward means way h l) k
+  onward-append h l k =
+      ap (hostedBy way (h .machine) (h .notes)) (meanings-append h l k)
+      ∙ hosted-more way (meaningsBy means (h .machine) l) (meaningsBy means (onward means way h l .machine) k) (h .machine) (h .notes)
+
+  pub going-append : (h : Hosted) (l k : List A) → Going means way h l → Going means way (onward means way h l) k → Going means way h (l ++ k)
+  going-append h l k g x =
+      subst (GoesBy (h .machine)) (sym (meanings-append h l k)) (goes-more way (meaningsBy means (h .machine) l) (meaningsBy means (onward means way h l .machine) k) (h .machine) (h .notes) g x)
+
+  pub moves-append : (h : Hosted) (l k : List A) → Going means way h l → MovesBy (onward means way h l .machine) (meaningsBy means (onward means way h l .machine) k) →
+      MovesBy (h .machine) (meaningsBy means (h .machine) (l ++ k))
+  moves-append h l k g x =
+      subst (MovesBy (h .machine)) (sym (meanings-append h l k)) (moves-more way (meaningsBy means (h .machine) l) (meaningsBy means (onward means way h l .machine) k) (h .machine) (h .notes) g x)
+
 -- ---- wherever a host has got to by its accesses
 
 abbrev pub Stands : Row → Plain → Way → Hosted → Type 0
 Stands row p way h = Sound (h .machine) × Rel way (account row p) (h .machine) (h .notes)
 
-pub reached : (row : Row) (p : Plain) (way : Way) (l : List Access) (h : Hosted) → Stands row p way h → Goes (h .machine) l → Stands row p way (onward way h l)
-reached row p way l h s g = (
+pub reached : (row : Row) (p : Plain) (way : Way) (h : Hosted) (l : List Access) → Stands row p way h → Going meaning way h l → Stands row p way (onward meaning way h l)
+reached row p way h l s g = (
   subst Sound (sym (hosted-plays way (h .machine) (h .notes) l)) (sound-played l (h .machine) (s .0)),
   goes-on (account row p) way (meanings (h .machine) l) (h .machine) (h .notes) (s .1) g,
-)
-
-pub moves-after : (way : Way) (l k : List Access) (m : Machine) (q : Notes) → Goes m l → Moves (hosted way m q l .machine) k → Moves m (l ++ k)
-unfolding hostedBy
-moves-after way [] k m q g x = x
-moves-after way (a ∷ l) k m q g x = (g .0, g .1, moves-after way l k (perform (meaning m a) m .next) (note way (meaning m a) (perform (meaning m a) m .outcome) q) (g .2) x)
-
-goes-after : (way : Way) (l k : List Access) (m : Machine) (q : Notes) → Goes m l → Goes (hosted way m q l .machine) k → Goes m (l ++ k)
-unfolding hostedBy
-goes-after way [] k m q g x = x
-goes-after way (a ∷ l) k m q g x = (g .0, g .1, goes-after way l k (perform (meaning m a) m .next) (note way (meaning m a) (perform (meaning m a) m .outcome) q) (g .2) x)
-
-pub hosted-append : (way : Way) (l k : List Access) (m : Machine) (q : Notes) → hosted way m q (l ++ k) ≡ hosted way (hosted way m q l .machine) (hosted way m q l .notes) k
-unfolding hostedBy
-hosted-append way [] k m q = refl
-hosted-append way (a ∷ l) k m q = hosted-append way l k (perform (meaning m a) m .next) (note way (meaning m a) (perform (meaning m a) m .outcome) q)
-
--- on from where it got to
-pub gets-on : (way : Way) (start h : Hosted) (k : List Access) → Gets way start h → Goes (h .machine) k → Gets way start (onward way h k)
-gets-on way start h k g x = (
-  g .0 ++ k,
-  goes-after way (g .0) k (start .machine) (start .notes) (g .1) (subst (λ (y : Hosted). Goes (y .machine) k) (sym (g .2)) x),
-  hosted-append way (g .0) k (start .machine) (start .notes) ∙ ap (λ (y : Hosted). onward way y k) (g .2),
 )

@@ -24,7 +24,8 @@ use Rattle.account.specs.Follows.{commanded, afterBy, AcceptedCommand}
 use Rattle.hosts.specs.Running.{Promised, Call, Own, callMeanings, Called}
 use Rattle.hosts.specs.Live.{noted, moved, due}
 use Rattle.hosts.specs.Choices.{Choice, accessOf, Fitting}
-use Rattle.hosts.specs.Moment.{CalmBy, mediumIn, soFar}
+use Rattle.laws.specs.Changes.{storeMarksIn}
+use Rattle.hosts.specs.Moment.{CalmBy, soFar}
 use Rattle.account.proofs.Rest.{Rel}
 use Rattle.account.proofs.Accepted.{able}
 use Rattle.account.proofs.Theorem.{begun, goes-on, means-as-the-account}
@@ -48,7 +49,8 @@ module _ (c : Card) (store marks : List ℕ) (a : Access) (v : ℕ) (l : List Ca
   there : afterBy before v meant ≡ now
   unfolding hostedBy note
   there =
-      subst (λ (x : Meaning). hostedBy (wayOf (rowOf v)) (perform x before .next) (note (wayOf (rowOf v)) x (perform x before .outcome) noNotes) (callMeanings (perform x before .next) l) ≡ now) (w .accepted)
+      let way = wayOf (rowOf v) in
+      subst (λ (x : Meaning). hostedBy way (perform x before .next) (note way x (perform x before .outcome) noNotes) (callMeanings (perform x before .next) l) ≡ now) (w .accepted)
       (called-is (Own a ∷ l) c store marks (wayOf (rowOf v)) noNotes now z)
 
   -- Calls that move the command's data: data, store, marks and card are those of the account, no transfer runs, and no reset holds. The data is what the calls answered.
@@ -61,8 +63,9 @@ module _ (c : Card) (store marks : List ℕ) (a : Access) (v : ℕ) (l : List Ca
       subst (λ (h : Hosted). asks (h .machine) ≡ ltb (noted (h .notes)) (due (rowOf v) (plainOf before))) there (means-asks-while-due before v meant (able before a v w) g)
 
   -- where it asks, the call for a fitting choice is accepted, and its answer tells the part chosen,
-  pub code-every-choice : GoesBy (commanded v before) meant → asks (now .machine) ≡ true → (x : Choice) → Fitting now x →
+  pub code-every-choice : GoesBy (commanded v before) meant → asks (now .machine) ≡ true → (x : Choice) →
       let way = wayOf (rowOf v) in
+      Fitting way now x →
       (r : Answer) (store″ marks″ : List ℕ) → Promised d store′ marks′ (accessOf way x) r store″ marks″ →
       (n : ℕ) × (r .outcome ≡ Outcome.Accepted n) × (note way (meaning (now .machine) (accessOf way x)) (r .outcome) q ≡ noteData (x .port) (q .waiting) (moved way n (x .value)) q)
   unfolding step
@@ -79,4 +82,4 @@ module _ (c : Card) (store marks : List ℕ) (a : Access) (v : ℕ) (l : List Ca
   -- and the caller's own arrays hold the sectors whose last byte has moved, and no other.
   pub code-at-every-moment : CalmBy (commanded v before) meant → record { store = store′; marks = marks′ } ≡ soFar (rowOf v) (plainOf before) (q .done)
   code-at-every-moment g =
-      subst (λ (h : Hosted). mediumIn (h .machine) ≡ soFar (rowOf v) (plainOf before) (h .notes .done)) there (means-at-every-moment before v meant (able before a v w) g)
+      subst (λ (h : Hosted). storeMarksIn (h .machine) ≡ soFar (rowOf v) (plainOf before) (h .notes .done)) there (means-at-every-moment before v meant (able before a v w) g)

@@ -22,7 +22,7 @@ use Rattle.card.specs.Perform.{perform}
 use Rattle.account.specs.Plain.{Account}
 use Rattle.account.specs.Host.{plainOf, calm, asks, Hosted}
 use Rattle.account.specs.Notes.{Waiting, None, LowByte, HighByte, Notes, note, noteData, sent}
-use Rattle.hosts.specs.Live.{fits, width, most, noted, moved, dataMeaning, Taken}
+use Rattle.hosts.specs.Live.{fits, width, most, Small, noted, moved, dataMeaning, Taken}
 use Rattle.account.proofs.Rest.{Pending, Waits, Rel, notes}
 use Rattle.account.proofs.Keeps.{free-read, free-written}
 
@@ -66,7 +66,7 @@ sent-is Port.Odd v h = omega arith
 sent-is Port.Word v h = refl
 
 -- the part is noted
-part-noted : (way : Way) (port : Port) (v b : ℕ) (q : Notes) → v ≤ most port → note way (dataMeaning way port v) (Outcome.Accepted b) q ≡ noteData port (q .waiting) (moved way b v) q
+part-noted : (way : Way) (port : Port) (v b : ℕ) (q : Notes) → Small way port v → note way (dataMeaning way port v) (Outcome.Accepted b) q ≡ noteData port (q .waiting) (moved way b v) q
 unfolding note
 part-noted In port v b q h = refl
 part-noted Out port v b q h = ap (λ (k : ℕ). noteData port (q .waiting) k q) (sent-is port v h)
@@ -88,7 +88,7 @@ data-calm In port v = refl
 data-calm Out port v = refl
 
 pub taken : (plain : List ℕ → Account) (way : Way) (port : Port) (value : ℕ) (h : Hosted) → Rel way plain (h .machine) (h .notes) → asks (h .machine) ≡ true →
-    fits (h .notes .waiting) port ≡ true → value ≤ most port → Taken way h port value (dataMeaning way port value)
+    fits (h .notes .waiting) port ≡ true → Small way port value → Taken way h port value (dataMeaning way port value)
 taken plain way port value h z k f v =
     let m = h .machine in
     let q = h .notes in

@@ -56,7 +56,8 @@ module _ (g : Target) (p : Plain) where
     inside : 2 * t .words + 1 < length (m .buffer)
     inside = let x = r .0 in let y = r .1 in omega arith
 
-    whole-written : (b : List ℕ) (x y : ℕ) → length b ≡ 512 → take (2 * (t .words + 1)) b ≡ take (2 * t .words) (m .buffer) ++ (x ∷ y ∷ []) → Lies g p (wordWritten t (withBuffer b m)) (l ++ (x ∷ y ∷ []))
+    whole-written : (b : List ℕ) (x y : ℕ) → length b ≡ 512 → take (2 * (t .words + 1)) b ≡ take (2 * t .words) (m .buffer) ++ (x ∷ y ∷ []) →
+        Lies g p (wordWritten t (withBuffer b m)) (l ++ (x ∷ y ∷ []))
     unfolding wordWritten
     whole-written b x y e q = word-lies _ g p t m b l x y refl (r .0) e q o (r .4) z
 

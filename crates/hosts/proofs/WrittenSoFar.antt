@@ -25,12 +25,13 @@ use Rattle.account.specs.Runs.{Run, writeRun, writeSectors, writeDone, firstSec
 use Rattle.account.specs.Table.{asked, first, fromFirst, account}
 use Rattle.account.specs.Host.{plainOf, asks}
 use Rattle.account.specs.Notes.{Waiting, Notes, wayOf}
-use Rattle.hosts.specs.Moment.{mediumOf, mediumIn, least, wholeOf, storedFrom, writtenSoFar, soFar}
+use Rattle.laws.specs.Changes.{storeMarksIn}
+use Rattle.hosts.specs.Moment.{storeMarksOf, least, wholeOf, storedFrom, writtenSoFar, soFar}
 use Rattle.account.proofs.Rest.{doneOut, restAt, here, Running, Waits, Rel}
 use Rattle.hosts.proofs.Due.{sectors-length}
 use Rattle.hosts.proofs.Written.{Written, Nowhere, From, LoadLies, LiesAt, Lies}
 use Rattle.hosts.proofs.WrittenBegins.{targetAt, targetOf}
-use Rattle.hosts.proofs.Unwritten.{run-medium, nowhere}
+use Rattle.hosts.proofs.Unwritten.{run-left-alone, nowhere}
 
 least-left : (a b : ℕ) → a ≤ b → least a b ≡ a
 unfolding least
@@ -65,15 +66,15 @@ module _ (c : Course) (i : ℕ) (r : Run) (p : Plain) (m : Machine) (l : List �
       sectors-length K (l ++ enough n) (omega arith)
 
   -- its end, and whatever the host writes to no effect from then on
-  ended : ((d : List ℕ) → writeDone c i r p (l ++ d) ≡ moving l (restAt Idle (plainOf m) d)) → (d : List ℕ) → mediumIn m ≡ storedFrom i (least (wholeOf (l ++ d)) (r .done)) p (l ++ d)
+  ended : ((d : List ℕ) → writeDone c i r p (l ++ d) ≡ moving l (restAt Idle (plainOf m) d)) → (d : List ℕ) → storeMarksIn m ≡ storedFrom i (least (wholeOf (l ++ d)) (r .done)) p (l ++ d)
   unfolding restAt
   ended a d =
       let x : 512 * K ≡ length l = sym (moves K (omega arith)) ∙ ap (λ (y : Account). length (y .moved)) (a (enough K)) ∙ ap length (append-nil l) in
       let y = moved-done (r .ending) (r .done) in
       let z = length-append l d in
       let k : least (wholeOf (l ++ d)) (r .done) ≡ r .done = least-right (wholeOf (l ++ d)) (r .done) (omega arith) in
-      sym (ap (λ (u : Account). mediumOf (u .left)) (a d))
-      ∙ run-medium c r (withBuffer (lastSectors K (l ++ d) (p .buffer)) (withStore (replaced i (r .done) (l ++ d) (p .store)) (cleared i (r .done) (p .marks)) p))
+      sym (ap (λ (u : Account). storeMarksOf (u .left)) (a d))
+      ∙ run-left-alone c r (withBuffer (lastSectors K (l ++ d) (p .buffer)) (withStore (replaced i (r .done) (l ++ d) (p .store)) (cleared i (r .done) (p .marks)) p))
       ∙ ap (λ (n : ℕ). storedFrom i n p (l ++ d)) (sym k)
 
   -- in mid-transfer
@@ -94,7 +95,7 @@ module _ (c : Course) (i : ℕ) (r : Run) (p : Plain) (m : Machine) (l : List �
   a-sector Buffer w z = absurd z
   a-sector (Sectors n) w z = z
 
-  stored-whole : (h w : ℕ) (z : Written i p h w (m .buffer) (m .store) (m .marks) l) → storedFrom i (z .k) p l ≡ mediumIn m
+  stored-whole : (h w : ℕ) (z : Written i p h w (m .buffer) (m .store) (m .marks) l) → storedFrom i (z .k) p l ≡ storeMarksIn m
   unfolding replaced cleared
   stored-whole h w z =
       let n : z .k ≡ z .k + 0 = omega arith in
@@ -104,7 +105,7 @@ module _ (c : Course) (i : ℕ) (r : Run) (p : Plain) (m : Machine) (l : List �
       ap (λ (x : List ℕ). record { store = x; marks = cleared i (z .k) (p .marks) }) u ∙ ap (λ (x : List ℕ). record { store = m .store; marks = x }) v
 
   running : (t : Transfer) (w : Waiting) → Running Out t (plainOf m) w → ((d : List ℕ) → writeDone c i r p (l ++ d) ≡ moving l (restAt (DataOut t) (plainOf m) d)) →
-      LoadLies (From i) (t .load) p (here (m .state)) (t .words) (m .buffer) (m .store) (m .marks) l → mediumIn m ≡ storedFrom i (least (wholeOf l) (r .done)) p l
+      LoadLies (From i) (t .load) p (here (m .state)) (t .words) (m .buffer) (m .store) (m .marks) l → storeMarksIn m ≡ storedFrom i (least (wholeOf l) (r .done)) p l
   running t w h a q =
       let z = a-sector (t .load) (t .words) q in
       let s = z .size in
@@ -117,7 +118,7 @@ module _ (c : Course) (i : ℕ) (r : Run) (p : Plain) (m : Machine) (l : List �
 
   write-moment : (f : Phase) (w : Waiting) → Waits Out f (plainOf m) w → ((d : List ℕ) → writeDone c i r p (l ++ d) ≡ moving l (restAt f (plainOf m) d)) →
       LiesAt (From i) f p (here (m .state)) (m .buffer) (m .store) (m .marks) l → (d : List ℕ) → (runs f ≡ true → d ≡ []) →
-      mediumIn m ≡ storedFrom i (least (wholeOf (l ++ d)) (r .done)) p (l ++ d)
+      storeMarksIn m ≡ storedFrom i (least (wholeOf (l ++ d)) (r .done)) p (l ++ d)
   write-moment Idle w h a z d n = ended a d
   write-moment (DataIn t) w h a z d n = absurd h
   write-moment (DataOut t) w h a z d n =
@@ -125,7 +126,7 @@ module _ (c : Course) (i : ℕ) (r : Run) (p : Plain) (m : Machine) (l : List �
 
 -- p as the command found it; d is what the host writes when the card asks no more
 writes-moment : (g : Place) (p : Plain) (m : Machine) (q : Notes) → first p ≡ g → Rel Out (account Writes p) m q → Lies (targetAt g) (starts p) m (q .done) →
-    (d : List ℕ) → (asks m ≡ true → d ≡ []) → mediumIn m ≡ soFar Writes p (q .done ++ d)
+    (d : List ℕ) → (asks m ≡ true → d ≡ []) → storeMarksIn m ≡ soFar Writes p (q .done ++ d)
 unfolding account soFar writtenSoFar writeSectors
 writes-moment (At i) p m q e y z d n =
     rw e (write-moment (courseOf p) i (writeRun (courseOf p) (p .marks) i (asked (p .registers .count))) (starts p) m (q .done) (m .phase) (q .waiting) (y .waits)
@@ -134,7 +135,7 @@ writes-moment (At i) p m q e y z d n =
 writes-moment (Bad code) p m q e y z d n = nowhere Writes p Out m q Nowhere refl (ap targetAt e) y z (q .done ++ d)
 
 pub moment : (row : Row) (p : Plain) (m : Machine) (q : Notes) → Rel (wayOf row) (account row p) m q → Lies (targetOf row p) (starts p) m (q .done) →
-    (d : List ℕ) → (asks m ≡ true → d ≡ []) → mediumIn m ≡ soFar row p (q .done ++ d)
+    (d : List ℕ) → (asks m ≡ true → d ≡ []) → storeMarksIn m ≡ soFar row p (q .done ++ d)
 moment Reads p m q y z d n = nowhere Reads p In m q Nowhere refl refl y z (q .done ++ d)
 moment Writes p m q y z d n = writes-moment (first p) p m q refl y z d n
 moment Verifies p m q y z d n = nowhere Verifies p In m q Nowhere refl refl y z (q .done ++ d)

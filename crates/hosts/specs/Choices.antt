@@ -1,5 +1,5 @@
 -- Where a host can move data: the places of the map that is set.
-use Prim.Native.Nat.{ℕ, _+_, _%_, _≤_}
+use Prim.Native.Nat.{ℕ, _+_, _%_}
 use mathlib.Core.Bool.{Bool, true, false, _&&_, _||_}
 use mathlib.Core.List.{List}
 use mathlib.Core.Path.{_≡_}
@@ -14,7 +14,7 @@ use Rattle.transfers.specs.declared.Way.{Way}
 use Rattle.transfers.specs.declared.Way.the-variants.{In, Out}
 use Rattle.card.specs.Access.{Access, meaning}
 use Rattle.account.specs.Host.{Hosted}
-use Rattle.hosts.specs.Live.{fits, width, most, Taken}
+use Rattle.hosts.specs.Live.{fits, width, Small, Taken}
 
 -- ---- where data stands
 
@@ -52,10 +52,10 @@ abbrev pub accessOf : Way → Choice → Access
 accessOf way c = record { space = c .space; width = width (c .port); write = writes way; address = c .address; value = c .value; tuples = c .tuples }
 
 -- a choice that the host has: by its notes, by the map that is set, by its value and by what is lent
-pub record Fitting (h : Hosted) (c : Choice) : Type 0 where
+pub record Fitting (way : Way) (h : Hosted) (c : Choice) : Type 0 where
   pub half : fits (h .notes .waiting) (c .port) ≡ true
   pub place : dataAt (offsets (c .port)) (h .machine .state .made .mode) (indexIn (h .machine .state .option)) (c .space) (c .address) ≡ true
-  pub value : c .value ≤ most (c .port)
+  pub value : Small way (c .port) (c .value)
   pub tuples : length (c .tuples) ≡ 256
 
 -- step answers so: `step m a` is `perform (meaning m a) m`, with the line

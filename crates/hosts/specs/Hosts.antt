@@ -1,49 +1,72 @@
 -- Hosts: at each turn whatever accesses they like, then a part of the data; and hosts that have their data.
-use Prim.Native.Nat.{ℕ, zero, suc, _+_, _*_}
+use Prim.Native.Nat.{ℕ, _+_, _*_}
 use mathlib.Core.Bool.{Bool, true, false}
 use mathlib.Core.List.{List, [], _∷_, _++_}
 use mathlib.Core.Path.{_≡_}
 use lib.ListN.{length}
 use Rattle.ground.specs.Choice.{pick}
 use Rattle.maps.specs.declared.Port.{Port}
+use Rattle.registers.specs.Machine.{Machine}
 use Rattle.transfers.specs.declared.Way.{Way}
 use Rattle.transfers.specs.declared.Way.the-variants.{In, Out}
 use Rattle.card.specs.declared.Meaning.{Meaning}
 use Rattle.card.specs.declared.Meaning.the-variants.{TupleByte, ReadOption, WriteOption, ReadRegister, WriteRegister, ReadData, WriteData}
-use Rattle.card.specs.Access.{Access}
+use Rattle.card.specs.Access.{Access, meaning}
 use Rattle.account.specs.Notes.{Waiting, None, LowByte, HighByte, Notes}
-use Rattle.account.specs.Host.{asks, Hosted, Goes, hosted}
+use Rattle.account.specs.Host.{asks, GoesBy, Hosted, hostedBy, meaningsBy}
+use Rattle.hosts.specs.Live.{fits, Small, dataMeaning}
 use Rattle.hosts.specs.Choices.{Choice, accessOf, Fitting}
 
--- ---- every host
+-- ---- turns: of accesses, of what they mean, or of calls; `means` says what one means to the card
 
--- the host after more accesses
-abbrev pub onward : Way → Hosted → List Access → Hosted
-onward way h l = hosted way (h .machine) (h .notes) l
+-- whatever the host likes, then its choice
+pub record Turn (A : Type 0) : Type 0 where
+  pub aside : List A
+  pub choice : A
 
--- the second is where a host can get to from the first
-abbrev pub Gets : Way → Hosted → Hosted → Type 0
-Gets way start h = (l : List Access) × Goes (start .machine) l × (onward way start l ≡ h)
+module _ {A : Type 0} (means : Machine → A → Meaning) (way : Way) where
+  -- the host after more of them
+  abbrev pub onward : Hosted → List A → Hosted
+  onward h l = hostedBy way (h .machine) (h .notes) (meaningsBy means (h .machine) l)
 
--- a turn of a host: whatever such accesses it likes, then a choice
-pub record Turn : Type 0 where
-  pub aside : List Access
-  pub choice : Choice
+  -- they are made while the card asks, none a command or a reset
+  abbrev pub Going : Hosted → List A → Type 0
+  Going h l = GoesBy (h .machine) (meaningsBy means (h .machine) l)
 
-abbrev pub Ready : Way → Hosted → Turn → Type 0
-Ready way h t = Goes (h .machine) (t .aside) × (asks (onward way h (t .aside) .machine) ≡ true → Fitting (onward way h (t .aside)) (t .choice))
+  -- those of a turn: the choice only if the card still asks
+  abbrev pub turn : Hosted → Turn A → List A
+  turn h t = t .aside ++ pick (asks (onward h (t .aside) .machine)) (t .choice ∷ []) []
 
--- a host that has a turn wherever it gets to while the card asks
-abbrev pub Willing : Way → Hosted → (Hosted → Turn) → Type 0
-Willing way start host = (h : Hosted) → Gets way start h → asks (h .machine) ≡ true → Ready way h (host h)
+  -- those of all turns, as long as the card asks
+  unfoldable pub turns : Hosted → List (Turn A) → List A
+  turns h [] = []
+  turns h (t ∷ l) = let rest = turns (onward h (turn h t)) l in pick (asks (h .machine)) (turn h t ++ rest) []
 
--- n turns, as long as the card asks
-unfoldable pub turns : ℕ → Way → (Hosted → Turn) → Hosted → List Access
-turns zero way host h = []
-turns (suc n) way host h =
-    let k = onward way h (host h .aside) in
-    let a = accessOf way (host h .choice) in
-    pick (asks (h .machine)) (host h .aside ++ pick (asks (k .machine)) (a ∷ turns n way host (onward way k (a ∷ []))) []) []
+  -- a host that keeps choosing: as long as the card asks, each turn is ready where the host has come to with those before it
+  abbrev pub Willing : (Hosted → Turn A → Type 0) → Hosted → List (Turn A) → Type 0
+  Willing ready h [] = Unit {0}
+  Willing ready h (t ∷ l) = asks (h .machine) ≡ true → ready h t × Willing ready (onward h (turn h t)) l
+
+-- what is meant is a part of the data that fits
+pub record Chosen (way : Way) (h : Hosted) (x : Meaning) : Type 0 where
+  pub port : Port
+  pub value : ℕ
+  pub part : x ≡ dataMeaning way port value
+  pub half : fits (h .notes .waiting) port ≡ true
+  pub small : Small way port value
+
+-- a turn is ready: what is done aside is allowed, and the choice is such a part
+abbrev pub itself : Machine → Meaning → Meaning
+itself m x = x
+
+abbrev pub ReadyBy : Way → Hosted → Turn Meaning → Type 0
+ReadyBy way h t = let k = onward itself way h (t .aside) in Going itself way h (t .aside) × (asks (k .machine) ≡ true → Chosen way k (t .choice))
+
+-- the same of accesses, by 01's places
+abbrev pub Ready : Way → Hosted → Turn Access → Type 0
+Ready way h t =
+    let k = onward meaning way h (t .aside) in
+    Going meaning way h (t .aside) × (asks (k .machine) ≡ true → (c : Choice) × (t .choice ≡ accessOf way c) × Fitting way k c)
 
 -- ---- its data: byte i is b i
 
@@ -58,12 +81,17 @@ next b n (HighByte x) port = b n
 abbrev pub nextOf : (ℕ → ℕ) → Notes → Port → ℕ
 nextOf b q port = next b (length (q .done)) (q .waiting) port
 
--- it moves no data aside, and sends its own
-abbrev pub Sends : (ℕ → ℕ) → Way → Hosted → Turn → Type 0
-Sends b way h t = (onward way h (t .aside) .notes ≡ h .notes) × (t .choice .value ≡ nextOf b (h .notes) (t .choice .port))
+-- a turn that moves no data aside, and then sends its own
+abbrev pub SendsBy : (ℕ → ℕ) → Way → Hosted → Turn Meaning → Type 0
+SendsBy b way h t =
+    let k = onward itself way h (t .aside) in
+    Going itself way h (t .aside) × (k .notes ≡ h .notes) × (asks (k .machine) ≡ true → (c : Chosen way k (t .choice)) × (c .value ≡ nextOf b (k .notes) (c .port)))
 
-abbrev pub Sending : (ℕ → ℕ) → Way → Hosted → (Hosted → Turn) → Type 0
-Sending b way start host = (h : Hosted) → Gets way start h → asks (h .machine) ≡ true → Sends b way h (host h)
+abbrev pub Sends : (ℕ → ℕ) → Way → Hosted → Turn Access → Type 0
+Sends b way h t =
+    let k = onward meaning way h (t .aside) in
+    Going meaning way h (t .aside) × (k .notes ≡ h .notes)
+    × (asks (k .machine) ≡ true → (c : Choice) × (t .choice ≡ accessOf way c) × Fitting way k c × (c .value ≡ nextOf b (k .notes) (c .port)))
 
 -- no data moves the command's way
 abbrev pub still : Way → Meaning → Bool

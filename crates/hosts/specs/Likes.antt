@@ -1,7 +1,7 @@
 -- A host that always has a choice: the word or byte that it would like, where that can be.
 use Prim.Native.Nat.{ℕ}
 use mathlib.Core.Bool.{Bool, false, _&&_}
-use mathlib.Core.List.{List}
+use mathlib.Core.List.{List, [], _∷_}
 use lib.Dec.{eqb, leb}
 use lib.ListN.{replicate}
 use Rattle.ground.specs.Choice.{pick}
@@ -11,12 +11,12 @@ use Rattle.maps.specs.declared.Port.{Port}
 use Rattle.registers.specs.declared.State.{State}
 use Rattle.registers.specs.State.{indexIn}
 use Rattle.transfers.specs.declared.Way.{Way}
-use Rattle.card.specs.Access.{Access}
+use Rattle.card.specs.Access.{Access, meaning}
 use Rattle.account.specs.Notes.{Waiting}
 use Rattle.account.specs.Host.{Hosted}
 use Rattle.hosts.specs.Live.{fits}
-use Rattle.hosts.specs.Choices.{Choice}
-use Rattle.hosts.specs.Hosts.{onward, Turn, nextOf}
+use Rattle.hosts.specs.Choices.{Choice, accessOf}
+use Rattle.hosts.specs.Hosts.{Turn, onward, turn, nextOf}
 
 -- the odd data place is memory's, and I/O's at index 1
 unfoldable pub oddThere : Mode → ℕ → Bool
@@ -53,6 +53,10 @@ abbrev pub choiceIn : (ℕ → ℕ) → Port → Hosted → Choice
 choiceIn b like h = choiceAt (portIn (h .machine .state) like (h .notes .waiting)) (h .machine .state .made .mode) (indexIn (h .machine .state .option))
     (nextOf b (h .notes) (portIn (h .machine .state) like (h .notes .waiting)))
 
--- `like` and `besides` may go by all that the host and the card have come to
-abbrev pub hostOf : Way → (ℕ → ℕ) → (Hosted → Port) → (Hosted → List Access) → Hosted → Turn
-hostOf way b like besides h = record { aside = besides h; choice = choiceIn b (like h) (onward way h (besides h)) }
+-- turns of such a host: what it would like at each, and what it does aside, which may go by all that it and the card have come to
+unfoldable pub likedTurns : Way → (ℕ → ℕ) → (Hosted → List Access) → Hosted → List Port → List (Turn Access)
+likedTurns way b besides h [] = []
+likedTurns way b besides h (like ∷ l) =
+    let t : Turn Access = record { aside = besides h; choice = accessOf way (choiceIn b like (onward meaning way h (besides h))) } in
+    let rest = likedTurns way b besides (onward meaning way h (turn meaning way h t)) l in
+    t ∷ rest

@@ -1,5 +1,5 @@
 -- A part of a command's data, wherever the host stands in it: what may move next, what comes of it, and how much data there is.
-use Prim.Native.Nat.{ℕ, _+_, _*_}
+use Prim.Native.Nat.{ℕ, _+_, _*_, _≤_}
 use mathlib.Core.Bool.{Bool, true, false}
 use mathlib.Core.List.{List}
 use mathlib.Core.Path.{_≡_}
@@ -40,6 +40,11 @@ most Port.Even = 0xFF
 most Port.Odd = 0xFF
 most Port.Word = 0xFFFF
 
+-- a value that is written is one that its width holds; that of a read is not looked at
+abbrev pub Small : Way → Port → ℕ → Type 0
+Small In port v = Unit {0}
+Small Out port v = v ≤ most port
+
 -- ---- what comes of it
 
 -- the bytes noted, that of a word at hand among them
@@ -61,14 +66,15 @@ abbrev pub dataMeaning : Way → Port → ℕ → Meaning
 dataMeaning In port v = ReadData port
 dataMeaning Out port v = WriteData port v
 
--- an access that means x, for a part of the data that the host chose
+-- an access that means x, for a part of the data that the host chose: how it is answered, and what the host then has noted. That the card has moved it
+-- too is seen by what it asks for afterwards, and by the account
 pub record Taken (way : Way) (h : Hosted) (port : Port) (value : ℕ) (x : Meaning) : Type 0 where
   -- it is no command and no reset
   pub quiet : calm x ≡ true
   -- it is accepted
   pub answer : ℕ
   pub accepted : perform x (h .machine) .outcome ≡ Outcome.Accepted answer
-  -- and moves the part chosen, one byte or two, and nothing else
+  -- and counts as the part chosen, one byte or two, and as nothing else
   pub part : note way x (perform x (h .machine) .outcome) (h .notes) ≡ noteData port (h .notes .waiting) (moved way answer value) (h .notes)
   pub bytes : noted (note way x (perform x (h .machine) .outcome) (h .notes)) ≡ noted (h .notes) + width port
 

@@ -6,6 +6,7 @@ use mathlib.Core.Path.{_≡_}
 use lib.Dec.{leb}
 use lib.ListN.{length, getD}
 use Rattle.ground.specs.Choice.{pick}
+use Rattle.sectors.specs.Sectors.{StoreMarks}
 use Rattle.registers.specs.Machine.{Machine}
 use Rattle.card.specs.declared.Meaning.{Meaning}
 use Rattle.card.specs.Access.{Access}
@@ -27,15 +28,8 @@ CalmBy m (x ∷ l) = (calm x ≡ true) × CalmBy (perform x m .next) l
 abbrev pub Calm : Machine → List Access → Type 0
 Calm m l = CalmBy m (meanings m l)
 
-pub record Medium : Type 0 where
-  pub store : List ℕ
-  pub marks : List ℕ
-
-abbrev pub mediumOf : Plain → Medium
-mediumOf p = record { store = p .store; marks = p .marks }
-
-abbrev pub mediumIn : Machine → Medium
-mediumIn m = record { store = m .store; marks = m .marks }
+abbrev pub storeMarksOf : Plain → StoreMarks
+storeMarksOf p = record { store = p .store; marks = p .marks }
 
 -- "a sector is stored, and its mark set to 0, at its last byte only": as many as have moved whole, but none from the one on where the run stops
 unfoldable pub least : ℕ → ℕ → ℕ
@@ -49,31 +43,31 @@ abbrev pub storedOf : ℕ → Plain → List ℕ → ℕ
 storedOf i p moved = least (wholeOf moved) (writeRun (courseOf p) (p .marks) i (asked (p .registers .count)) .done)
 
 -- k sectors from index i, in the order of the run, each with the host's bytes for it
-abbrev pub storedFrom : ℕ → ℕ → Plain → List ℕ → Medium
+abbrev pub storedFrom : ℕ → ℕ → Plain → List ℕ → StoreMarks
 storedFrom i k p moved = record { store = replaced i k moved (p .store); marks = cleared i k (p .marks) }
 
-unfoldable pub writtenSoFar : Place → Plain → List ℕ → Medium
+unfoldable pub writtenSoFar : Place → Plain → List ℕ → StoreMarks
 writtenSoFar (At i) p moved = storedFrom i (storedOf i p moved) p moved
-writtenSoFar (Bad code) p moved = mediumOf p
+writtenSoFar (Bad code) p moved = storeMarksOf p
 
 -- a write's sectors one by one, Erase's at once, and no other command's
-unfoldable pub soFar : Row → Plain → List ℕ → Medium
-soFar Reads p moved = mediumOf p
+unfoldable pub soFar : Row → Plain → List ℕ → StoreMarks
+soFar Reads p moved = storeMarksOf p
 soFar Writes p moved = writtenSoFar (first p) p moved
-soFar Verifies p moved = mediumOf p
-soFar Erases p moved = mediumOf (account Erases p moved .left)
-soFar Identifies p moved = mediumOf p
-soFar ReadsBuffer p moved = mediumOf p
-soFar WritesBuffer p moved = mediumOf p
-soFar SetsGeometry p moved = mediumOf p
-soFar Diagnoses p moved = mediumOf p
-soFar Recalibrates p moved = mediumOf p
-soFar Seeks p moved = mediumOf p
-soFar Senses p moved = mediumOf p
-soFar Others p moved = mediumOf p
+soFar Verifies p moved = storeMarksOf p
+soFar Erases p moved = storeMarksOf (account Erases p moved .left)
+soFar Identifies p moved = storeMarksOf p
+soFar ReadsBuffer p moved = storeMarksOf p
+soFar WritesBuffer p moved = storeMarksOf p
+soFar SetsGeometry p moved = storeMarksOf p
+soFar Diagnoses p moved = storeMarksOf p
+soFar Recalibrates p moved = storeMarksOf p
+soFar Seeks p moved = storeMarksOf p
+soFar Senses p moved = storeMarksOf p
+soFar Others p moved = storeMarksOf p
 
 -- the k sectors from index i hold the first 512 * k bytes that moved, in order, and have mark 0; every other byte and mark is as it was
-pub record FirstStored (i k : ℕ) (p : Plain) (moved : List ℕ) (x : Medium) : Type 0 where
+pub record FirstStored (i k : ℕ) (p : Plain) (moved : List ℕ) (x : StoreMarks) : Type 0 where
   pub stored : (n : ℕ) → n < 512 * k → getD (x .store) (512 * i + n) 0 ≡ getD moved n 0
   pub marked : (j : ℕ) → j < k → getD (x .marks) (i + j) 0 ≡ 0
   pub others : SameOutside (512 * i) (512 * (i + k)) (p .store) (x .store)

@@ -3,8 +3,12 @@ use Prim.Native.Nat.{ℕ}
 use mathlib.Core.Bool.{false, _&&_}
 use mathlib.Core.List.{List, [], _∷_}
 use mathlib.Core.Path.{_≡_}
+use Rattle.ground.specs.Choice.{pick}
+use Rattle.answers.specs.declared.Refusal.{Refusal}
+use Rattle.answers.specs.declared.Refusal.the-variants.{NotWellMade, StoreLength, MarksLength}
 use Rattle.registers.specs.declared.State.{State}
 use Rattle.registers.specs.Machine.{Machine}
+use Rattle.registers.specs.WellMade.{wellMade}
 use Rattle.transfers.specs.declared.Way.{Way}
 use Rattle.card.specs.declared.Card.{Card}
 use Rattle.card.specs.declared.Answer.{Answer}
@@ -22,11 +26,15 @@ Promised c store marks a r store′ marks′ = answered r store′ marks′ ≡ 
 -- a call lends the card's own store and marks, or by mistake others
 pub data Call : Type 0 where
   Own : Access → Call
-  Others : List ℕ → List ℕ → Access → Call
+  Wrong : List ℕ → List ℕ → Access → Call
 
 -- "store, marks … of wrong length"
 abbrev pub WrongLength : State → List ℕ → List ℕ → Type 0
 WrongLength s store marks = (storeSized s store && marksSized s marks) ≡ false
+
+-- the row with which it is refused: 12, 2 or 3
+abbrev pub wrongRow : Machine → List ℕ → Refusal
+wrongRow m store = pick (wellMade (m .phase) (m .state)) (pick (storeSized (m .state) store) MarksLength StoreLength) NotWellMade
 
 abbrev pub lent : List ℕ → List ℕ → Machine → Machine
 lent store marks m = record { phase = m .phase; state = m .state; buffer = m .buffer; store = store; marks = marks }
@@ -34,7 +42,7 @@ lent store marks m = record { phase = m .phase; state = m .state; buffer = m .bu
 -- what it means to the card
 abbrev pub callMeaning : Machine → Call → Meaning
 callMeaning m (Own a) = meaning m a
-callMeaning m (Others store marks a) = meaning (lent store marks m) a
+callMeaning m (Wrong store marks a) = meaning (lent store marks m) a
 
 abbrev pub callMeanings : Machine → List Call → List Meaning
 callMeanings m l = meaningsBy callMeaning m l
@@ -45,6 +53,6 @@ Called way c store marks q [] h = record { machine = machineOf c store marks; no
 Called way c store marks q (Own a ∷ l) h =
     (r : Answer) × (store′ : List ℕ) × (marks′ : List ℕ) × Promised c store marks a r store′ marks′
     × Called way (r .card) store′ marks′ (note way (meaning (machineOf c store marks) a) (r .outcome) q) l h
-Called way c store marks q (Others store₁ marks₁ a ∷ l) h =
+Called way c store marks q (Wrong store₁ marks₁ a ∷ l) h =
     (r : Answer) × (store′ : List ℕ) × (marks′ : List ℕ) × Promised c store₁ marks₁ a r store′ marks′ × WrongLength (c .state) store₁ marks₁
     × Called way (r .card) store marks (note way (meaning (machineOf c store₁ marks₁) a) (r .outcome) q) l h
