@@ -1,4 +1,4 @@
--- What the corollaries speak of.
+-- What the theorem over meanings and the statements after it speak of.
 use Prim.Native.Nat.{ℕ, _+_, _*_, _≤_, _<_}
 use mathlib.Core.Bool.{Bool, true, false}
 use mathlib.Core.Path.{_≡_}
