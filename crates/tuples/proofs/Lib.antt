@@ -11,4 +11,5 @@ pub mod Theorems
 pub mod LinkFF
 pub mod OnlyOne
 pub mod Arrays
+pub mod RowTests
 pub mod FirstRow
