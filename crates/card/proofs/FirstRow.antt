@@ -27,10 +27,11 @@ use Rattle.card.specs.Perform.{perform}
 use Rattle.card.specs.Step.{step}
 use Rattle.card.specs.Opening.{openRefused, openingTable, opened}
 use Rattle.card.specs.Doors.{refusedBy, optionByMode, optionAnswered, controlAnswered}
-use Rattle.card.specs.Rows.{atOption, mode0, answering, accessTable, optionTable, controlTable}
+use Rattle.card.specs.Rows.{atOption, mode0, answering, accessTable, openingRows, optionTable, controlTable}
 use Rattle.card.proofs.RowTests.{away-is, answering-is}
 use Rattle.card.proofs.HalfRow.{numberAfter}
 use Rattle.card.proofs.PlaceRows.{stands-told}
+use Rattle.card.proofs.OpeningRow.{opening-told}
 
 -- rows 8 and 7
 doors-told : (s : State) (a : Access) (rest : ℕ) →
@@ -55,11 +56,11 @@ first-row m a = by-rows (accessTable m a) (step m a .outcome) refl (access-numbe
 
 -- ---- the opening
 pub opening-first-row : (g : Geometry) (mode : ℕ) (store marks tuples : List ℕ) →
-    ByRows (1 ∷ 2 ∷ 3 ∷ 5 ∷ 4 ∷ []) (openingTable g mode store marks tuples) (opened g mode store marks tuples .outcome)
+    ByRows (1 ∷ 2 ∷ 3 ∷ 5 ∷ 4 ∷ []) (openingRows g mode store marks tuples) (opened g mode store marks tuples .outcome)
 unfolding opened
 opening-first-row g mode store marks tuples =
-    let table = openingTable g mode store marks tuples in
-    by-rows table (opened g mode store marks tuples .outcome) refl (first-of (λ (x : Answer). outcomeNumber (x .outcome)) table openRefused _)
+    by-rows (openingRows g mode store marks tuples) (opened g mode store marks tuples .outcome) refl
+    (first-of (λ (x : Answer). outcomeNumber (x .outcome)) (openingTable g mode store marks tuples) openRefused _ ∙ opening-told g mode store marks tuples)
 
 -- ---- the two resets as methods
 option-mode : (mode : Mode) (v : ℕ) (c : Card) →

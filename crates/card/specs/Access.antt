@@ -30,6 +30,10 @@ pub record Access : Type 0 where
   pub value : ℕ
   pub tuples : List ℕ
 
+-- the access with another value, all else the same
+abbrev pub withValue : ℕ → Access → Access
+withValue v a = record { space = a .space; width = a .width; write = a .write; address = a .address; value = v; tuples = a .tuples }
+
 -- what stands there is read or written; a byte write's value is at most 255 here
 abbrev pub targeted : Target → Bool → ℕ → List ℕ → Meaning
 targeted (Tuple n) write value tuples = TupleByte (getD tuples n 0)
