@@ -11,10 +11,6 @@ use Rattle.registers.specs.Machine.{Machine, machine, core, coreOf, withCore}
 use Rattle.card.specs.Access.{Access}
 use Rattle.card.specs.Step.{Stepped}
 
--- the access with another value
-abbrev pub withValue : ℕ → Access → Access
-withValue v a = record { space = a .space; width = a .width; write = a .write; address = a .address; value = v; tuples = a .tuples }
-
 -- an access to memory at another address
 abbrev pub elsewhere : (ℕ → ℕ) → Access → Access
 elsewhere f a =
@@ -36,8 +32,8 @@ abbrev pub withLent : List ℕ → List ℕ → Machine → Machine
 withLent store marks m = machine (coreOf m) (m .buffer) store marks
 
 -- a step that answers another value, one that leaves another machine, one that leaves another state
-abbrev pub answering : ℕ → Stepped → Stepped
-answering value s = record { outcome = Accepted value; line = s .line; next = s .next }
+abbrev pub answersWith : ℕ → Stepped → Stepped
+answersWith value s = record { outcome = Accepted value; line = s .line; next = s .next }
 
 abbrev pub leaving : Machine → Stepped → Stepped
 leaving m s = record { outcome = s .outcome; line = lineOf (m .state); next = m }

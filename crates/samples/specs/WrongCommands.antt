@@ -9,10 +9,10 @@ use Rattle.geometry.specs.Shape.{geometryBy}
 use Rattle.registers.specs.declared.State.{State}
 use Rattle.registers.specs.State.{withCode, withCurrent, totalIn}
 use Rattle.registers.specs.Machine.{Machine, withBuffer}
-use Rattle.card.specs.Access.{Access}
+use Rattle.card.specs.Access.{Access, withValue}
 use Rattle.card.specs.Step.{Stepped, step}
 use Rattle.samples.specs.Kinds.{gives, givesSectors}
-use Rattle.samples.specs.Faults.{withValue, leaving, altered}
+use Rattle.samples.specs.Faults.{leaving, altered}
 
 -- "03H clears the code, so a second 03H says 00H."
 unfoldable pub clearsCode : Machine → Access → Stepped

@@ -15,7 +15,7 @@ use Rattle.card.specs.Access.{Access, meaning}
 use Rattle.card.specs.Perform.{perform}
 use Rattle.card.specs.Step.{Stepped, stepped, step}
 use Rattle.samples.specs.Kinds.{readsAt}
-use Rattle.samples.specs.Faults.{addressIn, elsewhere, answering, altered}
+use Rattle.samples.specs.Faults.{addressIn, elsewhere, answersWith, altered}
 
 -- "400H..7FFH is data, even as offset 8, odd as offset 9": here odd as even
 abbrev pub evened : ℕ → ℕ
@@ -67,10 +67,10 @@ inOrderOfArrival m a = stepped (perform (evenly (meaning m a)) m)
 
 -- Drive Address: "bit 7 is 0": here 1
 unfoldable pub bitSevenSet : Machine → Access → Stepped
-bitSevenSet m a = let s = step m a in pick (readsAt 0xF m a) (answering (0x80 + outcomeValue (s .outcome)) s) s
+bitSevenSet m a = let s = step m a in pick (readsAt 0xF m a) (answersWith (0x80 + outcomeValue (s .outcome)) s) s
 
 -- "bits 5..2 the negated head": here the head
 unfoldable pub headNotNegated : Machine → Access → Stepped
 headNotNegated m a =
     let head = addressIn m .head in
-    pick (readsAt 0xF m a) (answering (writingBit (m .phase) + (head % 16 * 4 + driveBits head)) (step m a)) (step m a)
+    pick (readsAt 0xF m a) (answersWith (writingBit (m .phase) + (head % 16 * 4 + driveBits head)) (step m a)) (step m a)
