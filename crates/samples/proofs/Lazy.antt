@@ -39,13 +39,14 @@ pub makes-up-count-7 : (n : ℕ) → holdsOf (makesUpCount n) reader sample7 ≡
 unfolding computing makesUpCount
 makes-up-count-7 n = and-true (eqb n 224)
 
+-- so any other fails it, by itself
 pub made-up-count-fails-6 : (n : ℕ) → (n ≡ 1 → ⊥) → holdsOf (makesUpCount n) reader sample6 ≡ false
 made-up-count-fails-6 n wrong = makes-up-count-6 n ∙ ne-eqb n 1 wrong
 
 pub made-up-count-fails-7 : (n : ℕ) → (n ≡ 224 → ⊥) → holdsOf (makesUpCount n) reader sample7 ≡ false
 made-up-count-fails-7 n wrong = makes-up-count-7 n ∙ ne-eqb n 224 wrong
 
--- so every made-up Count fails one of them
+-- and every made-up Count fails one of them
 apart : (n : ℕ) (b : Bool) → eqb n 1 ≡ b → (b && eqb n 224) ≡ false
 apart n true e = ap (λ (k : ℕ). eqb k 224) (eqb-true n 1 e)
 apart n false e = refl
