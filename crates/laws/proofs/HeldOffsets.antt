@@ -29,7 +29,7 @@ use Rattle.card.specs.Step.{step}
 use Rattle.kept.proofs.Decided.{decided-elim, meaning-elim}
 use Rattle.laws.specs.Holds.{lostInHold, offsetOf, readInHold}
 use Rattle.laws.proofs.Held.{meant-held-read, meant-held-data-read, meant-held-write, meant-held-data-write}
-use Rattle.laws.proofs.Reached.{common, reached-elim}
+use Rattle.laws.proofs.Reached.{not-attribute, reached-elim}
 
 -- ---- reads
 
@@ -51,7 +51,7 @@ pub held-reads : (m : Machine) (a : Access) (o : ℕ) → offsetOf m a ≡ At o 
     step m a .outcome ≡ Outcome.Accepted (readInHold (a .width))
 unfolding step perform
 held-reads m a o r w h =
-    let c = common (a .space) (indexIn (m .state .option)) (a .address) o r in
+    let c = not-attribute (a .space) (indexIn (m .state .option)) (a .address) o r in
     let P : Meaning → Type 0 = λ x. refused (perform x m .outcome) ≡ false → perform x m .outcome ≡ Outcome.Accepted (readInHold (a .width)) in
     let no : (r : Refusal) → P (Meaning.Refused r) = λ r e. absurd (true≢false e) in
     meaning-elim P m a (no _) (no _) (no _) (no _)

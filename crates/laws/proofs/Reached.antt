@@ -25,10 +25,10 @@ use Rattle.kept.proofs.Decided.{decided-elim, meaning-elim}
 use Rattle.laws.specs.Holds.{offsetOf}
 
 -- no offset is in attribute memory
-pub common : (space index address o : ℕ) → offsetAt space index address ≡ At o → space ≡ 0 → ⊥
+pub not-attribute : (space index address o : ℕ) → offsetAt space index address ≡ At o → space ≡ 0 → ⊥
 unfolding offsetAt
-common zero index address o e z = let x : _≡_ {A = ℕ} 0 1 = cc in omega arith
-common (suc n) index address o e z = omega arith
+not-attribute zero index address o e z = let x : _≡_ {A = ℕ} 0 1 = cc in omega arith
+not-attribute (suc n) index address o e z = omega arith
 
 sized-elim : (P : Standing → Type 0) (s : Standing) (width : ℕ) (write : Bool) (value : ℕ) → ((r : Refusal) → P (Refused r)) → ((t : Target) → s ≡ There t → P (There t)) →
     P (sized s width write value)
@@ -51,5 +51,5 @@ unfolding standsAt registerAt
 reached-elim P m a o r f d g =
     meaning-elim P m a (f _) (f _) (f _) (f _)
     (λ w s k t. decided-elim P (m .state) a (f _) (f _)
-    (λ h e. rw (ne-eqb (a .space) 0 (common (a .space) (indexIn (m .state .option)) (a .address) o r), r)
+    (λ h e. rw (ne-eqb (a .space) 0 (not-attribute (a .space) (indexIn (m .state .option)) (a .address) o r), r)
     (place-elim (λ (s : Standing). P (standing s (a .write) (a .value) (a .tuples))) o (a .width) (a .write) (a .value) f d (g w))))

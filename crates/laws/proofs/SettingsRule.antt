@@ -1,4 +1,4 @@
--- After every access the Configuration Option and Device Control are what was last written to them.
+-- After every access the Configuration Option and Device Control are what was last written to them; but clearing SRESET clears Device Control too.
 use Prim.Native.Nat.{ℕ}
 use mathlib.Core.Path.{_≡_, refl, ap}
 use mathlib.Core.Bool.{Bool, true, false}

@@ -1,13 +1,13 @@
 -- 01, "Interrupt mark". What sets and what clears it is read off the access, the command table's row, the two resets' bits, and Status and Sector Count before
 -- and after.
-use Prim.Native.Nat.{_/_, _%_}
 use mathlib.Core.Path.{_≡_}
 use mathlib.Core.Bool.{Bool, true, false, not, _&&_, _||_}
-use lib.Dec.{eqb, leb}
+use lib.Dec.{eqb}
 use Rattle.registers.specs.declared.State.{State}
 use Rattle.commands.specs.declared.Command.{Command}
 use Rattle.commands.specs.declared.Command.the-variants.{Read, Write, Verify, Erase, Identify, ReadBuffer, WriteBuffer, SetGeometry, Diagnose, Recalibrate, Seek, Sense, Other}
 use Rattle.laws.specs.Acts.{Act, StatusRead, CommandWrite, ControlWrite, OptionWrite, DataRead, DataWrite, NoMatter}
+use Rattle.laws.specs.Turns.{bitSeven, bitTwo}
 
 -- ---- what a host sees
 
@@ -89,9 +89,9 @@ unfoldable pub clears : Act → State → Bool
 clears StatusRead s = true
 clears (CommandWrite c) s = true
 -- bit 2 is written unlike it was held
-clears (ControlWrite v) s = differ (eqb (v / 4 % 2) 1) (s .control .held)
+clears (ControlWrite v) s = differ (bitTwo v) (s .control .held)
 -- bit 7 is written unlike it was
-clears (OptionWrite v) s = differ (leb 128 v) (leb 128 (s .option))
+clears (OptionWrite v) s = differ (bitSeven v) (bitSeven (s .option))
 clears DataRead s = false
 clears DataWrite s = false
 clears NoMatter s = false

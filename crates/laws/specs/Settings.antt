@@ -1,4 +1,5 @@
--- The Configuration Option and Device Control after an access: what was last written to them, and nothing else changes them.
+-- The Configuration Option and Device Control after an access: what was last written to them; clearing SRESET is power-on, and clears Device Control
+-- too. Nothing else changes them.
 use Prim.Native.Nat.{ℕ}
 use mathlib.Core.Path.{_≡_}
 use mathlib.Core.Bool.{Bool, true, false}
