@@ -2,10 +2,10 @@
 -- access reaches in whatever map, and by its width.
 use Prim.Native.Nat.{ℕ}
 use mathlib.Core.Path.{_≡_, refl, sym, ap, _∙_}
-use mathlib.Core.Bool.{Bool, true, false, true≢false, false≢true}
+use mathlib.Core.Bool.{Bool, true, false, true≢false, false≢true, _&&_}
 use mathlib.Core.List.{List}
 use lib.Dec.{eqb}
-use borrow.Author.Tests.{eqb-true}
+use borrow.Author.Tests.{eqb-true, eqb-false}
 use Rattle.ground.proofs.Picks.{pick-elim}
 use Rattle.answers.specs.declared.Outcome.{Outcome}
 use Rattle.answers.specs.declared.Refusal.{Refusal}
@@ -15,9 +15,13 @@ use Rattle.maps.specs.declared.Target.{Target}
 use Rattle.maps.specs.declared.Target.the-variants.{Tuple, Option, Named, Data}
 use Rattle.maps.specs.declared.Standing.{Standing}
 use Rattle.maps.specs.declared.Standing.the-variants.{There, Refused}
-use Rattle.maps.specs.declared.Offset.the-variants.{At}
-use Rattle.maps.specs.Places.{namedAt}
+use Rattle.maps.specs.declared.Offset.{Offset}
+use Rattle.maps.specs.declared.Offset.the-variants.{At, Nowhere}
+use Rattle.maps.specs.Offsets.{offsetAt}
+use Rattle.maps.specs.Places.{namedAt, registerAt}
 use Rattle.maps.specs.Maps.{standsAt}
+use Rattle.maps.proofs.SameOffset.{by-offset}
+use Rattle.maps.proofs.SixFirst.{read-only}
 use Rattle.maps.proofs.Standings.{Known, stands-known}
 use Rattle.registers.specs.State.{indexIn}
 use Rattle.registers.specs.Machine.{Machine}
@@ -26,10 +30,11 @@ use Rattle.card.specs.declared.Meaning.{Meaning}
 use Rattle.card.specs.Access.{Access, targeted, standing}
 use Rattle.card.specs.Perform.{perform}
 use Rattle.card.specs.Step.{step}
+use Rattle.card.specs.Rows.{atOption}
 use Rattle.kept.proofs.Decided.{decided-elim, meaning-elim}
 use Rattle.laws.specs.Holds.{lostInHold, offsetOf, readInHold}
 use Rattle.laws.proofs.Held.{meant-held-read, meant-held-data-read, meant-held-write, meant-held-data-write}
-use Rattle.laws.proofs.Reached.{not-attribute, reached-elim}
+use Rattle.laws.proofs.Reached.{not-attribute, place-elim}
 
 -- ---- reads
 
@@ -94,10 +99,31 @@ target-lost Option value tuples m h b = absurd (false≢true b)
 target-lost (Named r) value tuples m h b = ap (λ (y : Effect). y .next) (meant-held-write r _ m h b)
 target-lost (Data port) value tuples m h b = ap (λ (y : Effect). y .next) (meant-held-data-write port value m h)
 
--- accepted or refused
-pub held-writes : (m : Machine) (a : Access) (o : ℕ) → offsetOf m a ≡ At o → a .write ≡ true → (o ≡ 0xE → ⊥) → m .state .control .held ≡ true → step m a .next ≡ m
+offset-lost : (o : Offset) (width value : ℕ) (tuples : List ℕ) (m : Machine) → m .state .control .held ≡ true → (o ≡ At 0xE → ⊥) →
+    perform (standing (registerAt o width true value) true value tuples) m .next ≡ m
+unfolding registerAt perform
+offset-lost (At o) width value tuples m h n =
+    place-elim (λ (s : Standing). perform (standing s true value tuples) m .next ≡ m) o width true value (λ r. refl)
+    (λ e port. target-lost (Data port) value tuples m h refl)
+    (λ e t i. target-lost t value tuples m h (sym (ap losesIn i) ∙ named-loses o (λ z. n (ap (λ (k : ℕ). At k) z))))
+offset-lost Nowhere width value tuples m h n = refl
+
+-- in attribute memory, and by the offset in every other space
+stands-lost : (attribute : Bool) (space index address width value : ℕ) (tuples : List ℕ) (m : Machine) → eqb space 0 ≡ attribute →
+    m .state .control .held ≡ true → (offsetAt space index address ≡ At 0xE → ⊥) → (attribute && eqb address 0x200) ≡ false →
+    perform (standing (standsAt space index address width true value) true value tuples) m .next ≡ m
+unfolding perform
+stands-lost true space index address width value tuples m e h n b =
+    rw (eqb-true space 0 e, read-only index address width value (eqb-false address 0x200 b))
+stands-lost false space index address width value tuples m e h n b =
+    rw (by-offset space index address width true value (eqb-false space 0 e)) (offset-lost (offsetAt space index address) width value tuples m h n)
+
+-- every write but those to offset E and to attribute 200H, accepted or refused: in whatever space, where something stands and where nothing does
+pub held-writes : (m : Machine) (a : Access) → a .write ≡ true → m .state .control .held ≡ true → (offsetOf m a ≡ At 0xE → ⊥) → atOption (a .space) (a .address) ≡ false →
+    step m a .next ≡ m
 unfolding step perform
-held-writes m a o r w n h =
-    reached-elim (λ (x : Meaning). perform x m .next ≡ m) m a o r (λ q. refl)
-    (λ e port. rw w (target-lost (Data port) (a .value) (a .tuples) m h refl))
-    (λ k e t i. rw w (target-lost t (a .value) (a .tuples) m h (sym (ap losesIn i) ∙ named-loses o n)))
+held-writes m a w h n b =
+    let P : Meaning → Type 0 = λ x. perform x m .next ≡ m in
+    meaning-elim P m a refl refl refl refl
+    (λ f s k t. decided-elim P (m .state) a refl refl
+    (λ i e. rw w (stands-lost (eqb (a .space) 0) (a .space) (indexIn (m .state .option)) (a .address) (a .width) (a .value) (a .tuples) m refl h n b)))

@@ -36,7 +36,7 @@ unfolding byteAt
 sized-elim P (There t) width write value f g = pick-elim P (misfits false width write value) _ _ (λ e. f _) (λ e. g t refl)
 sized-elim P (Refused r) width write value f g = f r
 
-place-elim : (P : Standing → Type 0) (o width : ℕ) (write : Bool) (value : ℕ) → ((r : Refusal) → P (Refused r)) → (evenData o ≡ true → (port : Port) → P (There (Data port))) →
+pub place-elim : (P : Standing → Type 0) (o width : ℕ) (write : Bool) (value : ℕ) → ((r : Refusal) → P (Refused r)) → (evenData o ≡ true → (port : Port) → P (There (Data port))) →
     (evenData o ≡ false → (t : Target) → namedAt o ≡ There t → P (There t)) → P (placeAt o width write value)
 unfolding placeAt portAt
 place-elim P o width write value f d g =
