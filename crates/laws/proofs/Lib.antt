@@ -31,3 +31,4 @@ pub mod LastValue
 pub mod Reached
 pub mod BlockedOffsets
 pub mod HeldOffsets
+pub mod ByAddress
