@@ -1,12 +1,9 @@
 -- "Device Control bit 2 set: …, reads of all offsets give 80H, data words 8080H, writes to offsets other than E have no effect", by the offset that an
 -- access reaches in whatever map, and by its width.
 use Prim.Native.Nat.{ℕ}
-use mathlib.Core.Path.{_≡_, refl, sym, ap, _∙_}
-use mathlib.Core.Bool.{Bool, true, false, true≢false, false≢true, _&&_}
+use mathlib.Core.Path.{_≡_, refl, ap}
+use mathlib.Core.Bool.{true, false, true≢false, false≢true}
 use mathlib.Core.List.{List}
-use lib.Dec.{eqb}
-use borrow.Author.Tests.{eqb-true, eqb-false}
-use Rattle.ground.proofs.Picks.{pick-elim}
 use Rattle.answers.specs.declared.Outcome.{Outcome}
 use Rattle.answers.specs.declared.Refusal.{Refusal}
 use Rattle.answers.specs.Answers.{refused}
@@ -15,13 +12,8 @@ use Rattle.maps.specs.declared.Target.{Target}
 use Rattle.maps.specs.declared.Target.the-variants.{Tuple, Option, Named, Data}
 use Rattle.maps.specs.declared.Standing.{Standing}
 use Rattle.maps.specs.declared.Standing.the-variants.{There, Refused}
-use Rattle.maps.specs.declared.Offset.{Offset}
-use Rattle.maps.specs.declared.Offset.the-variants.{At, Nowhere}
-use Rattle.maps.specs.Offsets.{offsetAt}
-use Rattle.maps.specs.Places.{namedAt, registerAt}
+use Rattle.maps.specs.declared.Offset.the-variants.{At}
 use Rattle.maps.specs.Maps.{standsAt}
-use Rattle.maps.proofs.SameOffset.{by-offset}
-use Rattle.maps.proofs.SixFirst.{read-only}
 use Rattle.maps.proofs.Standings.{Known, stands-known}
 use Rattle.registers.specs.State.{indexIn}
 use Rattle.registers.specs.Machine.{Machine}
@@ -32,9 +24,10 @@ use Rattle.card.specs.Perform.{perform}
 use Rattle.card.specs.Step.{step}
 use Rattle.card.specs.Rows.{atOption}
 use Rattle.kept.proofs.Decided.{decided-elim, meaning-elim}
-use Rattle.laws.specs.Holds.{lostInHold, offsetOf, readInHold}
+use Rattle.laws.specs.Holds.{offsetOf, readInHold}
 use Rattle.laws.proofs.Held.{meant-held-read, meant-held-data-read, meant-held-write, meant-held-data-write}
-use Rattle.laws.proofs.Reached.{not-attribute, place-elim}
+use Rattle.laws.proofs.Reached.{not-attribute}
+use Rattle.laws.proofs.Elsewhere.{loses, elsewhere-elim}
 
 -- ---- reads
 
@@ -66,64 +59,14 @@ held-reads m a o r w h =
 
 -- ---- writes
 
--- a register that takes no write, or the data port
-abbrev loses : Target → Bool
-loses (Tuple n) = false
-loses Option = false
-loses (Named r) = lostInHold r
-loses (Data port) = true
-
-abbrev losesIn : Standing → Bool
-losesIn (There t) = loses t
-losesIn (Refused r) = true
-
-named-loses : (o : ℕ) → (o ≡ 0xE → ⊥) → losesIn (namedAt o) ≡ true
-unfolding namedAt
-named-loses o n =
-    let P : Standing → Type 0 = λ s. losesIn s ≡ true in
-    pick-elim P (eqb o 9) _ _ (λ e. refl)
-    (λ e. pick-elim P (eqb o 1) _ _ (λ e. refl)
-    (λ e. pick-elim P (eqb o 0xD) _ _ (λ e. refl)
-    (λ e. pick-elim P (eqb o 2) _ _ (λ e. refl)
-    (λ e. pick-elim P (eqb o 3) _ _ (λ e. refl)
-    (λ e. pick-elim P (eqb o 4) _ _ (λ e. refl)
-    (λ e. pick-elim P (eqb o 5) _ _ (λ e. refl)
-    (λ e. pick-elim P (eqb o 6) _ _ (λ e. refl)
-    (λ e. pick-elim P (eqb o 7) _ _ (λ e. refl)
-    (λ e. pick-elim P (eqb o 0xE) _ _ (λ e. absurd (n (eqb-true o 0xE e)))
-    (λ e. pick-elim P (eqb o 0xF) _ _ (λ e. refl) (λ e. refl)))))))))))
-
 target-lost : (t : Target) (value : ℕ) (tuples : List ℕ) (m : Machine) → m .state .control .held ≡ true → loses t ≡ true → perform (targeted t true value tuples) m .next ≡ m
 target-lost (Tuple n) value tuples m h b = absurd (false≢true b)
 target-lost Option value tuples m h b = absurd (false≢true b)
 target-lost (Named r) value tuples m h b = ap (λ (y : Effect). y .next) (meant-held-write r _ m h b)
 target-lost (Data port) value tuples m h b = ap (λ (y : Effect). y .next) (meant-held-data-write port value m h)
 
-offset-lost : (o : Offset) (width value : ℕ) (tuples : List ℕ) (m : Machine) → m .state .control .held ≡ true → (o ≡ At 0xE → ⊥) →
-    perform (standing (registerAt o width true value) true value tuples) m .next ≡ m
-unfolding registerAt perform
-offset-lost (At o) width value tuples m h n =
-    place-elim (λ (s : Standing). perform (standing s true value tuples) m .next ≡ m) o width true value (λ r. refl)
-    (λ e port. target-lost (Data port) value tuples m h refl)
-    (λ e t i. target-lost t value tuples m h (sym (ap losesIn i) ∙ named-loses o (λ z. n (ap (λ (k : ℕ). At k) z))))
-offset-lost Nowhere width value tuples m h n = refl
-
--- in attribute memory, and by the offset in every other space
-stands-lost : (attribute : Bool) (space index address width value : ℕ) (tuples : List ℕ) (m : Machine) → eqb space 0 ≡ attribute →
-    m .state .control .held ≡ true → (offsetAt space index address ≡ At 0xE → ⊥) → (attribute && eqb address 0x200) ≡ false →
-    perform (standing (standsAt space index address width true value) true value tuples) m .next ≡ m
-unfolding perform
-stands-lost true space index address width value tuples m e h n b =
-    rw (eqb-true space 0 e, read-only index address width value (eqb-false address 0x200 b))
-stands-lost false space index address width value tuples m e h n b =
-    rw (by-offset space index address width true value (eqb-false space 0 e)) (offset-lost (offsetAt space index address) width value tuples m h n)
-
 -- every write but those to offset E and to attribute 200H, accepted or refused: in whatever space, where something stands and where nothing does
 pub held-writes : (m : Machine) (a : Access) → a .write ≡ true → m .state .control .held ≡ true → (offsetOf m a ≡ At 0xE → ⊥) → atOption (a .space) (a .address) ≡ false →
     step m a .next ≡ m
 unfolding step perform
-held-writes m a w h n b =
-    let P : Meaning → Type 0 = λ x. perform x m .next ≡ m in
-    meaning-elim P m a refl refl refl refl
-    (λ f s k t. decided-elim P (m .state) a refl refl
-    (λ i e. rw w (stands-lost (eqb (a .space) 0) (a .space) (indexIn (m .state .option)) (a .address) (a .width) (a .value) (a .tuples) m refl h n b)))
+held-writes m a w h n b = elsewhere-elim (λ (x : Meaning). perform x m .next ≡ m) m a w n b (λ r. refl) (λ t l. target-lost t (a .value) (a .tuples) m h l)

@@ -1,54 +1,53 @@
 -- 01, "Maps", Configuration Option: "Reading gives the last value", in a Device Control hold too.
 use Prim.Native.Nat.{ℕ}
 use mathlib.Core.Path.{_≡_, refl, ap, _∙_}
-use mathlib.Core.Bool.{false, true≢false}
+use mathlib.Core.Bool.{Bool, true, false, _&&_}
 use mathlib.Core.List.{List, [], _∷_}
+use Rattle.ground.specs.Choice.{pick}
 use Rattle.answers.specs.declared.Outcome.{Outcome}
+use Rattle.answers.specs.Answers.{refused}
+use Rattle.maps.specs.declared.Register.the-variants.{AlternateControl}
 use Rattle.registers.specs.declared.State.{State}
 use Rattle.registers.specs.Machine.{Machine}
 use Rattle.port.specs.Data.{accepted}
-use Rattle.card.specs.declared.Meaning.{Meaning}
-use Rattle.card.specs.declared.Meaning.the-variants.{TupleByte, ReadOption, WriteOption, ReadRegister, WriteRegister, ReadData, WriteData}
-use Rattle.card.specs.Access.{Access, meaning}
+use Rattle.card.specs.declared.Meaning.the-variants.{ReadOption}
+use Rattle.card.specs.Access.{Access}
 use Rattle.card.specs.Perform.{perform}
 use Rattle.card.specs.Step.{Stepped, stepped, step, play}
-use Rattle.laws.specs.Settings.{Settings, settingsAfter, writesOption, NoOptionWrite}
-use Rattle.laws.proofs.Meant.{step-by}
-use Rattle.laws.proofs.SettingsRule.{meant-settings}
+use Rattle.card.specs.Rows.{atOption, offsetIn}
+use Rattle.laws.specs.Holds.{offsetOf}
+use Rattle.laws.specs.Settings.{Settings, settingsOf, optionSettings, controlAfter, takes, writesOption, NoOptionWrite}
+use Rattle.laws.proofs.Meant.{step-as}
+use Rattle.laws.proofs.ByAddress.{means-option-read}
+use Rattle.laws.proofs.SettingsAt.{settings-at}
 
-pub meant-option-read : (m : Machine) → perform ReadOption m ≡ accepted (m .state .option) m
+-- a read at attribute 200H gives the option and leaves the machine
+pub option-at-200 : (m : Machine) (a : Access) → a .space ≡ 0 → a .address ≡ 0x200 → a .write ≡ false → refused (step m a .outcome) ≡ false →
+    step m a ≡ stepped (accepted (m .state .option) m)
 unfolding perform
-meant-option-read m = refl
+option-at-200 m a s d w n = step-as m a ReadOption (means-option-read m a s d w n)
 
-pub option-read : (m : Machine) (a : Access) → meaning m a ≡ ReadOption → step m a ≡ stepped (accepted (m .state .option) m)
-option-read m a e = step-by m a ReadOption (accepted (m .state .option) m) e (meant-option-read m)
+-- an accepted write there sets it, and no other access changes it
+option-by : (took here control : Bool) (v : ℕ) (s : State) → pick took (pick here (optionSettings v s) (pick control (record { option = s .option; control = controlAfter AlternateControl v (s .control) }) (settingsOf s))) (settingsOf s) .option ≡ pick (took && here) v (s .option)
+option-by true true control v s = refl
+option-by true false true v s = refl
+option-by true false false v s = refl
+option-by false here control v s = refl
 
-same-option : (x : Meaning) (s : State) → writesOption x ≡ false → settingsAfter x s .option ≡ s .option
-same-option (Meaning.Refused r) s e = refl
-same-option (TupleByte b) s e = refl
-same-option ReadOption s e = refl
-same-option (WriteOption v) s e = absurd (true≢false e)
-same-option (ReadRegister r) s e = refl
-same-option (WriteRegister r v) s e = refl
-same-option (ReadData port) s e = refl
-same-option (WriteData port v) s e = refl
-
-pub meant-option-kept : (x : Meaning) (m : Machine) → writesOption x ≡ false → perform x m .next .state .option ≡ m .state .option
-meant-option-kept x m e = ap (λ (k : Settings). k .option) (meant-settings x m) ∙ same-option x (m .state) e
-
-pub meant-option-stored : (v : ℕ) (m : Machine) → perform (WriteOption v) m .next .state .option ≡ v
-meant-option-stored v m = ap (λ (k : Settings). k .option) (meant-settings (WriteOption v) m)
+pub option-after : (m : Machine) (a : Access) → step m a .next .state .option ≡ pick (writesOption m a) (a .value) (m .state .option)
+option-after m a =
+    ap (λ (k : Settings). k .option) (settings-at m a)
+    ∙ option-by (takes m a) (atOption (a .space) (a .address)) (offsetIn (0xE ∷ []) (offsetOf m a)) (a .value) (m .state)
 
 option-played : (l : List Access) (m : Machine) → NoOptionWrite m l → play m l .last .state .option ≡ m .state .option
-unfolding play step
+unfolding play
 option-played [] m n = refl
-option-played (a ∷ l) m n = option-played l (step m a .next) (n .1) ∙ meant-option-kept (meaning m a) m (n .0)
+option-played (a ∷ l) m n = option-played l (step m a .next) (n .1) ∙ option-after m a ∙ rw (n .0)
 
--- after a write of v, and whatever accesses that write the register no more, a read gives v
-pub last-value : (m : Machine) (a : Access) (v : ℕ) (l : List Access) (b : Access) → meaning m a ≡ WriteOption v → NoOptionWrite (step m a .next) l →
-    meaning (play (step m a .next) l .last) b ≡ ReadOption → step (play (step m a .next) l .last) b .outcome ≡ Outcome.Accepted v
-unfolding step
-last-value m a v l b e n r =
-    ap (λ (s : Stepped). s .outcome) (option-read (play (step m a .next) l .last) b r)
-    ∙ ap (λ (k : ℕ). Outcome.Accepted k)
-    (option-played l (step m a .next) n ∙ ap (λ (x : Meaning). perform x m .next .state .option) e ∙ meant-option-stored v m)
+-- after an accepted write at 200H, and whatever accesses that write there no more, a read at 200H gives the value written
+pub last-value : (m : Machine) (a : Access) (l : List Access) (b : Access) → writesOption m a ≡ true → NoOptionWrite (step m a .next) l →
+    let n = play (step m a .next) l .last in
+    b .space ≡ 0 → b .address ≡ 0x200 → b .write ≡ false → refused (step n b .outcome) ≡ false → step n b .outcome ≡ Outcome.Accepted (a .value)
+last-value m a l b e n s d w f =
+    ap (λ (x : Stepped). x .outcome) (option-at-200 (play (step m a .next) l .last) b s d w f)
+    ∙ ap (λ (k : ℕ). Outcome.Accepted k) (option-played l (step m a .next) n ∙ option-after m a ∙ rw e)

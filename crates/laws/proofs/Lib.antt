@@ -27,8 +27,10 @@ pub mod PowerOn
 pub mod ReadValue
 pub mod SettingsKept
 pub mod SettingsRule
-pub mod LastValue
 pub mod Reached
 pub mod BlockedOffsets
+pub mod Elsewhere
 pub mod HeldOffsets
 pub mod ByAddress
+pub mod SettingsAt
+pub mod LastValue

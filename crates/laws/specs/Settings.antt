@@ -2,9 +2,10 @@
 -- too. Nothing else changes them.
 use Prim.Native.Nat.{ℕ}
 use mathlib.Core.Path.{_≡_}
-use mathlib.Core.Bool.{Bool, true, false}
+use mathlib.Core.Bool.{Bool, true, false, not, _&&_}
 use mathlib.Core.List.{List, [], _∷_}
 use Rattle.ground.specs.Choice.{pick}
+use Rattle.answers.specs.Answers.{refused}
 use Rattle.maps.specs.declared.Register.{Register}
 use Rattle.maps.specs.declared.Register.the-variants.{ErrorFeature, SectorCount, SectorNumber, CylinderLow, CylinderHigh, DriveHead, StatusCommand, AlternateControl, DriveAddress}
 use Rattle.registers.specs.declared.Control.{Control}
@@ -12,8 +13,10 @@ use Rattle.registers.specs.declared.State.{State}
 use Rattle.registers.specs.Machine.{Machine}
 use Rattle.card.specs.declared.Meaning.{Meaning}
 use Rattle.card.specs.declared.Meaning.the-variants.{TupleByte, ReadOption, WriteOption, ReadRegister, WriteRegister, ReadData, WriteData}
-use Rattle.card.specs.Access.{Access, meaning}
+use Rattle.card.specs.Access.{Access}
 use Rattle.card.specs.Step.{step}
+use Rattle.card.specs.Rows.{atOption, offsetIn}
+use Rattle.laws.specs.Holds.{offsetOf}
 use Rattle.laws.specs.Turns.{bitSeven, bitTwo, bitOne}
 
 pub record Settings : Type 0 where
@@ -52,17 +55,25 @@ settingsAfter (WriteRegister r v) s = record { option = s .option; control = con
 settingsAfter (ReadData port) s = settingsOf s
 settingsAfter (WriteData port v) s = settingsOf s
 
+-- ---- the same by address: attribute 200H and offset E
+
+-- a write that is accepted
+abbrev pub takes : Machine → Access → Bool
+takes m a = a .write && not (refused (step m a .outcome))
+
+abbrev pub settingsTaken : Machine → Access → Settings
+settingsTaken m a =
+    pick (atOption (a .space) (a .address)) (optionSettings (a .value) (m .state))
+    (pick (offsetIn (0xE ∷ []) (offsetOf m a)) (record { option = m .state .option; control = controlAfter AlternateControl (a .value) (m .state .control) })
+    (settingsOf (m .state)))
+
+abbrev pub settingsAt : Machine → Access → Settings
+settingsAt m a = pick (takes m a) (settingsTaken m a) (settingsOf (m .state))
+
 -- no access of a list writes the option, each with the card as those before it left it
-abbrev pub writesOption : Meaning → Bool
-writesOption (Meaning.Refused r) = false
-writesOption (TupleByte b) = false
-writesOption ReadOption = false
-writesOption (WriteOption v) = true
-writesOption (ReadRegister r) = false
-writesOption (WriteRegister r v) = false
-writesOption (ReadData port) = false
-writesOption (WriteData port v) = false
+abbrev pub writesOption : Machine → Access → Bool
+writesOption m a = takes m a && atOption (a .space) (a .address)
 
 abbrev pub NoOptionWrite : Machine → List Access → Type 0
 NoOptionWrite m [] = Unit {0}
-NoOptionWrite m (a ∷ l) = (writesOption (meaning m a) ≡ false) × NoOptionWrite (step m a .next) l
+NoOptionWrite m (a ∷ l) = (writesOption m a ≡ false) × NoOptionWrite (step m a .next) l
