@@ -1,12 +1,11 @@
 -- 01, "Maps": what an access means by its address, if it is not refused: "even 000H..1FEH are tuple bytes 0..255", "200H the Configuration Option Register",
 -- and the registers by their offset. When it is refused: `first-row` (crates/card/proofs/FirstRow.antt).
 use Prim.Native.Nat.{ℕ, _*_, _/_, _%_, _<_, _≤_}
-use mathlib.Core.Path.{_≡_, refl, sym, ap, subst, _∙_}
+use mathlib.Core.Path.{_≡_, refl, subst, _∙_}
 use mathlib.Core.Bool.{Bool, true, false, true≢false}
-use mathlib.Core.List.{List}
 use native.Mathlib.Omega.{arith}
 use lib.ListN.{getD}
-use borrow.Author.Tests.{ne-eqb, eq-eqb, le-leb}
+use borrow.Author.Tests.{eq-eqb, le-leb}
 use Rattle.ground.proofs.Picks.{pick-elim}
 use Rattle.answers.specs.Answers.{refused}
 use Rattle.answers.specs.declared.Refusal.{Refusal}
@@ -15,7 +14,6 @@ use Rattle.maps.specs.declared.Target.{Target}
 use Rattle.maps.specs.declared.Target.the-variants.{Tuple, Option, Named}
 use Rattle.maps.specs.declared.Standing.{Standing}
 use Rattle.maps.specs.declared.Standing.the-variants.{There, Refused}
-use Rattle.maps.specs.declared.Offset.{Offset}
 use Rattle.maps.specs.declared.Offset.the-variants.{At}
 use Rattle.maps.specs.Places.{misfits, aboveThree, byteAt, tupleAt, optionAt, attributeAt, evenData, namedAt, placeAt, registerAt}
 use Rattle.maps.specs.Maps.{standsAt}

@@ -27,13 +27,16 @@ pub option-at-200 : (m : Machine) (a : Access) → a .space ≡ 0 → a .address
 unfolding perform
 option-at-200 m a s d w n = step-as m a ReadOption (means-option-read m a s d w n)
 
--- an accepted write there sets it, and no other access changes it
-option-by : (took here control : Bool) (v : ℕ) (s : State) → pick took (pick here (optionSettings v s) (pick control (record { option = s .option; control = controlAfter AlternateControl v (s .control) }) (settingsOf s))) (settingsOf s) .option ≡ pick (took && here) v (s .option)
+-- is the write accepted, at 200H, at offset E
+option-by : (took here control : Bool) (v : ℕ) (s : State) →
+    pick took (pick here (optionSettings v s) (pick control (record { option = s .option; control = controlAfter AlternateControl v (s .control) }) (settingsOf s))) (settingsOf s) .option
+    ≡ pick (took && here) v (s .option)
 option-by true true control v s = refl
 option-by true false true v s = refl
 option-by true false false v s = refl
 option-by false here control v s = refl
 
+-- an accepted write there sets it, and no other access changes it
 pub option-after : (m : Machine) (a : Access) → step m a .next .state .option ≡ pick (writesOption m a) (a .value) (m .state .option)
 option-after m a =
     ap (λ (k : Settings). k .option) (settings-at m a)

@@ -32,5 +32,6 @@ pub mod BlockedOffsets
 pub mod Elsewhere
 pub mod HeldOffsets
 pub mod ByAddress
+pub mod ByOffset
 pub mod SettingsAt
 pub mod LastValue

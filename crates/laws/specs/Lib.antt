@@ -12,3 +12,4 @@ pub mod Holds
 pub mod Turns
 pub mod ReadValue
 pub mod Settings
+pub mod ByOffset
