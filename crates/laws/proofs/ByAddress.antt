@@ -33,12 +33,12 @@ use Rattle.laws.proofs.Meant.{step-as}
 use Rattle.laws.proofs.Reached.{not-attribute}
 
 -- nothing else can stand there
-abbrev Only : Target → Standing → Type 0
+abbrev pub Only : Target → Standing → Type 0
 Only t (There u) = u ≡ t
 Only t (Refused r) = Unit {0}
 
 -- the access means what stands there, and fits it
-abbrev Means : Target → Access → Meaning → Type 0
+abbrev pub Means : Target → Access → Meaning → Type 0
 Means t a x = (x ≡ targeted t (a .write) (a .value) (a .tuples)) × Known (a .space) (a .width) (a .write) (a .value) (There t)
 
 only-means : (s : Standing) (t : Target) (m : Machine) (a : Access) → Only t s → Known (a .space) (a .width) (a .write) (a .value) s →
@@ -61,7 +61,7 @@ target-means m a t o =
 
 -- ---- attribute memory
 
-only-byte : (t : Target) (width : ℕ) (write : Bool) (value : ℕ) → Only t (byteAt t width write value)
+pub only-byte : (t : Target) (width : ℕ) (write : Bool) (value : ℕ) → Only t (byteAt t width write value)
 unfolding byteAt
 only-byte t width write value = pick-elim (Only t) (misfits false width write value) _ _ (λ e. tt) (λ e. refl)
 
@@ -103,12 +103,15 @@ only-named : (o : ℕ) (r : Register) (width : ℕ) (write : Bool) (value : ℕ)
 unfolding registerAt placeAt
 only-named o r width write value e n = rw (e, n) (only-byte (Named r) width write value)
 
+pub offset-means : (m : Machine) (a : Access) (o : ℕ) (t : Target) → offsetOf m a ≡ At o → Only t (registerAt (At o) (a .width) (a .write) (a .value)) →
+    refused (step m a .outcome) ≡ false → Means t a (meaning m a)
+offset-means m a o t p y =
+    target-means m a t
+    (rw (by-offset (a .space) (indexIn (m .state .option)) (a .address) (a .width) (a .write) (a .value) (not-attribute (a .space) (indexIn (m .state .option)) (a .address) o p), p) y)
+
 named-means : (m : Machine) (a : Access) (o : ℕ) (r : Register) → evenData o ≡ false → namedAt o ≡ There (Named r) → offsetOf m a ≡ At o → refused (step m a .outcome) ≡ false →
     Means (Named r) a (meaning m a)
-named-means m a o r e n p =
-    target-means m a (Named r)
-    (rw (by-offset (a .space) (indexIn (m .state .option)) (a .address) (a .width) (a .write) (a .value) (not-attribute (a .space) (indexIn (m .state .option)) (a .address) o p), p)
-    (only-named o r (a .width) (a .write) (a .value) e n))
+named-means m a o r e n p = offset-means m a o (Named r) p (only-named o r (a .width) (a .write) (a .value) e n)
 
 pub means-register-read : (m : Machine) (a : Access) (o : ℕ) (r : Register) → evenData o ≡ false → namedAt o ≡ There (Named r) → offsetOf m a ≡ At o → a .write ≡ false →
     refused (step m a .outcome) ≡ false → meaning m a ≡ ReadRegister r

@@ -33,5 +33,6 @@ pub mod Elsewhere
 pub mod HeldOffsets
 pub mod ByAddress
 pub mod ByOffset
+pub mod NoTransfer
 pub mod SettingsAt
 pub mod LastValue

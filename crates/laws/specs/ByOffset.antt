@@ -1,11 +1,12 @@
 -- 01, "Maps", the table of offsets, and "Registers": what a read and a write of each offset does that is not refused.
 use Prim.Native.Nat.{ℕ, _+_, _*_, _-_, _/_, _%_}
 use mathlib.Core.Path.{_≡_}
-use mathlib.Core.Bool.{true, false}
+use mathlib.Core.Bool.{Bool, true, false, not}
 use lib.Dec.{eqb}
 use Rattle.ground.specs.Choice.{pick}
 use Rattle.answers.specs.Answers.{refused}
 use Rattle.maps.specs.declared.Offset.the-variants.{At}
+use Rattle.maps.specs.declared.Port.{Port}
 use Rattle.registers.specs.declared.Phase.{Phase}
 use Rattle.registers.specs.declared.Phase.the-variants.{Idle, DataIn, DataOut}
 use Rattle.registers.specs.State.{withCount, withAddress}
@@ -74,3 +75,20 @@ WriteTable m =
     × Writes m 5 (λ v. addressed m (b .sector) (b .low) v (b .head))
     × Writes m 6 (λ v. addressed m (b .sector) (b .low) (b .high) (stored v))
     × Writes m 0xF (λ v. m)
+
+-- ---- data
+
+-- "0, 8, 9 data": a word or a byte at 0 and 8, a byte at 9
+abbrev pub portFor : ℕ → ℕ → Port
+portFor offset width = pick (eqb offset 9) Port.Odd (pick (eqb width 2) Port.Word Port.Even)
+
+-- "With no transfer that way, a read gives FFH or FFFFH"
+abbrev pub thatWay : Phase → Bool → Bool
+thatWay Idle write = false
+thatWay (DataIn t) write = not write
+thatWay (DataOut t) write = write
+
+abbrev pub nothingRead : Port → ℕ
+nothingRead Port.Even = 0xFF
+nothingRead Port.Odd = 0xFF
+nothingRead Port.Word = 0xFFFF
