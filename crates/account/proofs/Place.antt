@@ -4,7 +4,8 @@ use mathlib.Core.Bool.{Bool, true, false, not, _||_, false≢true}
 use mathlib.Core.Path.{_≡_, refl, sym, ap}
 use native.Mathlib.Omega.{arith}
 use lib.Dec.{ltb, leb, eqb}
-use borrow.Author.Tests.{eq-eqb, ne-eqb, lt-ltb, le-ltb, le-leb, lt-leb, ltb-true, ltb-false, leb-true, leb-false}
+use borrow.Author.Tests.{eq-eqb, ne-eqb, lt-ltb, le-ltb, leb-true, leb-false}
+use Rattle.ground.proofs.Below.{not-below}
 use Rattle.ground.specs.Choice.{pick, every}
 use Rattle.ground.proofs.Picks.{both-of}
 use Rattle.geometry.specs.declared.Geometry.{Geometry}
@@ -51,13 +52,6 @@ pub cylinder-is : (a : Address) → cylinderNumber a ≡ cylinderOf a
 cylinder-is a = omega arith
 
 -- ---- what is bad is not good
-
-pub not-below : (i n : ℕ) → leb n i ≡ not (ltb i n)
-not-below i n = go (ltb i n) refl
-  where
-    go : (b : Bool) → ltb i n ≡ b → leb n i ≡ not b
-    go true e = lt-leb n i (ltb-true i n e)
-    go false e = le-leb n i (ltb-false i n e)
 
 -- s 1..S
 abbrev within : ℕ → ℕ → Bool

@@ -4,6 +4,7 @@ use mathlib.Core.Bool.{Bool, true, false, not}
 use mathlib.Core.Path.{_≡_, refl}
 use mathlib.Core.List.{List}
 use lib.Dec.{ltb}
+use Rattle.ground.proofs.Below.{not-below}
 use Rattle.ground.specs.Choice.{pick}
 use Rattle.geometry.specs.declared.Sought.{Sought}
 use Rattle.geometry.specs.Address.{seek, byLba, lbaOf, headOf, cylinderOf}
@@ -14,7 +15,7 @@ use Rattle.account.specs.Plain.{sectorsOf, Well, NotFound}
 use Rattle.account.specs.Place.{judged}
 use Rattle.account.specs.Table.{seeks}
 use Rattle.account.specs.Host.{plainIn}
-use Rattle.account.proofs.Place.{selects-is, lba-is, cylinder-is, not-below}
+use Rattle.account.proofs.Place.{selects-is, lba-is, cylinder-is}
 use Rattle.account.proofs.Seats.{Shaped}
 use Rattle.account.proofs.Tried.{endingOf}
 

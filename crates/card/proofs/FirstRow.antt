@@ -27,7 +27,8 @@ use Rattle.card.specs.Perform.{perform}
 use Rattle.card.specs.Step.{step}
 use Rattle.card.specs.Opening.{openRefused, openingTable, opened}
 use Rattle.card.specs.Doors.{refusedBy, optionByMode, optionAnswered, controlAnswered}
-use Rattle.card.specs.Rows.{atOption, mode0, answering, accessTable, openingRows, optionTable, controlTable}
+use Rattle.card.specs.Rows.{atOption, mode0, answering, accessTable, optionTable, controlTable}
+use Rattle.card.specs.OpeningRows.{openingRows}
 use Rattle.card.proofs.RowTests.{away-is, answering-is}
 use Rattle.card.proofs.HalfRow.{numberAfter}
 use Rattle.card.proofs.PlaceRows.{stands-told}

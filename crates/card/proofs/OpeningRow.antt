@@ -7,6 +7,7 @@ use lib.Dec.{eqb, leb, ltb}
 use lib.ListN.{length}
 use native.Mathlib.Omega.{arith}
 use borrow.Author.Tests.{leb-true, leb-false, lt-leb, lt-ltb, le-ltb, ne-eqb}
+use Rattle.ground.proofs.Picks.{pick-not}
 use Rattle.ground.specs.Choice.{pick, every}
 use Rattle.answers.specs.Answers.{numberOf}
 use Rattle.answers.specs.Rows.{firstOf}
@@ -14,7 +15,7 @@ use Rattle.geometry.specs.declared.Geometry.{Geometry}
 use Rattle.geometry.specs.Limits.{fits, totalOf}
 use Rattle.sectors.specs.Marks.{marksFit}
 use Rattle.card.specs.Opening.{openingTable}
-use Rattle.card.specs.Rows.{inLimits, anyAbove2, openingRows}
+use Rattle.card.specs.OpeningRows.{inLimits, anyAbove2, openingRows}
 
 -- ---- row 1
 limits-by : (c d h i s t n m : Bool) → (every (c ∷ d ∷ every (h ∷ i ∷ s ∷ t ∷ []) ∷ n ∷ []) && m) ≡ ((c && d) && (h && i) && (s && t) && n && m)
@@ -48,10 +49,6 @@ above-is [] = refl
 above-is (mark ∷ marks) = rw (above-is marks) (above-by mark (anyAbove2 marks) (leb mark 2) refl)
 
 -- ---- rows 2 and 3: N is C·H·S where row 1 does not apply
-pick-not : {A : Type 0} (t : Bool) (x y : A) → pick (not t) x y ≡ pick t y x
-pick-not true x y = refl
-pick-not false x y = refl
-
 total-by : (g : Geometry) (m t : Bool) (f : ℕ → ℕ) → fits g ≡ t → pick (t && m) (f (totalOf g)) 1 ≡ pick (t && m) (f (g .cylinders * g .heads * g .sectors)) 1
 unfolding totalOf
 total-by g m true f e = rw e

@@ -5,3 +5,4 @@ pub mod Verdict
 pub mod Opening
 pub mod Doors
 pub mod Rows
+pub mod OpeningRows

@@ -1,15 +1,14 @@
--- 01, "Answers": the rows of an access, of the opening and of the two resets' methods, each with its test in 01's words.
--- An access's share with the card's own definitions what is well made, N, the bits of the option, and the offset that a map gives to an address; the opening's nothing.
+-- 01, "Answers": the rows of an access and of the two resets' methods, each with its test in 01's words.
+-- They share with the card's own definitions what is well made, N, the bits of the option, and the offset that a map gives to an address.
 use Prim.Native.Nat.{ℕ, _*_, _%_}
 use mathlib.Core.Bool.{Bool, true, false, not, _&&_, _||_}
 use mathlib.Core.List.{List, [], _∷_}
 use lib.Dec.{eqb, leb, ltb}
 use lib.ListN.{length}
 use Rattle.ground.specs.Choice.{pick}
-use Rattle.answers.specs.declared.Refusal.the-variants.{GeometryOrMode, NotWellMade, StoreLength, MarksLength, TupleBufferLength, MarkAboveTwo}
+use Rattle.answers.specs.declared.Refusal.the-variants.{NotWellMade, StoreLength, MarksLength, TupleBufferLength}
 use Rattle.answers.specs.declared.Refusal.the-variants.{HeldBySreset, SpaceSilent, NoRegister, WidthOrValue, IndexAboveThree, HalfMoved}
 use Rattle.answers.specs.Rows.{Row, When, Unless}
-use Rattle.geometry.specs.declared.Geometry.{Geometry}
 use Rattle.maps.specs.declared.Mode.{Mode}
 use Rattle.maps.specs.declared.Mode.the-variants.{PcCard, TrueIde}
 use Rattle.maps.specs.declared.Offset.{Offset}
@@ -107,27 +106,7 @@ oneMoved Half.High = true
 abbrev pub halfGone : Offset → ℕ → Half → Bool
 halfGone o width half = (atOddData o && highMoved half) || (atEvenData o && eqb width 2 && oneMoved half)
 
--- 1: "geometry or mode outside the limits": "C 1..65,535, H 1..16, S 1..255, N = C·H·S at most 65,535"; "Mode: 0 PC Card, 1 True IDE"
-abbrev pub within : ℕ → ℕ → ℕ → Bool
-within low high n = leb low n && leb n high
-
-abbrev pub sectorCount : Geometry → ℕ
-sectorCount g = g .cylinders * g .heads * g .sectors
-
-abbrev pub inLimits : Geometry → ℕ → Bool
-inLimits g mode =
-    within 1 65535 (g .cylinders)
-    && within 1 16 (g .heads)
-    && within 1 255 (g .sectors)
-    && leb (sectorCount g) 65535
-    && (eqb mode 0 || eqb mode 1)
-
--- 4: "a mark above 2"
-abbrev pub anyAbove2 : List ℕ → Bool
-anyAbove2 [] = false
-anyAbove2 (mark ∷ marks) = ltb 2 mark || anyAbove2 marks
-
--- ---- the tables
+-- ---- the tables; the opening's is in OpeningRows.antt
 
 abbrev pub accessTable : Machine → Access → List Row
 accessTable m a =
@@ -143,16 +122,6 @@ accessTable m a =
     ∷ When (unfit (atEvenData o) (a .width) (a .write) (a .value)) WidthOrValue
     ∷ When (atOption (a .space) (a .address) && indexAbove (a .write) (a .value)) IndexAboveThree
     ∷ When (halfGone o (a .width) (movedSoFar m (a .write))) HalfMoved
-    ∷ []
-
--- the opening: "Store length is 512·N, marks length N", "a 256-byte tuple buffer"
-abbrev pub openingRows : Geometry → ℕ → List ℕ → List ℕ → List ℕ → List Row
-openingRows g mode store marks tuples =
-    Unless (inLimits g mode) GeometryOrMode
-    ∷ Unless (eqb (length store) (512 * sectorCount g)) StoreLength
-    ∷ Unless (eqb (length marks) (sectorCount g)) MarksLength
-    ∷ Unless (eqb (length tuples) 256) TupleBufferLength
-    ∷ When (anyAbove2 marks) MarkAboveTwo
     ∷ []
 
 -- the option as a method: a byte write to attribute 200H

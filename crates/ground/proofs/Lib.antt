@@ -3,3 +3,4 @@ pub mod OnlyOne
 pub mod Lists
 pub mod Picks
 pub mod Every
+pub mod Below

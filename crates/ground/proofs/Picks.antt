@@ -33,3 +33,7 @@ not-first false u e = (refl, e)
 pub un-not : (b t : Bool) → not b ≡ t → b ≡ not t
 un-not true t p = ap not p
 un-not false t p = ap not p
+
+pub pick-not : {A : Type 0} (t : Bool) (x y : A) → pick (not t) x y ≡ pick t y x
+pick-not true x y = refl
+pick-not false x y = refl

@@ -20,7 +20,7 @@ use Rattle.account.specs.Follows.{Able, commanded, afterBy, AcceptedCommand, af
 use Rattle.laws.specs.Changes.{storeMarksIn}
 use Rattle.hosts.specs.Moment.{CalmBy, Calm, storeMarksOf, wholeOf, storedOf, storedFrom, writtenSoFar, soFar}
 use Rattle.hosts.proofs.Moment.{means-at-every-moment, at-every-moment}
-use Rattle.hosts.proofs.FirstStored.{least-both}
+use Rattle.hosts.proofs.Least.{least-both}
 
 none-yet : (l : Place) (p : Plain) (d : List ℕ) → length d < 512 → writtenSoFar l p d ≡ storeMarksOf p
 unfolding writtenSoFar replaced cleared

@@ -4,11 +4,10 @@ use mathlib.Core.Bool.{Bool, true, false}
 use mathlib.Core.Path.{_≡_, refl, sym, ap, _∙_, subst}
 use mathlib.Core.List.{List, _++_}
 use native.Mathlib.Omega.{arith}
-use lib.Dec.{ltb, leb}
+use lib.Dec.{ltb}
 use lib.ListN.{length, take, drop, set, getD, length-drop, length-set, List·getD-append}
 use lib.Seq.{getD-set-same, length-take-le, getD-append-add, getD-take, getD-drop}
-use borrow.Author.Tests.{ltb-true, ltb-false, leb-true, leb-false}
-use Rattle.ground.specs.Choice.{pick}
+use borrow.Author.Tests.{ltb-true, ltb-false}
 use Rattle.geometry.specs.Limits.{totalOf}
 use Rattle.registers.specs.Machine.{Machine}
 use Rattle.card.specs.declared.Meaning.{Meaning}
@@ -25,13 +24,14 @@ use Rattle.account.specs.Notes.{noNotes, wayOf}
 use Rattle.account.specs.Follows.{Able, commanded, afterBy, AcceptedCommand, after}
 use Rattle.sectors.specs.Sectors.{StoreMarks}
 use Rattle.laws.specs.Changes.{storeMarksIn}
-use Rattle.hosts.specs.Moment.{CalmBy, Calm, least, wholeOf, storedOf, storedFrom, writtenSoFar, soFar, FirstStored}
+use Rattle.hosts.specs.Moment.{CalmBy, Calm, wholeOf, storedOf, storedFrom, writtenSoFar, soFar, FirstStored}
 use Rattle.account.proofs.Seats.{courseIn, seat-room, room-total}
 use Rattle.account.proofs.Stored.{LentFor, put-length}
 use Rattle.account.proofs.Commands.{first-at}
 use Rattle.account.proofs.Theorem.{by-meaning}
 use Rattle.account.proofs.Accepted.{given, able}
 use Rattle.account.proofs.Elsewhere.{replaced-same, cleared-same, run-inside}
+use Rattle.hosts.proofs.Least.{least-both}
 use Rattle.hosts.proofs.Moment.{means-at-every-moment}
 
 -- ---- the sectors put
@@ -92,14 +92,6 @@ stored-first i k n p d h e l = record {
 }
 
 -- ---- at every moment
-
-pub least-both : (a b : ℕ) → (least a b ≤ a) × (least a b ≤ b)
-unfolding least
-least-both a b = go (leb a b) refl
-  where
-    go : (x : Bool) → leb a b ≡ x → (pick x a b ≤ a) × (pick x a b ≤ b)
-    go true e = let y = leb-true a b e in (omega arith, omega arith)
-    go false e = let y = leb-false a b e in (omega arith, omega arith)
 
 soFar-at : (p : Plain) (i : ℕ) (d : List ℕ) → first p ≡ At i → soFar Writes p d ≡ storedFrom i (storedOf i p d) p d
 unfolding soFar writtenSoFar

@@ -27,7 +27,8 @@ use Rattle.account.specs.Notes.{Waiting, None, LowByte, HighByte, Notes, note, 
 use Rattle.account.specs.Follows.{AcceptedCommand, after}
 use Rattle.hosts.specs.Live.{fits, most, Small, due}
 use Rattle.hosts.specs.Choices.{offsets, dataAt, Fitting}
-use Rattle.hosts.specs.Hosts.{onward, Going, turns, Willing, next, Sends, still}
+use Rattle.hosts.specs.Hosts.{onward, Going, turns, Willing}
+use Rattle.hosts.specs.Sends.{next, Sends, still}
 use Rattle.hosts.specs.Likes.{oddThere, liked, spaceOf, evenPlace, addressOf, choiceIn, likedTurns}
 use Rattle.hosts.proofs.Live.{every-host-ends}
 use Rattle.hosts.proofs.Sent.{sends-ready-too}

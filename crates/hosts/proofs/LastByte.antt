@@ -27,7 +27,7 @@ use Rattle.account.proofs.Theorem.{by-meaning}
 use Rattle.hosts.proofs.Afterwards.{More, note-more}
 use Rattle.hosts.proofs.Reached.{hosted-more, meanings-append}
 use Rattle.hosts.proofs.Moment.{means-at-every-moment}
-use Rattle.hosts.proofs.FirstStored.{least-both}
+use Rattle.hosts.proofs.Least.{least-both}
 
 -- bytes behind the sectors put do not matter
 drop-front : (l d : List ℕ) → 512 ≤ length l → drop 512 (l ++ d) ≡ drop 512 l ++ d

@@ -1,4 +1,5 @@
 pub mod Places
+pub mod Least
 pub mod Due
 pub mod Asks
 pub mod Taken

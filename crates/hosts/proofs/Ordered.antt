@@ -19,7 +19,8 @@ use Rattle.account.specs.Host.{asks, Hosted, hostedBy}
 use Rattle.account.specs.Notes.{Waiting, None, LowByte, HighByte, Notes, noteData}
 use Rattle.hosts.specs.Live.{fits, moved}
 use Rattle.hosts.specs.Choices.{writes}
-use Rattle.hosts.specs.Hosts.{Turn, onward, Going, turn, turns, Willing, Chosen, next, nextOf}
+use Rattle.hosts.specs.Hosts.{Turn, onward, Going, turn, turns, Willing, Chosen}
+use Rattle.hosts.specs.Sends.{next, nextOf}
 use Rattle.account.proofs.Rest.{Rel, notes}
 use Rattle.hosts.proofs.Reached.{onward-append, going-append, Stands}
 use Rattle.hosts.proofs.Turns.{chosen-taken}

@@ -16,7 +16,8 @@ use Rattle.account.specs.Host.{plainOf, Hosted, hostedBy, meaningsBy}
 use Rattle.account.specs.Notes.{wayOf}
 use Rattle.account.specs.Follows.{Able, commanded, afterBy, AcceptedCommand, after}
 use Rattle.hosts.specs.Live.{due}
-use Rattle.hosts.specs.Hosts.{Turn, onward, turn, turns, Willing, itself, ReadyBy, Ready, nextOf, SendsBy, Sends}
+use Rattle.hosts.specs.Hosts.{Turn, onward, turn, turns, Willing, itself, ReadyBy, Ready}
+use Rattle.hosts.specs.Sends.{nextOf, SendsBy, Sends}
 use Rattle.account.proofs.Rest.{Rel}
 use Rattle.account.proofs.Theorem.{agreed}
 use Rattle.hosts.proofs.Reached.{Stands, reached}

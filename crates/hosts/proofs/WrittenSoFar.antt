@@ -1,14 +1,11 @@
 -- What a command has stored is what the data says that has moved.
 use Prim.Native.Nat.{ℕ, suc, _+_, _-_, _*_, _≤_, _<_}
-use mathlib.Core.Bool.{Bool, true, false}
+use mathlib.Core.Bool.{true}
 use mathlib.Core.Path.{_≡_, refl, sym, ap, _∙_, subst}
 use mathlib.Core.List.{List, [], _++_, append-nil}
 use native.Mathlib.Omega.{arith}
-use lib.Dec.{leb}
 use lib.ListN.{length, take, drop, replicate, length-append, length-replicate}
 use lib.Seq.{length-take-le}
-use borrow.Author.Tests.{leb-true, le-leb}
-use Rattle.ground.specs.Choice.{pick}
 use Rattle.registers.specs.declared.Load.{Load}
 use Rattle.registers.specs.declared.Load.the-variants.{Sectors, Buffer}
 use Rattle.registers.specs.declared.Transfer.{Transfer}
@@ -28,22 +25,11 @@ use Rattle.account.specs.Notes.{Waiting, Notes, wayOf}
 use Rattle.laws.specs.Changes.{storeMarksIn}
 use Rattle.hosts.specs.Moment.{storeMarksOf, least, wholeOf, storedFrom, writtenSoFar, soFar}
 use Rattle.account.proofs.Rest.{doneOut, restAt, here, Running, Waits, Rel}
+use Rattle.hosts.proofs.Least.{least-left, least-right}
 use Rattle.hosts.proofs.Due.{sectors-length}
 use Rattle.hosts.proofs.Written.{Written, Nowhere, From, LoadLies, LiesAt, Lies}
 use Rattle.hosts.proofs.WrittenBegins.{targetAt, targetOf}
 use Rattle.hosts.proofs.Unwritten.{run-left-alone, nowhere}
-
-least-left : (a b : ℕ) → a ≤ b → least a b ≡ a
-unfolding least
-least-left a b h = rw (le-leb a b h)
-
-least-right : (a b : ℕ) → b ≤ a → least a b ≡ b
-unfolding least
-least-right a b h = go (leb a b) refl
-  where
-    go : (x : Bool) → leb a b ≡ x → pick x a b ≡ b
-    go true e = let y = leb-true a b e in omega arith
-    go false e = refl
 
 -- of the sectors that move all are stored but for one that can't be written
 moved-done : (e : Ending) (k : ℕ) → (k ≤ movedBy e k) × (movedBy e k ≤ suc k)

@@ -1,18 +1,14 @@
 -- Hosts: at each turn whatever accesses they like, then a part of the data; and hosts that have their data.
-use Prim.Native.Nat.{ℕ, _+_, _*_}
-use mathlib.Core.Bool.{Bool, true, false}
+use Prim.Native.Nat.{ℕ}
+use mathlib.Core.Bool.{true}
 use mathlib.Core.List.{List, [], _∷_, _++_}
 use mathlib.Core.Path.{_≡_}
-use lib.ListN.{length}
 use Rattle.ground.specs.Choice.{pick}
 use Rattle.maps.specs.declared.Port.{Port}
 use Rattle.registers.specs.Machine.{Machine}
 use Rattle.transfers.specs.declared.Way.{Way}
-use Rattle.transfers.specs.declared.Way.the-variants.{In, Out}
 use Rattle.card.specs.declared.Meaning.{Meaning}
-use Rattle.card.specs.declared.Meaning.the-variants.{TupleByte, ReadOption, WriteOption, ReadRegister, WriteRegister, ReadData, WriteData}
 use Rattle.card.specs.Access.{Access, meaning}
-use Rattle.account.specs.Notes.{Waiting, None, LowByte, HighByte, Notes}
 use Rattle.account.specs.Host.{asks, GoesBy, Hosted, hostedBy, meaningsBy}
 use Rattle.hosts.specs.Live.{fits, Small, dataMeaning}
 use Rattle.hosts.specs.Choices.{Choice, accessOf, Fitting}
@@ -67,41 +63,3 @@ abbrev pub Ready : Way → Hosted → Turn Access → Type 0
 Ready way h t =
     let k = onward meaning way h (t .aside) in
     Going meaning way h (t .aside) × (asks (k .machine) ≡ true → (c : Choice) × (t .choice ≡ accessOf way c) × Fitting way k c)
-
--- ---- its data: byte i is b i
-
--- what it sends next, by the place and by what it has sent
-abbrev pub next : (ℕ → ℕ) → ℕ → Waiting → Port → ℕ
-next b n None Port.Even = b n
-next b n None Port.Odd = b (n + 1)
-next b n None Port.Word = b n + 256 * b (n + 1)
-next b n (LowByte x) port = b (n + 1)
-next b n (HighByte x) port = b n
-
-abbrev pub nextOf : (ℕ → ℕ) → Notes → Port → ℕ
-nextOf b q port = next b (length (q .done)) (q .waiting) port
-
--- a turn that moves no data aside, and then sends its own
-abbrev pub SendsBy : (ℕ → ℕ) → Way → Hosted → Turn Meaning → Type 0
-SendsBy b way h t =
-    let k = onward itself way h (t .aside) in
-    Going itself way h (t .aside) × (k .notes ≡ h .notes) × (asks (k .machine) ≡ true → (c : Chosen way k (t .choice)) × (c .value ≡ nextOf b (k .notes) (c .port)))
-
-abbrev pub Sends : (ℕ → ℕ) → Way → Hosted → Turn Access → Type 0
-Sends b way h t =
-    let k = onward meaning way h (t .aside) in
-    Going meaning way h (t .aside) × (k .notes ≡ h .notes)
-    × (asks (k .machine) ≡ true → (c : Choice) × (t .choice ≡ accessOf way c) × Fitting way k c × (c .value ≡ nextOf b (k .notes) (c .port)))
-
--- no data moves the command's way
-abbrev pub still : Way → Meaning → Bool
-still way (Meaning.Refused r) = true
-still way (TupleByte b) = true
-still way ReadOption = true
-still way (WriteOption v) = true
-still way (ReadRegister r) = true
-still way (WriteRegister r v) = true
-still In (ReadData port) = false
-still In (WriteData port v) = true
-still Out (ReadData port) = true
-still Out (WriteData port v) = false

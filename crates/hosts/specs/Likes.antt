@@ -16,7 +16,8 @@ use Rattle.account.specs.Notes.{Waiting}
 use Rattle.account.specs.Host.{Hosted}
 use Rattle.hosts.specs.Live.{fits}
 use Rattle.hosts.specs.Choices.{Choice, accessOf}
-use Rattle.hosts.specs.Hosts.{Turn, onward, turn, nextOf}
+use Rattle.hosts.specs.Hosts.{Turn, onward, turn}
+use Rattle.hosts.specs.Sends.{nextOf}
 
 -- the odd data place is memory's, and I/O's at index 1
 unfoldable pub oddThere : Mode → ℕ → Bool

@@ -11,10 +11,9 @@ use Rattle.maps.proofs.ReadValue.{read-value}
 use Rattle.registers.specs.State.{indexIn}
 use Rattle.registers.specs.Machine.{Machine}
 use Rattle.card.specs.declared.Meaning.{Meaning}
-use Rattle.card.specs.Access.{Access, standing, decided, meaning}
+use Rattle.card.specs.Access.{Access, standing, decided, meaning, withValue}
 use Rattle.card.specs.Perform.{perform}
 use Rattle.card.specs.Step.{stepped, step}
-use Rattle.laws.specs.ReadValue.{withValue}
 
 standing-read : (s : Standing) (v w : ℕ) (tuples : List ℕ) → standing s false v tuples ≡ standing s false w tuples
 standing-read (There (Tuple n)) v w tuples = refl

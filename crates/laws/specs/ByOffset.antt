@@ -25,8 +25,8 @@ Reads m o v n =
     (a : Access) → offsetOf m a ≡ At o → a .write ≡ false → refused (step m a .outcome) ≡ false → step m a ≡ stepped (accepted (pick (m .state .control .held) byteInHold v) n)
 
 -- "Drive/Head reads with bits 7 and 5 set; bit 6 selects LBA; bit 4 is stored", and bits 3..0 are the head
-abbrev pub stored : ℕ → ℕ
-stored head = head / 64 % 2 * 64 + head % 32
+abbrev pub headStored : ℕ → ℕ
+headStored head = head / 64 % 2 * 64 + head % 32
 
 -- "Drive Address: bit 7 is 0 (H), bit 6 is 0 while sector or buffer data is being written, bits 5..2 the negated head, bit 1 is 0 for drive 1, bit 0 is 0 for
 -- drive 0"
@@ -49,7 +49,7 @@ ReadTable m =
     × Reads m 3 (r .address .sector) m
     × Reads m 4 (r .address .low) m
     × Reads m 5 (r .address .high) m
-    × Reads m 6 (0xA0 + stored (r .address .head)) m
+    × Reads m 6 (0xA0 + headStored (r .address .head)) m
     × Reads m 7 (r .status) (unmarked m)
     × Reads m 0xE (r .status) m
     × Reads m 0xF (driveAddressOf (m .phase) (r .address .head)) m
@@ -73,7 +73,7 @@ WriteTable m =
     × Writes m 3 (λ v. addressed m v (b .low) (b .high) (b .head))
     × Writes m 4 (λ v. addressed m (b .sector) v (b .high) (b .head))
     × Writes m 5 (λ v. addressed m (b .sector) (b .low) v (b .head))
-    × Writes m 6 (λ v. addressed m (b .sector) (b .low) (b .high) (stored v))
+    × Writes m 6 (λ v. addressed m (b .sector) (b .low) (b .high) (headStored v))
     × Writes m 0xF (λ v. m)
 
 -- ---- data

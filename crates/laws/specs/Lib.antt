@@ -10,6 +10,5 @@ pub mod Bits
 pub mod Lent
 pub mod Holds
 pub mod Turns
-pub mod ReadValue
 pub mod Settings
 pub mod ByOffset

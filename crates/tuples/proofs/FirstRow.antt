@@ -1,11 +1,13 @@
 -- 01, "Answers": "Tuple reading checks 5, 16, 13. Writing checks 5, 15, 14.": the first that applies is given.
 use Prim.Native.Nat.{ℕ}
 use mathlib.Core.Path.{_≡_, refl, ap, _∙_}
-use mathlib.Core.Bool.{Bool, true, false, not}
+use mathlib.Core.Bool.{Bool, true, false}
 use mathlib.Core.List.{List, [], _∷_}
 use lib.Dec.{eqb, leb}
 use lib.ListN.{length}
 use borrow.Author.Tests.{eqb-true}
+use Rattle.ground.proofs.Picks.{pick-not}
+use Rattle.ground.proofs.Below.{below}
 use Rattle.ground.specs.Choice.{pick}
 use Rattle.answers.specs.declared.Outcome.the-variants.{Refused}
 use Rattle.answers.specs.Answers.{numberOf, outcomeNumber}
@@ -16,11 +18,7 @@ use Rattle.tuples.specs.Chain.{chainAt}
 use Rattle.tuples.specs.Read.{readTable, readOutcome}
 use Rattle.tuples.specs.Write.{allGood, tupleBytes, writeTable, writeOutcome}
 use Rattle.tuples.specs.Rows.{bytesTaken, readRows, writeRows}
-use Rattle.tuples.proofs.RowTests.{below, marked-is, bad-is, taken-is}
-
-pick-not : {A : Type 0} (t : Bool) (x y : A) → pick (not t) x y ≡ pick t y x
-pick-not true x y = refl
-pick-not false x y = refl
+use Rattle.tuples.proofs.RowTests.{marked-is, bad-is, taken-is}
 
 -- ---- reading
 read-sized : (s : List ℕ) (places : ℕ) (t : Bool) → eqb (length s) 256 ≡ t →

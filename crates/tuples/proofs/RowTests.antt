@@ -1,5 +1,4 @@
 -- The reader's and the writer's own tests say what 01's words say.
---     below           a number is below another, or not
 --     marked-is       row 13: a chain that the reader finds whole is one that comes to its end mark
 --     bad-is          row 15, of the whole list
 --     taken-is        row 14, where no tuple is bad
@@ -11,6 +10,7 @@ use native.Mathlib.Omega.{arith}
 use lib.ListN.{length, getD, length-append}
 use lib.Dec.{eqb, leb, ltb}
 use borrow.Author.Tests.{leb-true, leb-false, lt-ltb, le-ltb}
+use Rattle.ground.proofs.Below.{below}
 use Rattle.ground.specs.Choice.{pick}
 use Rattle.ground.proofs.Picks.{pick-of, both-of}
 use Rattle.tuples.specs.Chain.{Chain, stepAt, chainAt}
@@ -22,13 +22,6 @@ use Rattle.tuples.proofs.Chains.{chain-step, past, after}
 use Rattle.tuples.proofs.Goods.{is-good, long-body}
 
 -- ---- numbers
-below-by : (a b : ℕ) (t : Bool) → leb a b ≡ t → ltb b a ≡ not t
-below-by a b true e = le-ltb _ _ (leb-true a b e)
-below-by a b false e = lt-ltb _ _ (leb-false a b e)
-
-pub below : (a b : ℕ) → ltb b a ≡ not (leb a b)
-below a b = below-by a b (leb a b) refl
-
 -- ---- row 13
 -- a body that does not fit leads past the buffer
 by-fit : (s : List ℕ) (next : ℕ) (t : Bool) → leb next (length s) ≡ t → pick t (chainAt s next .ended) false ≡ chainAt s next .ended
