@@ -1,4 +1,5 @@
 -- Nothing is stored early.
+use native.Mathlib.Nat.{min-le-left, min-le-right}
 use Prim.Native.Nat.{ℕ, _<_}
 use mathlib.Core.Bool.{false, true≢false}
 use mathlib.Core.Path.{_≡_, refl, ap, _∙_}
@@ -20,12 +21,12 @@ use Rattle.account.specs.Follows.{Able, commanded, afterBy, AcceptedCommand, af
 use Rattle.laws.specs.Changes.{storeMarksIn}
 use Rattle.hosts.specs.Moment.{CalmBy, Calm, storeMarksOf, wholeOf, storedOf, storedFrom, writtenSoFar, soFar}
 use Rattle.hosts.proofs.Moment.{means-at-every-moment, at-every-moment}
-use Rattle.hosts.proofs.Least.{least-both}
 
 none-yet : (l : Place) (p : Plain) (d : List ℕ) → length d < 512 → writtenSoFar l p d ≡ storeMarksOf p
 unfolding writtenSoFar replaced cleared
 none-yet (At i) p d h =
-    let x = least-both (wholeOf d) (writeRun (courseOf p) (p .marks) i (asked (p .registers .count)) .done) in
+    let x = min-le-left (wholeOf d) (writeRun (courseOf p) (p .marks) i (asked (p .registers .count)) .done) in
+    let y = min-le-right (wholeOf d) (writeRun (courseOf p) (p .marks) i (asked (p .registers .count)) .done) in
     let e : storedOf i p d ≡ 0 = omega arith in
     ap (λ (k : ℕ). storedFrom i k p d) e
 none-yet (Bad code) p d h = refl

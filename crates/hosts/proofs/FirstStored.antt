@@ -1,4 +1,5 @@
 -- What a write has stored at any moment is the first ones of its sectors, each with the bytes sent for it; and nothing before a sector's last byte.
+use native.Mathlib.Nat.{min-le-left, min-le-right}
 use Prim.Native.Nat.{ℕ, zero, suc, _+_, _-_, _*_, _≤_, _<_}
 use mathlib.Core.Bool.{Bool, true, false}
 use mathlib.Core.Path.{_≡_, refl, sym, ap, _∙_, subst}
@@ -31,7 +32,6 @@ use Rattle.account.proofs.Commands.{first-at}
 use Rattle.account.proofs.Theorem.{by-meaning}
 use Rattle.account.proofs.Accepted.{given, able}
 use Rattle.account.proofs.Elsewhere.{replaced-same, cleared-same, run-inside}
-use Rattle.hosts.proofs.Least.{least-both}
 use Rattle.hosts.proofs.Moment.{means-at-every-moment}
 
 -- ---- the sectors put
@@ -105,7 +105,8 @@ means-first-ones-stored m v l i n e f g =
     let d = afterBy m v l .notes .done in
     let k = storedOf i (plainOf m) d in
     let o = given m n .0 in
-    let x = least-both (wholeOf d) (writeRun (courseOf (plainOf m)) (m .marks) i (asked (m .state .registers .count)) .done) in
+    let x = min-le-left (wholeOf d) (writeRun (courseOf (plainOf m)) (m .marks) i (asked (m .state .registers .count)) .done) in
+    let w = min-le-right (wholeOf d) (writeRun (courseOf (plainOf m)) (m .marks) i (asked (m .state .registers .count)) .done) in
     let y = seat-room (m .state) i (o .0) (first-at m i (o .0) f) in
     let u = run-inside unwritable WriteFault (courseOf (plainOf m)) (m .marks) (asked (m .state .registers .count)) i (omega arith) in
     let r = room-total (courseIn (m .state)) (m .state) (o .0) refl in

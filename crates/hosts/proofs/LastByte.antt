@@ -1,5 +1,6 @@
 -- The store and the marks change at a sector's last byte only, whichever sector it is.
-use Prim.Native.Nat.{ℕ, zero, suc, _+_, _*_, _≤_}
+use native.Mathlib.Nat.{min-le-left, min-le-right}
+use Prim.Native.Nat.{ℕ, min, zero, suc, _+_, _*_, _≤_}
 use mathlib.Core.Path.{_≡_, refl, sym, ap, _∙_, subst}
 use mathlib.Core.List.{List, [], _∷_, _++_, append-assoc, append-nil}
 use native.Mathlib.Omega.{arith}
@@ -21,13 +22,12 @@ use Rattle.account.specs.Host.{plainOf, Hosted, hostedBy, meanings, hosted}
 use Rattle.account.specs.Notes.{Notes, noNotes, note, wayOf}
 use Rattle.account.specs.Follows.{Able, commanded, afterBy, AcceptedCommand, after}
 use Rattle.laws.specs.Changes.{storeMarksIn}
-use Rattle.hosts.specs.Moment.{CalmBy, Calm, least, wholeOf, storedFrom, writtenSoFar, soFar}
+use Rattle.hosts.specs.Moment.{CalmBy, Calm, wholeOf, storedFrom, writtenSoFar, soFar}
 use Rattle.account.proofs.Accepted.{able}
 use Rattle.account.proofs.Theorem.{by-meaning}
 use Rattle.hosts.proofs.Afterwards.{More, note-more}
 use Rattle.hosts.proofs.Reached.{hosted-more, meanings-append}
 use Rattle.hosts.proofs.Moment.{means-at-every-moment}
-use Rattle.hosts.proofs.Least.{least-both}
 
 -- bytes behind the sectors put do not matter
 drop-front : (l d : List ℕ) → 512 ≤ length l → drop 512 (l ++ d) ≡ drop 512 l ++ d
@@ -51,9 +51,10 @@ front-written : (g : Place) (p : Plain) (l d : List ℕ) → wholeOf (l ++ d) �
 unfolding writtenSoFar
 front-written (At i) p l d e =
     let n = writeRun (courseOf p) (p .marks) i (asked (p .registers .count)) .done in
-    let x = least-both (wholeOf l) n in
-    ap (λ (k : ℕ). storedFrom i (least k n) p (l ++ d)) e
-    ∙ ap (λ (s : List ℕ). record { store = s; marks = storedFrom i (least (wholeOf l) n) p l .marks }) (replaced-front (least (wholeOf l) n) i l d (p .store) (omega arith))
+    let x = min-le-left (wholeOf l) n in
+    let y = min-le-right (wholeOf l) n in
+    ap (λ (k : ℕ). storedFrom i (min k n) p (l ++ d)) e
+    ∙ ap (λ (s : List ℕ). record { store = s; marks = storedFrom i (min (wholeOf l) n) p l .marks }) (replaced-front (min (wholeOf l) n) i l d (p .store) (omega arith))
 front-written (Bad code) p l d e = refl
 
 front-same : (row : Row) (p : Plain) (l d : List ℕ) → wholeOf (l ++ d) ≡ wholeOf l → soFar row p (l ++ d) ≡ soFar row p l

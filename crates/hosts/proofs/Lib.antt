@@ -1,5 +1,4 @@
 pub mod Places
-pub mod Least
 pub mod Due
 pub mod Asks
 pub mod Taken

@@ -19,8 +19,8 @@ use Rattle.kept.proofs.Step.{sound-kept}
 use Rattle.account.specs.Plain.{Plain, Account}
 use Rattle.account.specs.Rows.{Row, rowOf}
 use Rattle.account.specs.Table.{account}
-use Rattle.account.specs.Host.{plainOf, asks, GoesBy, MovesBy, Hosted, hostedBy, meaningsBy, Goes, Moves}
-use Rattle.account.specs.Notes.{Notes, noNotes, wayOf}
+use Rattle.account.specs.Host.{plainOf, asks, GoesBy, MovesBy, Hosted, hostedBy, meaningsBy, meanings, Goes, Moves, hosted}
+use Rattle.account.specs.Notes.{noNotes, wayOf}
 use Rattle.account.specs.Follows.{Able, commanded, afterBy, AcceptedCommand, after}
 use Rattle.hosts.specs.Live.{fits, Small, noted, dataMeaning, Taken, due}
 use Rattle.hosts.specs.Choices.{Choice, accessOf, Fitting, TakenChoice}
@@ -33,10 +33,6 @@ use Rattle.hosts.proofs.Asks.{asks-due}
 use Rattle.hosts.proofs.Taken.{taken}
 use Rattle.hosts.proofs.Reached.{Stands, reached}
 use Rattle.hosts.proofs.Turns.{ends}
-
--- what is noted is the beginning of the account's data
-beginning : (plain : List ℕ → Account) (way : Way) (m : Machine) (q : Notes) (more : List ℕ) → Rel way plain m q → take (length (q .done)) (plain (q .done ++ more) .moved) ≡ q .done
-beginning plain way m q more z = ap (λ (x : Account). take (length (q .done)) (x .moved)) (z .account more) ∙ take-append-seam (q .done) _
 
 -- ---- after a command, over what accesses mean
 
@@ -54,7 +50,9 @@ module _ (m : Machine) (v : ℕ) (l : List Meaning) (k : Able m) (g : GoesBy (co
   means-asks-while-due = asks-due (rowOf v) (plainOf m) (k .typed .count) (afterBy m v l .machine) (afterBy m v l .notes) (wayOf (rowOf v)) goes
 
   pub means-noted-so-far : (more : List ℕ) → let done = afterBy m v l .notes .done in take (length done) (account (rowOf v) (plainOf m) (done ++ more) .moved) ≡ done
-  means-noted-so-far more = beginning (account (rowOf v) (plainOf m)) (wayOf (rowOf v)) (afterBy m v l .machine) (afterBy m v l .notes) more goes
+  means-noted-so-far more =
+      let done = afterBy m v l .notes .done in
+      ap (λ (x : Account). take (length done) (x .moved)) (goes .account more) ∙ take-append-seam done _
 
 -- a host that keeps choosing comes to the end: its turns are as many as there are bytes, or more
 pub itself-same : (l : List Meaning) (m : Machine) → meaningsBy itself m l ≡ l
@@ -118,14 +116,18 @@ every-choice m a v l c w g k f = let s = stands m a v l w g in choice-taken (acc
 -- And it asks exactly as long as the host has noted less than the account moves.
 pub asks-while-due : (m : Machine) (a : Access) (v : ℕ) (l : List Access) → AcceptedCommand m a v → Goes (step m a .next) l →
     asks (after m a v l .machine) ≡ ltb (noted (after m a v l .notes)) (due (rowOf v) (plainOf m))
-asks-while-due m a v l w g =
-    asks-due (rowOf v) (plainOf m) (w .typed .count) (after m a v l .machine) (after m a v l .notes) (wayOf (rowOf v)) (stands m a v l w g .1)
+asks-while-due m a v l w =
+    by-meaning (λ x. Goes x l → let h = hosted (wayOf (rowOf v)) x noNotes l in asks (h .machine) ≡ ltb (noted (h .notes)) (due (rowOf v) (plainOf m))) m a v (w .accepted)
+    (means-asks-while-due m v (meanings (commanded v m) l) (able m a v w))
 
 -- What it has noted is the beginning of the account's data, whatever more it will have.
 pub noted-so-far : (m : Machine) (a : Access) (v : ℕ) (l : List Access) (more : List ℕ) → AcceptedCommand m a v → Goes (step m a .next) l →
     let done = after m a v l .notes .done in
     take (length done) (account (rowOf v) (plainOf m) (done ++ more) .moved) ≡ done
-noted-so-far m a v l more w g = beginning (account (rowOf v) (plainOf m)) (wayOf (rowOf v)) (after m a v l .machine) (after m a v l .notes) more (stands m a v l w g .1)
+noted-so-far m a v l more w =
+    by-meaning
+    (λ x. Goes x l → let done = hosted (wayOf (rowOf v)) x noNotes l .notes .done in take (length done) (account (rowOf v) (plainOf m) (done ++ more) .moved) ≡ done) m a v (w .accepted)
+    (λ g. means-noted-so-far m v (meanings (commanded v m) l) (able m a v w) g more)
 
 -- So every host that keeps choosing comes to the end, if it has as many turns as there are bytes.
 pub every-host-ends : (m : Machine) (a : Access) (v : ℕ) (l : List (Turn Access)) → AcceptedCommand m a v → let way = wayOf (rowOf v) in

@@ -1,5 +1,6 @@
 -- What a command has stored is what the data says that has moved.
-use Prim.Native.Nat.{ℕ, suc, _+_, _-_, _*_, _≤_, _<_}
+use native.Mathlib.Nat.{min-eq-left, min-eq-right}
+use Prim.Native.Nat.{ℕ, min, suc, _+_, _-_, _*_, _≤_, _<_}
 use mathlib.Core.Bool.{true}
 use mathlib.Core.Path.{_≡_, refl, sym, ap, _∙_, subst}
 use mathlib.Core.List.{List, [], _++_, append-nil}
@@ -23,9 +24,8 @@ use Rattle.account.specs.Table.{asked, first, fromFirst, account}
 use Rattle.account.specs.Host.{plainOf, asks}
 use Rattle.account.specs.Notes.{Waiting, Notes, wayOf}
 use Rattle.laws.specs.Changes.{storeMarksIn}
-use Rattle.hosts.specs.Moment.{storeMarksOf, least, wholeOf, storedFrom, writtenSoFar, soFar}
+use Rattle.hosts.specs.Moment.{storeMarksOf, wholeOf, storedFrom, writtenSoFar, soFar}
 use Rattle.account.proofs.Rest.{doneOut, restAt, here, Running, Waits, Rel}
-use Rattle.hosts.proofs.Least.{least-left, least-right}
 use Rattle.hosts.proofs.Due.{sectors-length}
 use Rattle.hosts.proofs.Written.{Written, Nowhere, From, LoadLies, LiesAt, Lies}
 use Rattle.hosts.proofs.WrittenBegins.{targetAt, targetOf}
@@ -52,13 +52,13 @@ module _ (c : Course) (i : ℕ) (r : Run) (p : Plain) (m : Machine) (l : List �
       sectors-length K (l ++ enough n) (omega arith)
 
   -- its end, and whatever the host writes to no effect from then on
-  ended : ((d : List ℕ) → writeDone c i r p (l ++ d) ≡ moving l (restAt Idle (plainOf m) d)) → (d : List ℕ) → storeMarksIn m ≡ storedFrom i (least (wholeOf (l ++ d)) (r .done)) p (l ++ d)
+  ended : ((d : List ℕ) → writeDone c i r p (l ++ d) ≡ moving l (restAt Idle (plainOf m) d)) → (d : List ℕ) → storeMarksIn m ≡ storedFrom i (min (wholeOf (l ++ d)) (r .done)) p (l ++ d)
   unfolding restAt
   ended a d =
       let x : 512 * K ≡ length l = sym (moves K (omega arith)) ∙ ap (λ (y : Account). length (y .moved)) (a (enough K)) ∙ ap length (append-nil l) in
       let y = moved-done (r .ending) (r .done) in
       let z = length-append l d in
-      let k : least (wholeOf (l ++ d)) (r .done) ≡ r .done = least-right (wholeOf (l ++ d)) (r .done) (omega arith) in
+      let k : min (wholeOf (l ++ d)) (r .done) ≡ r .done = min-eq-right (omega arith) in
       sym (ap (λ (u : Account). storeMarksOf (u .left)) (a d))
       ∙ run-left-alone c r (withBuffer (lastSectors K (l ++ d) (p .buffer)) (withStore (replaced i (r .done) (l ++ d) (p .store)) (cleared i (r .done) (p .marks)) p))
       ∙ ap (λ (n : ℕ). storedFrom i n p (l ++ d)) (sym k)
@@ -91,7 +91,7 @@ module _ (c : Course) (i : ℕ) (r : Run) (p : Plain) (m : Machine) (l : List �
       ap (λ (x : List ℕ). record { store = x; marks = cleared i (z .k) (p .marks) }) u ∙ ap (λ (x : List ℕ). record { store = m .store; marks = x }) v
 
   running : (t : Transfer) (w : Waiting) → Running Out t (plainOf m) w → ((d : List ℕ) → writeDone c i r p (l ++ d) ≡ moving l (restAt (DataOut t) (plainOf m) d)) →
-      LoadLies (From i) (t .load) p (here (m .state)) (t .words) (m .buffer) (m .store) (m .marks) l → storeMarksIn m ≡ storedFrom i (least (wholeOf l) (r .done)) p l
+      LoadLies (From i) (t .load) p (here (m .state)) (t .words) (m .buffer) (m .store) (m .marks) l → storeMarksIn m ≡ storedFrom i (min (wholeOf l) (r .done)) p l
   running t w h a q =
       let z = a-sector (t .load) (t .words) q in
       let s = z .size in
@@ -99,16 +99,16 @@ module _ (c : Course) (i : ℕ) (r : Run) (p : Plain) (m : Machine) (l : List �
       let x = sector-at-hand t f a in
       let y = moved-done (r .ending) (r .done) in
       let e : wholeOf l ≡ z .k = omega arith in
-      let k : least (wholeOf l) (r .done) ≡ z .k = least-left (wholeOf l) (r .done) (omega arith) ∙ e in
+      let k : min (wholeOf l) (r .done) ≡ z .k = min-eq-left (omega arith) ∙ e in
       sym (stored-whole (here (m .state)) (t .words) z) ∙ ap (λ (n : ℕ). storedFrom i n p l) (sym k)
 
   write-moment : (f : Phase) (w : Waiting) → Waits Out f (plainOf m) w → ((d : List ℕ) → writeDone c i r p (l ++ d) ≡ moving l (restAt f (plainOf m) d)) →
       LiesAt (From i) f p (here (m .state)) (m .buffer) (m .store) (m .marks) l → (d : List ℕ) → (runs f ≡ true → d ≡ []) →
-      storeMarksIn m ≡ storedFrom i (least (wholeOf (l ++ d)) (r .done)) p (l ++ d)
+      storeMarksIn m ≡ storedFrom i (min (wholeOf (l ++ d)) (r .done)) p (l ++ d)
   write-moment Idle w h a z d n = ended a d
   write-moment (DataIn t) w h a z d n = absurd h
   write-moment (DataOut t) w h a z d n =
-      running t w h a z ∙ ap (λ (x : List ℕ). storedFrom i (least (wholeOf x) (r .done)) p x) (sym (append-nil l) ∙ ap (λ (x : List ℕ). l ++ x) (sym (n refl)))
+      running t w h a z ∙ ap (λ (x : List ℕ). storedFrom i (min (wholeOf x) (r .done)) p x) (sym (append-nil l) ∙ ap (λ (x : List ℕ). l ++ x) (sym (n refl)))
 
 -- p as the command found it; d is what the host writes when the card asks no more
 writes-moment : (g : Place) (p : Plain) (m : Machine) (q : Notes) → first p ≡ g → Rel Out (account Writes p) m q → Lies (targetAt g) (starts p) m (q .done) →

@@ -1,4 +1,4 @@
--- Hosts: at each turn whatever accesses they like, then a part of the data; and hosts that have their data.
+-- Hosts: at each turn whatever accesses they like, then a part of the data.
 use Prim.Native.Nat.{ℕ}
 use mathlib.Core.Bool.{true}
 use mathlib.Core.List.{List, [], _∷_, _++_}

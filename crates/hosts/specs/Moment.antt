@@ -1,11 +1,9 @@
 -- The store and the marks at any moment of a command, by the data that has moved: what a card keeps that is pulled there.
-use Prim.Native.Nat.{ℕ, _+_, _*_, _/_, _<_}
+use Prim.Native.Nat.{ℕ, min, _+_, _*_, _/_, _<_}
 use mathlib.Core.Bool.{true}
 use mathlib.Core.List.{List, [], _∷_}
 use mathlib.Core.Path.{_≡_}
-use lib.Dec.{leb}
 use lib.ListN.{length, getD}
-use Rattle.ground.specs.Choice.{pick}
 use Rattle.sectors.specs.Sectors.{StoreMarks}
 use Rattle.registers.specs.Machine.{Machine}
 use Rattle.card.specs.declared.Meaning.{Meaning}
@@ -32,15 +30,12 @@ abbrev pub storeMarksOf : Plain → StoreMarks
 storeMarksOf p = record { store = p .store; marks = p .marks }
 
 -- "a sector is stored, and its mark set to 0, at its last byte only": as many as have moved whole, but none from the one on where the run stops
-unfoldable pub least : ℕ → ℕ → ℕ
-least a b = pick (leb a b) a b
-
 abbrev pub wholeOf : List ℕ → ℕ
 wholeOf moved = length moved / 512
 
 -- with the first sector at index i
 abbrev pub storedOf : ℕ → Plain → List ℕ → ℕ
-storedOf i p moved = least (wholeOf moved) (writeRun (courseOf p) (p .marks) i (asked (p .registers .count)) .done)
+storedOf i p moved = min (wholeOf moved) (writeRun (courseOf p) (p .marks) i (asked (p .registers .count)) .done)
 
 -- k sectors from index i, in the order of the run, each with the host's bytes for it
 abbrev pub storedFrom : ℕ → ℕ → Plain → List ℕ → StoreMarks

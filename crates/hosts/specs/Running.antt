@@ -1,6 +1,6 @@
 -- What the code promises of a call, and a list of calls.
 use Prim.Native.Nat.{ℕ}
-use mathlib.Core.Bool.{false, _&&_}
+use mathlib.Core.Bool.{true, false, _&&_}
 use mathlib.Core.List.{List, [], _∷_}
 use mathlib.Core.Path.{_≡_}
 use Rattle.ground.specs.Choice.{pick}
@@ -17,7 +17,9 @@ use Rattle.card.specs.Access.{Access, storeSized, marksSized, meaning}
 use Rattle.card.specs.Step.{step}
 use Rattle.card.specs.Doors.{machineOf, answered}
 use Rattle.account.specs.Notes.{Notes, note}
-use Rattle.account.specs.Host.{Hosted, meaningsBy}
+use Rattle.account.specs.Host.{asks, Hosted, meaningsBy}
+use Rattle.hosts.specs.Choices.{Choice, accessOf, Fitting}
+use Rattle.hosts.specs.Hosts.{Turn, onward, Going}
 
 -- of `Card::access`: its answer, with the store and the marks that it leaves, is the step
 abbrev pub Promised : Card → List ℕ → List ℕ → Access → Answer → List ℕ → List ℕ → Type 0
@@ -46,6 +48,12 @@ callMeaning m (Wrong store marks a) = meaning (lent store marks m) a
 
 abbrev pub callMeanings : Machine → List Call → List Meaning
 callMeanings m l = meaningsBy callMeaning m l
+
+-- a turn of calls is ready: those aside are allowed, and the choice is a call with the card's own store and marks at one of 01's places
+abbrev pub ReadyCall : Way → Hosted → Turn Call → Type 0
+ReadyCall way h t =
+    let k = onward callMeaning way h (t .aside) in
+    Going callMeaning way h (t .aside) × (asks (k .machine) ≡ true → (c : Choice) × (t .choice ≡ Own (accessOf way c)) × Fitting way k c)
 
 -- the host after a list of calls, each as promised, each with the card that the one before it left; what it has noted are the calls' own answers
 abbrev pub Called : Way → Card → List ℕ → List ℕ → Notes → List Call → Hosted → Type 0

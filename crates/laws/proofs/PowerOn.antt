@@ -3,10 +3,12 @@ use Prim.Native.Nat.{ℕ}
 use mathlib.Core.Path.{_≡_, refl, sym, ap, subst, _∙_}
 use mathlib.Core.Bool.{Bool, true, false}
 use mathlib.Core.List.{List}
+use lib.ListN.{replicate}
 use Rattle.answers.specs.declared.Outcome.{Outcome}
 use Rattle.answers.specs.declared.Refusal.{Refusal}
 use Rattle.answers.proofs.Outcomes.{accepts-not}
 use Rattle.geometry.specs.declared.Geometry.{Geometry}
+use Rattle.maps.specs.declared.Mode.{Mode}
 use Rattle.maps.specs.declared.Register.{Register}
 use Rattle.maps.specs.declared.Register.the-variants.{ErrorFeature, SectorCount, SectorNumber, CylinderLow, CylinderHigh, DriveHead, StatusCommand, AlternateControl, DriveAddress}
 use Rattle.registers.specs.declared.Made.{Made}
@@ -21,7 +23,7 @@ use Rattle.card.specs.Access.{Access, meaning}
 use Rattle.card.specs.Perform.{perform}
 use Rattle.card.specs.Step.{Stepped, step}
 use Rattle.card.specs.declared.Answer.{Answer}
-use Rattle.card.specs.Opening.{modeOf, openRefused, opened}
+use Rattle.card.specs.Opening.{powered, modeOf, openRefused, opened}
 use Rattle.card.specs.Doors.{machineOf}
 use Rattle.kept.proofs.DoorElim.{opened-elim}
 use Rattle.laws.specs.Turns.{bitSeven, bitTwo, bitOne, powerOnValue, ReadsPowerOn}
@@ -64,3 +66,9 @@ sreset-left-reads m a v x e f =
 pub control-left-reads : (m : Machine) (a : Access) (v : ℕ) → meaning m a ≡ WriteRegister AlternateControl v → m .state .control .held ≡ true → bitTwo v ≡ false → ReadsPowerOn (step m a .next)
 control-left-reads m a v x e f =
     subst ReadsPowerOn (sym (ap (λ (s : Stepped). s .next) (control-left m a v x e f))) (powered-reads (bitOne v) (m .state .made) (m .state .option) (m .buffer) (m .store) (m .marks))
+
+-- "buffer zeros, code 00H, default geometry, index 0"
+pub opened-rest : (g : Geometry) (mode : Mode) →
+    let c = powered g mode in (c .buffer ≡ replicate 512 0) × (c .state .code ≡ 0) × (c .state .current ≡ g) × (c .state .option ≡ 0) × (c .state .mark ≡ false) × (c .phase ≡ Idle)
+unfolding zeros
+opened-rest g mode = (refl, refl, refl, refl, refl, refl)

@@ -13,14 +13,14 @@ use Rattle.samples.specs.Passes.{reader, holdsOf}
 use Rattle.samples.specs.Lazy.{refusesAll, reads50H, ignoresWrites, makesUpCount}
 use Rattle.samples.proofs.Computing.{computing}
 
-and-false : (t u : Bool) → t ≡ false → (t && u) ≡ false
-and-false true u e = absurd (true≢false e)
-and-false false u e = refl
+first-fails : (t u : Bool) → t ≡ false → (t && u) ≡ false
+first-fails true u e = absurd (true≢false e)
+first-fails false u e = refl
 
 -- "A card that refuses all, one that always reads 50H and one that ignores writes are shut out … through samples 5, 6 and 11."
 pub refuses-all-5 : (r : Refusal) → holdsOf (refusesAll r) reader sample5 ≡ false
 unfolding computing refusesAll
-refuses-all-5 r = and-false (eqb (numberOf r) 0) _ (ne-eqb (numberOf r) 0 (λ e. omega (arith, e, number-range r)))
+refuses-all-5 r = first-fails (eqb (numberOf r) 0) _ (ne-eqb (numberOf r) 0 (λ e. omega (arith, e, number-range r)))
 
 pub reads-50h-6 : holdsOf reads50H reader sample6 ≡ false
 unfolding computing reads50H
