@@ -9,7 +9,8 @@ use Rattle.ground.proofs.Picks.{pick-of}
 use Rattle.answers.specs.declared.Refusal.{Refusal}
 use Rattle.answers.specs.declared.Refusal.the-variants.{HeldBySreset, SpaceSilent, IndexAboveThree}
 use Rattle.answers.specs.Answers.{numberOf, outcomeNumber}
-use Rattle.answers.specs.Rows.{When, Unless, firstOf, ByRows}
+use Rattle.ground.specs.Rows.{When, Unless, firstOf}
+use Rattle.answers.specs.Rows.{ByRows}
 use Rattle.answers.proofs.Rows.{first-of, by-rows}
 use Rattle.geometry.specs.declared.Geometry.{Geometry}
 use Rattle.maps.specs.declared.Mode.{Mode}

@@ -10,7 +10,7 @@ use borrow.Author.Tests.{leb-true, leb-false, lt-leb, lt-ltb, le-ltb, ne-eqb}
 use Rattle.ground.proofs.Picks.{pick-not}
 use Rattle.ground.specs.Choice.{pick, every}
 use Rattle.answers.specs.Answers.{numberOf}
-use Rattle.answers.specs.Rows.{firstOf}
+use Rattle.ground.specs.Rows.{firstOf}
 use Rattle.geometry.specs.declared.Geometry.{Geometry}
 use Rattle.geometry.specs.Limits.{fits, totalOf}
 use Rattle.sectors.specs.Marks.{marksFit}

@@ -9,7 +9,7 @@ use borrow.Author.Tests.{eqb-true, leb-true}
 use Rattle.ground.specs.Choice.{pick}
 use Rattle.answers.specs.declared.Refusal.the-variants.{NoRegister, WidthOrValue, IndexAboveThree, HalfMoved}
 use Rattle.answers.specs.Answers.{numberOf}
-use Rattle.answers.specs.Rows.{When, firstOf}
+use Rattle.ground.specs.Rows.{When, firstOf}
 use Rattle.maps.specs.declared.Port.{Port}
 use Rattle.maps.specs.declared.Register.{Register}
 use Rattle.maps.specs.declared.Target.the-variants.{Tuple, Option, Named, Data}

@@ -6,7 +6,8 @@ use lib.Dec.{eqb}
 use lib.ListN.{length, getD}
 use Rattle.ground.specs.Choice.{pick}
 use Rattle.answers.specs.declared.Refusal.the-variants.{NotWellMade, StoreLength, MarksLength, TupleBufferLength, HeldBySreset, SpaceSilent}
-use Rattle.answers.specs.Rows.{Row, When, Unless, firstOf}
+use Rattle.ground.specs.Rows.{Row, When, Unless, firstOf}
+use Rattle.answers.specs.declared.Refusal.{Refusal}
 use Rattle.maps.specs.declared.Target.{Target}
 use Rattle.maps.specs.declared.Target.the-variants.{Tuple, Option, Named, Data}
 use Rattle.maps.specs.declared.Standing.{Standing}
@@ -50,7 +51,7 @@ unfoldable pub heldAway : ℕ → ℕ → ℕ → Bool
 heldAway option space address = pick (sresetIn option) (pick (eqb space 0) (not (eqb address 0x200)) true) false
 
 -- rows 8, 7
-abbrev pub doorTable : State → Access → List Row
+abbrev pub doorTable : State → Access → List (Row Refusal)
 doorTable s a =
     When (heldAway (s .option) (a .space) (a .address)) HeldBySreset
     ∷ Unless (answersAt (a .space) (s .made .mode) (indexIn (s .option))) SpaceSilent
@@ -74,7 +75,7 @@ abbrev pub tuplesSized : List ℕ → Bool
 tuplesSized tuples = eqb (length tuples) 256
 
 -- rows 12, 2, 3, 5, by the four tests, each as it came out
-abbrev pub fitTable : Bool → Bool → Bool → Bool → List Row
+abbrev pub fitTable : Bool → Bool → Bool → Bool → List (Row Refusal)
 fitTable w s k t =
     Unless w NotWellMade
     ∷ Unless s StoreLength

@@ -8,7 +8,7 @@ use Rattle.ground.specs.Choice.{pick}
 use Rattle.answers.specs.declared.Outcome.{Outcome}
 use Rattle.answers.specs.declared.Refusal.{Refusal}
 use Rattle.answers.specs.declared.Refusal.the-variants.{GeometryOrMode, StoreLength, MarksLength, TupleBufferLength, MarkAboveTwo}
-use Rattle.answers.specs.Rows.{Row, Unless, firstOf}
+use Rattle.ground.specs.Rows.{Row, Unless, firstOf}
 use Rattle.geometry.specs.declared.Geometry.{Geometry}
 use Rattle.geometry.specs.Limits.{fits, totalOf}
 use Rattle.maps.specs.declared.Mode.{Mode}
@@ -50,7 +50,7 @@ abbrev pub powered : Geometry → Mode → Card
 powered g mode = record { phase = Idle; state = powerOn (record { mode = mode; default = g }) 0; buffer = zeros }
 
 -- rows 1, 2, 3, 5, 4
-abbrev pub openingTable : Geometry → ℕ → List ℕ → List ℕ → List ℕ → List Row
+abbrev pub openingTable : Geometry → ℕ → List ℕ → List ℕ → List ℕ → List (Row Refusal)
 openingTable g mode store marks tuples =
     Unless (fits g && leb mode 1) GeometryOrMode
     ∷ Unless (eqb (length store) (512 * totalOf g)) StoreLength

@@ -5,7 +5,8 @@ use mathlib.Core.List.{List, [], _∷_}
 use lib.Dec.{eqb, leb, ltb}
 use lib.ListN.{length}
 use Rattle.answers.specs.declared.Refusal.the-variants.{GeometryOrMode, StoreLength, MarksLength, TupleBufferLength, MarkAboveTwo}
-use Rattle.answers.specs.Rows.{Row, When, Unless}
+use Rattle.ground.specs.Rows.{Row, When, Unless}
+use Rattle.answers.specs.declared.Refusal.{Refusal}
 use Rattle.geometry.specs.declared.Geometry.{Geometry}
 
 -- 1: "geometry or mode outside the limits": "C 1..65,535, H 1..16, S 1..255, N = C·H·S at most 65,535"; "Mode: 0 PC Card, 1 True IDE"
@@ -29,7 +30,7 @@ anyAbove2 [] = false
 anyAbove2 (mark ∷ marks) = ltb 2 mark || anyAbove2 marks
 
 -- the opening: "Store length is 512·N, marks length N", "a 256-byte tuple buffer"
-abbrev pub openingRows : Geometry → ℕ → List ℕ → List ℕ → List ℕ → List Row
+abbrev pub openingRows : Geometry → ℕ → List ℕ → List ℕ → List ℕ → List (Row Refusal)
 openingRows g mode store marks tuples =
     Unless (inLimits g mode) GeometryOrMode
     ∷ Unless (eqb (length store) (512 * sectorCount g)) StoreLength

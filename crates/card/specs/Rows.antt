@@ -8,7 +8,8 @@ use lib.ListN.{length}
 use Rattle.ground.specs.Choice.{pick}
 use Rattle.answers.specs.declared.Refusal.the-variants.{NotWellMade, StoreLength, MarksLength, TupleBufferLength}
 use Rattle.answers.specs.declared.Refusal.the-variants.{HeldBySreset, SpaceSilent, NoRegister, WidthOrValue, IndexAboveThree, HalfMoved}
-use Rattle.answers.specs.Rows.{Row, When, Unless}
+use Rattle.ground.specs.Rows.{Row, When, Unless}
+use Rattle.answers.specs.declared.Refusal.{Refusal}
 use Rattle.maps.specs.declared.Mode.{Mode}
 use Rattle.maps.specs.declared.Mode.the-variants.{PcCard, TrueIde}
 use Rattle.maps.specs.declared.Offset.{Offset}
@@ -108,7 +109,7 @@ halfGone o width half = (atOddData o && highMoved half) || (atEvenData o && eqb 
 
 -- ---- the tables; the opening's is in OpeningRows.antt
 
-abbrev pub accessTable : Machine → Access → List Row
+abbrev pub accessTable : Machine → Access → List (Row Refusal)
 accessTable m a =
     let index = indexIn (m .state .option) in
     let o = offsetAt (a .space) index (a .address) in
@@ -125,7 +126,7 @@ accessTable m a =
     ∷ []
 
 -- the option as a method: a byte write to attribute 200H
-abbrev pub optionTable : ℕ → Card → List Row
+abbrev pub optionTable : ℕ → Card → List (Row Refusal)
 optionTable v c =
     Unless (wellMade (c .phase) (c .state)) NotWellMade
     ∷ Unless (mode0 (c .state .made .mode)) SpaceSilent
@@ -133,7 +134,7 @@ optionTable v c =
     ∷ []
 
 -- Device Control as a method
-abbrev pub controlTable : Card → List Row
+abbrev pub controlTable : Card → List (Row Refusal)
 controlTable c =
     Unless (wellMade (c .phase) (c .state)) NotWellMade
     ∷ When (sresetIn (c .state .option)) HeldBySreset

@@ -1,2 +1,5 @@
 pub mod Choice
+pub mod Left
 pub mod Lists
+pub mod Rows
+pub mod Tables

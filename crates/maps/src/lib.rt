@@ -26,6 +26,15 @@ pub enum Register {
     DriveAddress,
 }
 
+// An access: any space, width, address and value, read or write.
+pub struct Access {
+    pub space: u8,
+    pub width: u8,
+    pub value: u16,
+    pub address: u16,
+    pub write: bool,
+}
+
 // The data port: its even place (a byte at offset 0 or 8), its odd place (a byte at 9), or a word (at 0 or 8).
 pub enum Port {
     Even,

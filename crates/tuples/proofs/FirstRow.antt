@@ -11,7 +11,8 @@ use Rattle.ground.proofs.Below.{below}
 use Rattle.ground.specs.Choice.{pick}
 use Rattle.answers.specs.declared.Outcome.the-variants.{Refused}
 use Rattle.answers.specs.Answers.{numberOf, outcomeNumber}
-use Rattle.answers.specs.Rows.{firstOf, ByRows}
+use Rattle.ground.specs.Rows.{firstOf}
+use Rattle.answers.specs.Rows.{ByRows}
 use Rattle.answers.proofs.Rows.{first-of, by-rows}
 use Rattle.tuples.specs.declared.Entry.{Entry}
 use Rattle.tuples.specs.Chain.{chainAt}

@@ -10,7 +10,7 @@ use Rattle.ground.specs.Choice.{pick}
 use Rattle.answers.specs.declared.Outcome.{Outcome}
 use Rattle.answers.specs.declared.Outcome.the-variants.{Accepted, Refused}
 use Rattle.answers.specs.declared.Refusal.the-variants.{TupleBufferLength, TuplesTooLong, TupleBad}
-use Rattle.answers.specs.Rows.{When, Unless, firstOf}
+use Rattle.ground.specs.Rows.{When, Unless, firstOf}
 use Rattle.tuples.specs.declared.Entry.{Entry}
 use Rattle.tuples.specs.declared.Page.{Page}
 use Rattle.tuples.specs.Read.{unlessRefused}

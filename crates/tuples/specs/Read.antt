@@ -9,7 +9,8 @@ use Rattle.answers.specs.Answers.{outcomeValue}
 use Rattle.answers.specs.declared.Outcome.{Outcome}
 use Rattle.answers.specs.declared.Outcome.the-variants.{Accepted, Refused}
 use Rattle.answers.specs.declared.Refusal.the-variants.{TupleBufferLength, ListTooShort, ChainBroken}
-use Rattle.answers.specs.Rows.{Row, Unless, firstOf}
+use Rattle.ground.specs.Rows.{Row, Unless, firstOf}
+use Rattle.answers.specs.declared.Refusal.{Refusal}
 use Rattle.tuples.specs.declared.Checked.{Checked}
 use Rattle.tuples.specs.declared.Entry.{Entry}
 use Rattle.tuples.specs.declared.Handed.{Handed}
@@ -20,7 +21,7 @@ unfoldable pub counted : Chain → Outcome
 counted c = pick (c .ended) (Accepted (length (c .entries))) (Refused ChainBroken)
 
 -- "Tuple reading checks 5, 16, 13."
-abbrev pub readTable : List ℕ → ℕ → List Row
+abbrev pub readTable : List ℕ → ℕ → List (Row Refusal)
 readTable s places =
     Unless (eqb (length s) 256) TupleBufferLength
     ∷ Unless (leb 127 places) ListTooShort

@@ -7,7 +7,8 @@ use lib.ListN.{length, getD}
 use lib.Dec.{eqb, leb, ltb}
 use Rattle.ground.specs.Choice.{pick}
 use Rattle.answers.specs.declared.Refusal.the-variants.{TupleBufferLength, ListTooShort, ChainBroken, TupleBad, TuplesTooLong}
-use Rattle.answers.specs.Rows.{Row, When, Unless}
+use Rattle.ground.specs.Rows.{Row, When, Unless}
+use Rattle.answers.specs.declared.Refusal.{Refusal}
 use Rattle.tuples.specs.declared.Entry.{Entry}
 
 -- 13: "tuple chain runs past byte 255 or has no end mark": it comes to an end mark in so many steps from byte `at` on, all on bytes 0..255.
@@ -35,7 +36,7 @@ bytesTaken [] = 0
 bytesTaken (e ∷ es) = 2 + e .length + bytesTaken es
 
 -- "Tuple reading checks 5, 16, 13."; no step goes back, so 256 are enough
-abbrev pub readRows : List ℕ → ℕ → List Row
+abbrev pub readRows : List ℕ → ℕ → List (Row Refusal)
 readRows s places =
     Unless (eqb (length s) 256) TupleBufferLength
     ∷ When (ltb places 127) ListTooShort
@@ -43,7 +44,7 @@ readRows s places =
     ∷ []
 
 -- "Writing checks 5, 15, 14."
-abbrev pub writeRows : List ℕ → List Entry → ℕ → List Row
+abbrev pub writeRows : List ℕ → List Entry → ℕ → List (Row Refusal)
 writeRows bs es n =
     Unless (eqb n 256) TupleBufferLength
     ∷ When (anyBad bs es) TupleBad

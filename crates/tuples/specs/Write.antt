@@ -9,7 +9,8 @@ use Rattle.ground.specs.Choice.{pick}
 use Rattle.answers.specs.declared.Outcome.{Outcome}
 use Rattle.answers.specs.declared.Outcome.the-variants.{Accepted, Refused}
 use Rattle.answers.specs.declared.Refusal.the-variants.{TupleBufferLength, TuplesTooLong, TupleBad}
-use Rattle.answers.specs.Rows.{Row, Unless, firstOf}
+use Rattle.ground.specs.Rows.{Row, Unless, firstOf}
+use Rattle.answers.specs.declared.Refusal.{Refusal}
 use Rattle.tuples.specs.declared.Entry.{Entry}
 use Rattle.tuples.specs.Chain.{chainAt}
 use Rattle.tuples.specs.Read.{readOutcome, unlessRefused}
@@ -36,7 +37,7 @@ abbrev pub filledUp : List ℕ → List ℕ
 filledUp ts = ts ++ replicate (256 - length ts) 255
 
 -- "Writing checks 5, 15, 14."
-abbrev pub writeTable : List ℕ → List Entry → ℕ → List Row
+abbrev pub writeTable : List ℕ → List Entry → ℕ → List (Row Refusal)
 writeTable bs es n =
     Unless (eqb n 256) TupleBufferLength
     ∷ Unless (allGood bs es) TupleBad

@@ -1,0 +1,27 @@
+-- A table that can be held beside the paper: a list of its rows, in the paper's order.
+use Prim.Native.Nat.{ℕ, _/_}
+use mathlib.Core.Bool.{Bool, not, _&&_}
+use mathlib.Core.List.{List, [], _∷_}
+use lib.Dec.{eqb, leb}
+use Rattle.ground.specs.Choice.{pick}
+
+-- what stands at a number, at the numbers from one to another, and at the two-digit numbers with this first digit (H)
+pub data Entry {ℓ} (A : Type ℓ) : Type ℓ where
+  At : ℕ → A → Entry A
+  Through : ℕ → ℕ → A → Entry A
+  Digit : ℕ → A → Entry A
+
+abbrev pub names {ℓ} : {A : Type ℓ} → Entry A → ℕ → Bool
+names (At k x) n = eqb n k
+names (Through k j x) n = leb k n && leb n j
+names (Digit d x) n = eqb (n / 16) d
+
+abbrev pub held {ℓ} : {A : Type ℓ} → Entry A → A
+held (At k x) = x
+held (Through k j x) = x
+held (Digit d x) = x
+
+-- what stands at a number: the first row that names it, else what is given for the rest
+abbrev pub lookup {ℓ} : {A : Type ℓ} → List (Entry A) → ℕ → A → A
+lookup [] n rest = rest
+lookup (e ∷ l) n rest = pick (names e n) (held e) (lookup l n rest)
