@@ -16,12 +16,12 @@ names (At k x) n = eqb n k
 names (Through k j x) n = leb k n && leb n j
 names (Digit d x) n = eqb (n / 16) d
 
-abbrev pub held {ℓ} : {A : Type ℓ} → Entry A → A
-held (At k x) = x
-held (Through k j x) = x
-held (Digit d x) = x
+abbrev pub entryOf {ℓ} : {A : Type ℓ} → Entry A → A
+entryOf (At k x) = x
+entryOf (Through k j x) = x
+entryOf (Digit d x) = x
 
 -- what stands at a number: the first row that names it, else what is given for the rest
 abbrev pub lookup {ℓ} : {A : Type ℓ} → List (Entry A) → ℕ → A → A
 lookup [] n rest = rest
-lookup (e ∷ l) n rest = pick (names e n) (held e) (lookup l n rest)
+lookup (e ∷ l) n rest = pick (names e n) (entryOf e) (lookup l n rest)
