@@ -35,7 +35,7 @@ zeroState = record {
   registers = record { status = 0; error = 0; count = 0; address = record { sector = 0; low = 0; high = 0; head = 0 } };
   option = 0;
   control = record { held = false; masked = false };
-  mark = false;
+  interrupt = false;
   code = 0;
 }
 

@@ -59,7 +59,7 @@ fn zero_state() -> State
             held: false,
             masked: false,
         },
-        mark: false,
+        interrupt: false,
         code: 0,
     }
 }

@@ -12,7 +12,7 @@ use Rattle.identify.specs.Words.{identifyBytes}
 use Rattle.registers.specs.declared.Load.the-variants.{Buffer}
 use Rattle.registers.specs.declared.State.{State}
 use Rattle.registers.specs.declared.Core.{Core}
-use Rattle.registers.specs.State.{withMark, withError, withCode, withCount, withAddress, withCurrent, totalIn}
+use Rattle.registers.specs.State.{withInterrupt, withError, withCode, withCount, withAddress, withCurrent, totalIn}
 use Rattle.registers.specs.Machine.{Machine, machine, withCore}
 use Rattle.transfers.specs.declared.End.{End}
 use Rattle.transfers.specs.declared.Way.the-variants.{In, Out}
@@ -117,7 +117,7 @@ obeyed Other s m = withCore (ended End.NoSuchCommand true s) m
 
 -- "A Command write drops the transfer, keeps stored sectors, and starts afresh"; the mark is cleared "before the command's own effect"
 abbrev pub quiet : Machine → Machine
-quiet m = idleWith (withMark false (m .state)) m
+quiet m = idleWith (withInterrupt false (m .state)) m
 
 unfoldable pub commandGiven : ℕ → Machine → Machine
 commandGiven opcode m = obeyed (commandOf opcode) (started (quiet m .state)) (quiet m)

@@ -218,7 +218,7 @@ pub fn command_given(
     ensures { λ r. ⌜ machine r (now (buffer .exit)) (now (store .exit)) (now (marks .exit)) ≡ commandGiven opcode (idle state (now (buffer .entry)) (now (store .entry)) (now (marks .entry))) ⌝ }
 {
     let mut s = state;
-    s.mark = false;
+    s.interrupt = false;
     let command = command_of(opcode);
     obey(s, command, buffer, store, marks)
 }

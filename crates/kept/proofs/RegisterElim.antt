@@ -8,7 +8,7 @@ use Rattle.maps.specs.declared.Register.{Register}
 use Rattle.maps.specs.declared.Register.the-variants.{ErrorFeature, SectorCount, SectorNumber, CylinderLow, CylinderHigh, DriveHead, StatusCommand, AlternateControl, DriveAddress}
 use Rattle.registers.specs.declared.State.{State}
 use Rattle.registers.specs.declared.Core.{Core}
-use Rattle.registers.specs.State.{runs, withMark, withCount, withAddress}
+use Rattle.registers.specs.State.{runs, withInterrupt, withCount, withAddress}
 use Rattle.registers.specs.Machine.{Machine, core, coreOf, withCore}
 use Rattle.registers.specs.Resets.{controlWritten}
 use Rattle.registers.specs.Values.{afterRead, registerSet}
@@ -17,7 +17,7 @@ use Rattle.commands.specs.Table.{commandGiven}
 use Rattle.card.specs.Perform.{plainCore, registerWritten}
 
 -- only Status clears the mark
-pub read-elim : (P : State → Type 0) (r : Register) (s : State) → P s → P (withMark false s) → P (afterRead r s)
+pub read-elim : (P : State → Type 0) (r : Register) (s : State) → P s → P (withInterrupt false s) → P (afterRead r s)
 unfolding afterRead
 read-elim P ErrorFeature s a b = a
 read-elim P SectorCount s a b = a

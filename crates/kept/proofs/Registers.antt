@@ -13,7 +13,7 @@ use Rattle.registers.specs.declared.Phase.the-variants.{Idle, DataIn, DataOut}
 use Rattle.registers.specs.declared.Made.{Made}
 use Rattle.registers.specs.declared.State.{State}
 use Rattle.registers.specs.declared.Core.{Core}
-use Rattle.registers.specs.State.{runs, withMark, totalIn, locatedIn}
+use Rattle.registers.specs.State.{runs, withInterrupt, totalIn, locatedIn}
 use Rattle.registers.specs.Machine.{core}
 use Rattle.registers.specs.WellMade.{wellMade, indexFits, sresetFits, statusFits, heldIn, holdFits, wordsFit, sectorsFit, loadFits, runFits}
 use Rattle.registers.specs.Values.{afterRead, registerSet}
@@ -71,7 +71,7 @@ idle-fits (DataOut x) s t e f r = absurd (true≢false e)
 pub read-left : (r : Register) (d : Made) (p : Phase) (s : State) → CoreFits d (core p s) → CoreFits d (core p (afterRead r s))
 unfolding heldIn
 read-left r d p s f =
-    read-elim (λ (x : State). CoreFits d (core p x)) r s f (f .0, (f .1 .0, f .1 .1, f .1 .2, run-same p s (withMark false s) refl refl (f .1 .3)), f .2)
+    read-elim (λ (x : State). CoreFits d (core p x)) r s f (f .0, (f .1 .0, f .1 .1, f .1 .2, run-same p s (withInterrupt false s) refl refl (f .1 .3)), f .2)
 
 -- a register that is set is neither Status nor the map setting nor a geometry
 set-stands : (r : Register) (v : ℕ) (d : Made) (s : State) → v < 256 → StateFits d s → CountFits s →

@@ -41,7 +41,7 @@ unfolding nextRead
 on-read left d m l r =
     let q = done-ready left d (m .state) r in
     pick-elim (λ (n : Machine). Next d m n) (eqb left 0) _ _
-    (λ e. (ended-left End.Good (m .state .mark) d (sectorDone left (m .state)) (q .0), lent-same m))
+    (λ e. (ended-left End.Good (m .state .interrupt) d (sectorDone left (m .state)) (q .0), lent-same m))
     (λ e. read-next left d (idleWith (sectorDone left (m .state)) m) q (done-agrees left (m .state) e l))
 
 -- 1..256 sectors were left
@@ -50,7 +50,7 @@ unfolding loadFits sectorsFit
 few left s e = let h = leb-true left 256 (each _ e 2) in omega arith
 
 pub load-read : (load : Load) (d : Made) (m : Machine) → Ready d (m .state) → loadFits load (m .state) ≡ true → Next d m (loadRead load m)
-load-read Buffer d m r e = (ended-left End.Good (m .state .mark) d (m .state) (r .0), lent-same m)
+load-read Buffer d m r e = (ended-left End.Good (m .state .interrupt) d (m .state) (r .0), lent-same m)
 load-read (Sectors left) d m r e = on-read (left - 1) d m (few left (m .state) e) r
 
 -- ---- writing

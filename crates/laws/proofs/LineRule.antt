@@ -25,7 +25,7 @@ by-mask true mark = sym (and-false mark)
 by-mask false mark = sym (and-true mark)
 
 line-of : (s : State) → lineOf s ≡ lineUp s
-line-of s = by-mask (s .control .masked) (s .mark)
+line-of s = by-mask (s .control .masked) (s .interrupt)
 
 pub meant-line : (x : Meaning) (m : Machine) → stepped (perform x m) .line ≡ lineUp (perform x m .next .state)
 meant-line x m = line-of (perform x m .next .state)

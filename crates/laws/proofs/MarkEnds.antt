@@ -41,7 +41,7 @@ end-asks NoSuchCommand = refl
 
 -- the command is over, and the mark is set
 abbrev Over : State → Type 0
-Over n = (n .mark ≡ true) × (asks n ≡ false)
+Over n = (n .interrupt ≡ true) × (asks n ≡ false)
 
 verified : (n : ℕ) (s : State) (marks : List ℕ) → Over (verifyFrom n s marks .state)
 verified n s marks = verify-elim (λ (x : State). Unit {0}) (λ (k : Core). Over (k .state)) (λ n s u. tt) (λ e s u. (refl, end-asks e)) n s marks tt
@@ -62,12 +62,12 @@ read-first : (t : Tested) (left : ℕ) (s : State) (m : Machine) → MarkRule (C
 read-first (Passes spot) left s m = ready Read s (readTested (Passes spot) left m .state) refl refl refl
 read-first (Fails e) left s m = over Read s (readTested (Fails e) left m .state) refl (end-asks e)
 
-ask-first : (t : Tested) (left : ℕ) (s n : State) → n .mark ≡ false → MarkRule (CommandWrite Write) s (askTested t left true n .state)
+ask-first : (t : Tested) (left : ℕ) (s n : State) → n .interrupt ≡ false → MarkRule (CommandWrite Write) s (askTested t left true n .state)
 ask-first (Passes spot) left s n e = asked Write s (askTested (Passes spot) left true n .state) refl e refl
 ask-first (Fails f) left s n e = over Write s (askTested (Fails f) left true n .state) refl (end-asks f)
 
 -- s is the state before the Command write, n the state that the command starts with
-obeys : (c : Command) (s n : State) (m : Machine) → n .mark ≡ false → MarkRule (CommandWrite c) s (obeyed c n m .state)
+obeys : (c : Command) (s n : State) (m : Machine) → n .interrupt ≡ false → MarkRule (CommandWrite c) s (obeyed c n m .state)
 unfolding readSector askSector
 obeys Read s n m e = read-first (sectorTest In n (m .marks)) (countOf n) s _
 obeys Write s n m e = ask-first (addressTest n) (countOf n) s n e

@@ -20,34 +20,34 @@ gone a b s c p q r = rw (p, q, and-false b) r
 up : (a b s c : Bool) → s ≡ true → a ≡ true → a ≡ (s || (b && not c))
 up a b s c p r = rw p r
 
-mark-left : (x : Act) (s n : State) → sets x s n ≡ false → clears x s ≡ false → n .mark ≡ s .mark → MarkRule x s n
-mark-left x s n p q r = left (n .mark) (s .mark) (sets x s n) (clears x s) p q r
+mark-left : (x : Act) (s n : State) → sets x s n ≡ false → clears x s ≡ false → n .interrupt ≡ s .interrupt → MarkRule x s n
+mark-left x s n p q r = left (n .interrupt) (s .interrupt) (sets x s n) (clears x s) p q r
 
-pub mark-gone : (x : Act) (s n : State) → sets x s n ≡ false → clears x s ≡ true → n .mark ≡ false → MarkRule x s n
-mark-gone x s n p q r = gone (n .mark) (s .mark) (sets x s n) (clears x s) p q r
+pub mark-gone : (x : Act) (s n : State) → sets x s n ≡ false → clears x s ≡ true → n .interrupt ≡ false → MarkRule x s n
+mark-gone x s n p q r = gone (n .interrupt) (s .interrupt) (sets x s n) (clears x s) p q r
 
-mark-up : (x : Act) (s n : State) → sets x s n ≡ true → n .mark ≡ true → MarkRule x s n
-mark-up x s n p r = up (n .mark) (s .mark) (sets x s n) (clears x s) p r
+mark-up : (x : Act) (s n : State) → sets x s n ≡ true → n .interrupt ≡ true → MarkRule x s n
+mark-up x s n p r = up (n .interrupt) (s .interrupt) (sets x s n) (clears x s) p r
 
 -- an access that does not matter
-pub no-matter : (s n : State) → n .mark ≡ s .mark → MarkRule NoMatter s n
+pub no-matter : (s n : State) → n .interrupt ≡ s .interrupt → MarkRule NoMatter s n
 unfolding sets clears
 no-matter s n e = mark-left NoMatter s n refl refl e
 
 -- ---- a Command write
 
 -- the command is over
-pub over : (c : Command) (s n : State) → n .mark ≡ true → asks n ≡ false → MarkRule (CommandWrite c) s n
+pub over : (c : Command) (s n : State) → n .interrupt ≡ true → asks n ≡ false → MarkRule (CommandWrite c) s n
 unfolding sets
 over c s n m e = mark-up (CommandWrite c) s n (rw e) m
 
 -- a sector or the buffer is ready
-pub ready : (c : Command) (s n : State) → readsRow c ≡ true → n .mark ≡ true → asks n ≡ true → MarkRule (CommandWrite c) s n
+pub ready : (c : Command) (s n : State) → readsRow c ≡ true → n .interrupt ≡ true → asks n ≡ true → MarkRule (CommandWrite c) s n
 unfolding sets
 ready c s n r m e = mark-up (CommandWrite c) s n (rw (e, r)) m
 
 -- the first sector or the buffer is asked for
-pub asked : (c : Command) (s n : State) → readsRow c ≡ false → n .mark ≡ false → asks n ≡ true → MarkRule (CommandWrite c) s n
+pub asked : (c : Command) (s n : State) → readsRow c ≡ false → n .interrupt ≡ false → asks n ≡ true → MarkRule (CommandWrite c) s n
 unfolding sets clears
 asked c s n r m e = mark-gone (CommandWrite c) s n (rw (e, r)) refl m
 
@@ -70,7 +70,7 @@ no-end true b e = ap not e
 no-end false b e = refl
 
 -- nothing that a host sees has changed
-pub still : (w : Way) (s n : State) → n .registers .status ≡ s .registers .status → n .registers .count ≡ s .registers .count → n .mark ≡ s .mark → MarkRule (dataAct w) s n
+pub still : (w : Way) (s n : State) → n .registers .status ≡ s .registers .status → n .registers .count ≡ s .registers .count → n .interrupt ≡ s .interrupt → MarkRule (dataAct w) s n
 unfolding sets clears
 still In s n p q r =
     mark-left DataRead s n (rw (no-turn (asks s) (asks n) (another s n) (same-count _ _ (sym q)), no-end (asks s) (asks n) (ap (λ (x : ℕ). eqb x 0x58) p))) refl r
@@ -78,21 +78,21 @@ still Out s n p q r =
     mark-left DataWrite s n (rw (no-turn (asks s) (asks n) (another s n) (same-count _ _ (sym q)), no-end (asks s) (asks n) (ap (λ (x : ℕ). eqb x 0x58) p))) refl r
 
 -- the next sector is ready, or asked for
-pub turned : (w : Way) (s n : State) → asks s ≡ true → asks n ≡ true → another s n ≡ true → n .mark ≡ true → MarkRule (dataAct w) s n
+pub turned : (w : Way) (s n : State) → asks s ≡ true → asks n ≡ true → another s n ≡ true → n .interrupt ≡ true → MarkRule (dataAct w) s n
 unfolding sets
 turned In s n p q r m = mark-up DataRead s n (rw (p, q, r)) m
 turned Out s n p q r m = mark-up DataWrite s n (rw (p, q, r)) m
 
 -- writing ends, well or in error
-pub written-end : (s n : State) → asks s ≡ true → asks n ≡ false → n .mark ≡ true → MarkRule DataWrite s n
+pub written-end : (s n : State) → asks s ≡ true → asks n ≡ false → n .interrupt ≡ true → MarkRule DataWrite s n
 unfolding sets
 written-end s n p q m = mark-up DataWrite s n (rw (p, q)) m
 
 -- reading ends in error, or well
-pub read-failed : (s n : State) → asks s ≡ true → asks n ≡ false → eqb (n .registers .status) 0x50 ≡ false → n .mark ≡ true → MarkRule DataRead s n
+pub read-failed : (s n : State) → asks s ≡ true → asks n ≡ false → eqb (n .registers .status) 0x50 ≡ false → n .interrupt ≡ true → MarkRule DataRead s n
 unfolding sets
 read-failed s n p q r m = mark-up DataRead s n (rw (p, q, r)) m
 
-pub read-well : (s n : State) → asks s ≡ true → asks n ≡ false → eqb (n .registers .status) 0x50 ≡ true → n .mark ≡ s .mark → MarkRule DataRead s n
+pub read-well : (s n : State) → asks s ≡ true → asks n ≡ false → eqb (n .registers .status) 0x50 ≡ true → n .interrupt ≡ s .interrupt → MarkRule DataRead s n
 unfolding sets clears
 read-well s n p q r m = mark-left DataRead s n (rw (p, q, r)) refl m

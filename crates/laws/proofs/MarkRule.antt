@@ -31,19 +31,19 @@ use Rattle.laws.proofs.MarkData.{Runs, data-read, data-written}
 
 -- ---- the resets: was the card held, and is the bit set now
 
-option-turned : (was now : Bool) (v : ℕ) (p : Phase) (s : State) → optionTurned (turnOf was now) v p s .state .mark ≡ (false || (s .mark && not (differ now was)))
+option-turned : (was now : Bool) (v : ℕ) (p : Phase) (s : State) → optionTurned (turnOf was now) v p s .state .interrupt ≡ (false || (s .interrupt && not (differ now was)))
 unfolding turnOf optionTurned
-option-turned false true v p s = sym (and-false (s .mark))
-option-turned true false v p s = sym (and-false (s .mark))
-option-turned false false v p s = sym (and-true (s .mark))
-option-turned true true v p s = sym (and-true (s .mark))
+option-turned false true v p s = sym (and-false (s .interrupt))
+option-turned true false v p s = sym (and-false (s .interrupt))
+option-turned false false v p s = sym (and-true (s .interrupt))
+option-turned true true v p s = sym (and-true (s .interrupt))
 
-control-turned : (was now masked : Bool) (p : Phase) (s : State) → controlTurned (turnOf was now) masked p s .state .mark ≡ (false || (s .mark && not (differ now was)))
+control-turned : (was now masked : Bool) (p : Phase) (s : State) → controlTurned (turnOf was now) masked p s .state .interrupt ≡ (false || (s .interrupt && not (differ now was)))
 unfolding turnOf controlTurned
-control-turned false true masked p s = sym (and-false (s .mark))
-control-turned true false masked p s = sym (and-false (s .mark))
-control-turned false false masked p s = sym (and-true (s .mark))
-control-turned true true masked p s = sym (and-true (s .mark))
+control-turned false true masked p s = sym (and-false (s .interrupt))
+control-turned true false masked p s = sym (and-false (s .interrupt))
+control-turned false false masked p s = sym (and-true (s .interrupt))
+control-turned true true masked p s = sym (and-true (s .interrupt))
 
 -- ---- registers
 
@@ -61,7 +61,7 @@ register-read DriveAddress s = no-matter s s refl
 
 plain : (r : Register) (v : ℕ) (k : Core) → MarkRule NoMatter (k .state) (plainCore r v k .state)
 plain r v k = no-matter (k .state) _
-    (plain-elim (λ (x : Core). x .state .mark ≡ k .state .mark) r v k refl (λ e h. set-elim (λ (x : State). x .mark ≡ k .state .mark) r v (k .state) refl refl (λ a. refl)))
+    (plain-elim (λ (x : Core). x .state .interrupt ≡ k .state .interrupt) r v k refl (λ e h. set-elim (λ (x : State). x .interrupt ≡ k .state .interrupt) r v (k .state) refl refl (λ a. refl)))
 
 command-written : (held : Bool) (v : ℕ) (m : Machine) → MarkRule (writeAct StatusCommand v held) (m .state) (pick held m (commandGiven v (dropped m)) .state)
 command-written true v m = no-matter (m .state) (m .state) refl

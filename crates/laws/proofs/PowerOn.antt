@@ -69,6 +69,6 @@ control-left-reads m a v x e f =
 
 -- "buffer zeros, code 00H, default geometry, index 0"
 pub opened-rest : (g : Geometry) (mode : Mode) →
-    let c = powered g mode in (c .buffer ≡ replicate 512 0) × (c .state .code ≡ 0) × (c .state .current ≡ g) × (c .state .option ≡ 0) × (c .state .mark ≡ false) × (c .phase ≡ Idle)
+    let c = powered g mode in (c .buffer ≡ replicate 512 0) × (c .state .code ≡ 0) × (c .state .current ≡ g) × (c .state .option ≡ 0) × (c .state .interrupt ≡ false) × (c .phase ≡ Idle)
 unfolding zeros
 opened-rest g mode = (refl, refl, refl, refl, refl, refl)

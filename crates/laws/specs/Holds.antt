@@ -8,7 +8,7 @@ use Rattle.maps.specs.Offsets.{offsetAt}
 use Rattle.maps.specs.declared.Port.{Port}
 use Rattle.maps.specs.declared.Register.{Register}
 use Rattle.maps.specs.declared.Register.the-variants.{ErrorFeature, SectorCount, SectorNumber, CylinderLow, CylinderHigh, DriveHead, StatusCommand, AlternateControl, DriveAddress}
-use Rattle.registers.specs.State.{withMark, indexIn}
+use Rattle.registers.specs.State.{withInterrupt, indexIn}
 use Rattle.registers.specs.Machine.{Machine, core, withCore}
 use Rattle.card.specs.Access.{Access}
 
@@ -47,7 +47,7 @@ dataInHold Port.Word = 0x8080
 
 -- the interrupt mark is "cleared … by reading Status"; nothing else changes by reading a register
 abbrev pub unmarked : Machine → Machine
-unmarked m = withCore (core (m .phase) (withMark false (m .state))) m
+unmarked m = withCore (core (m .phase) (withInterrupt false (m .state))) m
 
 abbrev pub afterReading : Register → Machine → Machine
 afterReading ErrorFeature m = m

@@ -3,4 +3,4 @@ use mathlib.Core.Bool.{Bool, not, _&&_}
 use Rattle.registers.specs.declared.State.{State}
 
 abbrev pub lineUp : State → Bool
-lineUp s = s .mark && not (s .control .masked)
+lineUp s = s .interrupt && not (s .control .masked)

@@ -98,4 +98,4 @@ clears NoMatter s = false
 
 -- the mark after an access: it is cleared "before the command's own effect"
 abbrev pub MarkRule : Act → State → State → Type 0
-MarkRule x s n = n .mark ≡ (sets x s n || (s .mark && not (clears x s)))
+MarkRule x s n = n .interrupt ≡ (sets x s n || (s .interrupt && not (clears x s)))

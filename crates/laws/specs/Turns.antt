@@ -8,7 +8,7 @@ use Rattle.answers.specs.declared.Outcome.{Outcome}
 use Rattle.maps.specs.declared.Register.{Register}
 use Rattle.maps.specs.declared.Register.the-variants.{ErrorFeature, SectorCount, SectorNumber, CylinderLow, CylinderHigh, DriveHead, StatusCommand, AlternateControl, DriveAddress}
 use Rattle.registers.specs.declared.State.{State}
-use Rattle.registers.specs.State.{runs, withStatus, withMark, withOption, withControl}
+use Rattle.registers.specs.State.{runs, withStatus, withInterrupt, withOption, withControl}
 use Rattle.registers.specs.Machine.{Machine, core, withCore}
 use Rattle.transfers.specs.Steps.{idleWith}
 use Rattle.card.specs.declared.Card.{Card}
@@ -53,7 +53,7 @@ goingOnWith s m = withCore (core (m .phase) s) m
 
 -- a reset is entered: "A reset that ends one leaves Status 50H"; the interrupt mark is "Cleared by entering or leaving a reset"; all else stays
 abbrev pub restingState : Machine → State
-restingState m = withMark false (withStatus (pick (runs (m .phase)) 0x50 (m .state .registers .status)) (m .state))
+restingState m = withInterrupt false (withStatus (pick (runs (m .phase)) 0x50 (m .state .registers .status)) (m .state))
 
 -- ---- the Configuration Option Register
 

@@ -18,7 +18,7 @@ powerOn made option = record {
   registers = powerRegisters;
   option = option;
   control = record { held = false; masked = false };
-  mark = false;
+  interrupt = false;
   code = 0x00;
 }
 

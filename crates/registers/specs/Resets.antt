@@ -9,7 +9,7 @@ use Rattle.registers.specs.declared.State.{State}
 use Rattle.registers.specs.declared.Core.{Core}
 use Rattle.registers.specs.declared.resets.Turn.{Turn}
 use Rattle.registers.specs.declared.resets.Turn.the-variants.{Enter, Leave, Stay}
-use Rattle.registers.specs.State.{withStatus, withMark, withOption, withControl, sresetIn}
+use Rattle.registers.specs.State.{withStatus, withInterrupt, withOption, withControl, sresetIn}
 use Rattle.registers.specs.Machine.{core}
 use Rattle.registers.specs.PowerOn.{powerOn, zeros}
 
@@ -28,7 +28,7 @@ restStatus (DataOut t) status = 0x50
 
 -- a reset is entered: the transfer ends, and the interrupt mark is "cleared by entering or leaving a reset"
 abbrev pub entered : Phase → State → State
-entered p s = withMark false (withStatus (restStatus p (s .registers .status)) s)
+entered p s = withInterrupt false (withStatus (restStatus p (s .registers .status)) s)
 
 -- "Bit 7 set holds the card and ends any transfer; clearing it after that is power-on with the index just written."
 unfoldable pub optionTurned : Turn → ℕ → Phase → State → Core

@@ -16,22 +16,22 @@ use Rattle.registers.specs.declared.State.{State}
 
 -- changes of one part of the state
 abbrev pub withRegisters : Registers → State → State
-withRegisters r s = record { made = s .made; current = s .current; registers = r; option = s .option; control = s .control; mark = s .mark; code = s .code }
+withRegisters r s = record { made = s .made; current = s .current; registers = r; option = s .option; control = s .control; interrupt = s .interrupt; code = s .code }
 
 abbrev pub withCurrent : Geometry → State → State
-withCurrent g s = record { made = s .made; current = g; registers = s .registers; option = s .option; control = s .control; mark = s .mark; code = s .code }
+withCurrent g s = record { made = s .made; current = g; registers = s .registers; option = s .option; control = s .control; interrupt = s .interrupt; code = s .code }
 
 abbrev pub withOption : ℕ → State → State
-withOption v s = record { made = s .made; current = s .current; registers = s .registers; option = v; control = s .control; mark = s .mark; code = s .code }
+withOption v s = record { made = s .made; current = s .current; registers = s .registers; option = v; control = s .control; interrupt = s .interrupt; code = s .code }
 
 abbrev pub withControl : Control → State → State
-withControl k s = record { made = s .made; current = s .current; registers = s .registers; option = s .option; control = k; mark = s .mark; code = s .code }
+withControl k s = record { made = s .made; current = s .current; registers = s .registers; option = s .option; control = k; interrupt = s .interrupt; code = s .code }
 
-abbrev pub withMark : Bool → State → State
-withMark b s = record { made = s .made; current = s .current; registers = s .registers; option = s .option; control = s .control; mark = b; code = s .code }
+abbrev pub withInterrupt : Bool → State → State
+withInterrupt b s = record { made = s .made; current = s .current; registers = s .registers; option = s .option; control = s .control; interrupt = b; code = s .code }
 
 abbrev pub withCode : ℕ → State → State
-withCode n s = record { made = s .made; current = s .current; registers = s .registers; option = s .option; control = s .control; mark = s .mark; code = n }
+withCode n s = record { made = s .made; current = s .current; registers = s .registers; option = s .option; control = s .control; interrupt = s .interrupt; code = n }
 
 abbrev pub withStatus : ℕ → State → State
 withStatus v s = withRegisters (record { status = v; error = s .registers .error; count = s .registers .count; address = s .registers .address }) s
@@ -60,7 +60,7 @@ runs (DataOut t) = true
 
 -- 01, "Interrupt mark": "Each answer says if the line is up (mark set, bit 1 clear)"; "Bit 1 masks the interrupt line"
 abbrev pub lineOf : State → Bool
-lineOf s = pick (s .control .masked) false (s .mark)
+lineOf s = pick (s .control .masked) false (s .interrupt)
 
 -- N
 abbrev pub totalIn : State → ℕ

@@ -8,7 +8,7 @@ use Rattle.maps.specs.declared.Register.the-variants.{ErrorFeature, SectorCount
 use Rattle.registers.specs.declared.Phase.{Phase}
 use Rattle.registers.specs.declared.Phase.the-variants.{Idle, DataIn, DataOut}
 use Rattle.registers.specs.declared.State.{State}
-use Rattle.registers.specs.State.{withMark, withCount, withAddress}
+use Rattle.registers.specs.State.{withInterrupt, withCount, withAddress}
 
 -- bits 6 and 4..0 of Drive/Head: bits 7 and 5 are not stored
 abbrev pub headBits : ℕ → ℕ
@@ -55,7 +55,7 @@ afterRead SectorNumber s = s
 afterRead CylinderLow s = s
 afterRead CylinderHigh s = s
 afterRead DriveHead s = s
-afterRead StatusCommand s = withMark false s
+afterRead StatusCommand s = withInterrupt false s
 afterRead AlternateControl s = s
 afterRead DriveAddress s = s
 

@@ -60,7 +60,7 @@ pub struct Control {
 // All of the card but its phase and its buffer.
 pub struct State {
     pub control: Control,
-    pub mark: bool,
+    pub interrupt: bool,
     pub made: Made,
     pub code: u8,
     pub current: Geometry,
@@ -255,7 +255,7 @@ impl State {
         if self.control.masked {
             return false;
         }
-        self.mark
+        self.interrupt
     }
 }
 

@@ -71,7 +71,7 @@ impl Made {
                 held: false,
                 masked: false,
             },
-            mark: false,
+            interrupt: false,
             code: 0x00,
         }
     }
@@ -85,7 +85,7 @@ impl State {
         let registers = self.registers;
         let status = phase.rest_status(registers.status);
         self.registers.status = status;
-        self.mark = false;
+        self.interrupt = false;
         self
     }
 }

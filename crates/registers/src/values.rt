@@ -94,7 +94,7 @@ impl State {
             Register::CylinderHigh => self,
             Register::DriveHead => self,
             Register::StatusCommand => {
-                self.mark = false;
+                self.interrupt = false;
                 self
             }
             Register::AlternateControl => self, // the old model cleared it here too

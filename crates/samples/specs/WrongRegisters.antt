@@ -6,7 +6,7 @@ use Rattle.ground.specs.Choice.{pick}
 use Rattle.answers.specs.Answers.{outcomeValue}
 use Rattle.maps.specs.declared.Port.{Port}
 use Rattle.maps.specs.declared.Port.the-variants.{Even, Odd, Word}
-use Rattle.registers.specs.State.{withMark}
+use Rattle.registers.specs.State.{withInterrupt}
 use Rattle.registers.specs.Values.{writingBit, driveBits}
 use Rattle.registers.specs.Machine.{Machine}
 use Rattle.card.specs.declared.Meaning.{Meaning}
@@ -44,7 +44,7 @@ readsAlternateAt3F7 m a = pick (a .write) (step m a) (step m (elsewhere alternat
 
 -- 01, "Errors the old model made": "Reading Alternate Status clears the interrupt mark."
 unfoldable pub alternateClears : Machine → Access → Stepped
-alternateClears m a = pick (readsAt 0xE m a) (altered (withMark false) (step m a)) (step m a)
+alternateClears m a = pick (readsAt 0xE m a) (altered (withInterrupt false) (step m a)) (step m a)
 
 -- "A byte at 9 moves the high half": here as a byte at 8, so the halves go in the order of arrival
 abbrev pub evenPort : Port → Port

@@ -4,7 +4,7 @@ use mathlib.Core.Bool.{Bool}
 use Rattle.registers.specs.declared.Phase.the-variants.{Idle}
 use Rattle.registers.specs.declared.State.{State}
 use Rattle.registers.specs.declared.Core.{Core}
-use Rattle.registers.specs.State.{withStatus, withError, withCode, withMark}
+use Rattle.registers.specs.State.{withStatus, withError, withCode, withInterrupt}
 use Rattle.registers.specs.Machine.{core}
 use Rattle.transfers.specs.declared.End.{End}
 use Rattle.transfers.specs.declared.End.the-variants.{Good, BadHeadOrSector, BadCylinder, BadLba, Unreadable, WriteFault, BadGeometry, NoSuchCommand}
@@ -45,4 +45,4 @@ endCode NoSuchCommand code = 0x20
 -- a command ends, with the interrupt mark as given: it is set "at each command end except a good end of reading data"; the registers that
 -- name the sector and Count are left as they stand
 abbrev pub ended : End → Bool → State → Core
-ended e mark s = core Idle (withMark mark (withCode (endCode e (s .code)) (withError (endError e (s .registers .error)) (withStatus (endStatus e) s))))
+ended e mark s = core Idle (withInterrupt mark (withCode (endCode e (s .code)) (withError (endError e (s .registers .error)) (withStatus (endStatus e) s))))

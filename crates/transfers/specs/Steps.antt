@@ -14,7 +14,7 @@ use Rattle.registers.specs.declared.Phase.{Phase}
 use Rattle.registers.specs.declared.Phase.the-variants.{Idle, DataIn, DataOut}
 use Rattle.registers.specs.declared.State.{State}
 use Rattle.registers.specs.declared.Core.{Core}
-use Rattle.registers.specs.State.{withStatus, withMark, withCount, withAddress}
+use Rattle.registers.specs.State.{withStatus, withInterrupt, withCount, withAddress}
 use Rattle.registers.specs.Machine.{Machine, machine, core, withCore}
 use Rattle.transfers.specs.declared.End.the-variants.{Good}
 use Rattle.transfers.specs.declared.Tested.{Tested}
@@ -50,7 +50,7 @@ phaseOf Out t = DataOut t
 
 -- a sector or the buffer is ready to be read, or asked for
 abbrev pub begun : Way → Load → Bool → State → Core
-begun way load first s = core (phaseOf way (newTransfer load)) (withMark (markBegun way first (s .mark)) (withStatus 0x58 s))
+begun way load first s = core (phaseOf way (newTransfer load)) (withInterrupt (markBegun way first (s .interrupt)) (withStatus 0x58 s))
 
 -- a sector is done: Count holds those left, and the address goes on where one is left. So "on an error the registers name the failing sector and
 -- Count holds the sectors not done, modulo 256; those before it stay done. At a good end of a sector command Count is 0 and the address is the
@@ -72,11 +72,11 @@ readSector left m = readTested (sectorTest In (m .state) (m .marks)) left m
 unfoldable pub nextRead : ℕ → Machine → Machine
 nextRead left m =
     pick (eqb left 0)
-    (withCore (ended Good (m .state .mark) (sectorDone left (m .state))) m)
+    (withCore (ended Good (m .state .interrupt) (sectorDone left (m .state))) m)
     (readSector left (idleWith (sectorDone left (m .state)) m))
 
 abbrev pub loadRead : Load → Machine → Machine
-loadRead Buffer m = withCore (ended Good (m .state .mark) (m .state)) m
+loadRead Buffer m = withCore (ended Good (m .state .interrupt) (m .state)) m
 loadRead (Sectors left) m = nextRead (left - 1) m
 
 -- ---- writing

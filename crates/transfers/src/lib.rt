@@ -97,7 +97,7 @@ pub fn ended(state: State, end: End, mark: bool) -> Core
     s.registers.status = status;
     s.registers.error = error;
     s.code = code;
-    s.mark = mark;
+    s.interrupt = mark;
     Core {
         phase: Phase::Idle,
         state: s,
@@ -200,10 +200,10 @@ pub fn begun(state: State, way: Way, load: Load, first: bool) -> Core
         half: Half::Nothing,
         words: 0,
     };
-    let mark = mark_begun(way, first, state.mark);
+    let mark = mark_begun(way, first, state.interrupt);
     let mut s = state;
     s.registers.status = 0x58;
-    s.mark = mark;
+    s.interrupt = mark;
     let phase = phase_of(way, transfer);
     Core {
         phase: phase,
@@ -269,7 +269,7 @@ fn next_read(state: State, left: u16, buffer: &mut [u8; 512], store: &[u8], mark
 {
     let next = sector_done(state, left);
     if left == 0 {
-        return ended(next, End::Good, state.mark);
+        return ended(next, End::Good, state.interrupt);
     }
     read_sector(next, left, buffer, store, marks)
 }
@@ -285,7 +285,7 @@ pub fn load_read(
     ensures { λ r. ⌜ machine r (now (buffer .exit)) (now (store .entry)) (now (marks .entry)) ≡ loadRead load (idle state (now (buffer .entry)) (now (store .entry)) (now (marks .entry))) ⌝ }
 {
     match load {
-        Load::Buffer => ended(state, End::Good, state.mark),
+        Load::Buffer => ended(state, End::Good, state.interrupt),
         Load::Sectors(left) => next_read(state, less_one(left), buffer, store, marks),
     }
 }

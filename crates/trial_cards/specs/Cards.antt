@@ -45,7 +45,7 @@ stateOf l =
       registers = registersOf l;
       option = getD l 26 0 % 128 + 128 * (getD l 27 0 % 2);
       control = record { held = eqb (getD l 28 0 % 2) 1; masked = eqb (getD l 29 0 % 2) 1 };
-      mark = eqb (getD l 13 0 % 2) 1;
+      interrupt = eqb (getD l 13 0 % 2) 1;
       code = getD l 12 0 % 256;
     }
 

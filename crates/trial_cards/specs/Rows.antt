@@ -48,7 +48,7 @@ abbrev pub stateRow : State → List ℕ
 stateRow s =
     withOption
     (withRegisters
-    (set (set (set (set (set (withMade (replicate 30 0) (s .made)) 12 (s .code)) 13 (oneOf (s .mark))) 14 (s .current .cylinders)) 15 (s .current .heads)) 16 (s .current .sectors))
+    (set (set (set (set (set (withMade (replicate 30 0) (s .made)) 12 (s .code)) 13 (oneOf (s .interrupt))) 14 (s .current .cylinders)) 15 (s .current .heads)) 16 (s .current .sectors))
     (s .registers))
     (s .option)
     (s .control)

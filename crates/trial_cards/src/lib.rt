@@ -86,7 +86,7 @@ fn state_row(state: State) -> [u16; 30]
     let current = state.current;
     let mut r = with_made([0; 30], state.made);
     r[12] = ground::wide(state.code);
-    r[13] = one_of(state.mark);
+    r[13] = one_of(state.interrupt);
     r[14] = current.cylinders;
     r[15] = current.heads;
     r[16] = current.sectors;
@@ -198,7 +198,7 @@ fn state_of(row: [u16; 30]) -> State
             held: row[28] % 2 == 1,
             masked: row[29] % 2 == 1,
         },
-        mark: row[13] % 2 == 1,
+        interrupt: row[13] % 2 == 1,
         code: (row[12] % 256) as u8,
     }
 }
