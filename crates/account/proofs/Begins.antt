@@ -11,6 +11,7 @@ use Rattle.geometry.proofs.Kept.{Bytes}
 use Rattle.registers.specs.declared.State.{State}
 use Rattle.registers.specs.State.{locatedIn}
 use Rattle.registers.specs.Machine.{Machine, withCore}
+use Rattle.transfers.specs.declared.Order.the-variants.{First}
 use Rattle.transfers.specs.Before.{addressTest, sectorTest, sectorStored}
 use Rattle.transfers.specs.Steps.{readSector, askSector}
 use Rattle.commands.specs.Runs.{verifyFrom, eraseFrom}
@@ -65,18 +66,18 @@ module _ (n : ℕ) (m : Machine) (b : Bytes (m .state .registers .address)) (c :
   read-begins-between Located.BadLba g e = rw e (g, refl)
 
   pub write-begins : (l : Located) (d : List ℕ) → Ground Out m → locatedIn (m .state) ≡ l →
-      rest (withCore (askSector (suc n) true (m .state)) m) d ≡ fromFirst (asPlace l) silent (λ i. writeSectors (courseOf (plainOf m)) i (suc n) (plainOf m) d) (plainOf m)
+      rest (withCore (askSector (suc n) First (m .state)) m) d ≡ fromFirst (asPlace l) silent (λ i. writeSectors (courseOf (plainOf m)) i (suc n) (plainOf m) d) (plainOf m)
   unfolding askSector addressTest restAt
   write-begins (Located.Good spot) d g e =
-      ask-rest n true (courseIn (m .state)) (spot .index) (m .state) (m .buffer) (m .store) (m .marks) d (seated n (spot .index) (m .state) b c e) (where-first (spot .index) (m .state) (g .0) e)
+      ask-rest n First (courseIn (m .state)) (spot .index) (m .state) (m .buffer) (m .store) (m .marks) d (seated n (spot .index) (m .state) b c e) (where-first (spot .index) (m .state) (g .0) e)
   write-begins Located.BadHeadOrSector d g e = rw e
   write-begins Located.BadCylinder d g e = rw e
   write-begins Located.BadLba d g e = rw e
 
-  pub write-begins-between : (l : Located) → length (m .buffer) ≡ 512 → Ground Out m → locatedIn (m .state) ≡ l → Between Out (withCore (askSector (suc n) true (m .state)) m) None
+  pub write-begins-between : (l : Located) → length (m .buffer) ≡ 512 → Ground Out m → locatedIn (m .state) ≡ l → Between Out (withCore (askSector (suc n) First (m .state)) m) None
   unfolding askSector addressTest
   write-begins-between (Located.Good spot) f g e =
-      ask-between n true (courseIn (m .state)) (spot .index) (m .state) (m .buffer) (m .store) (m .marks) f g (seated n (spot .index) (m .state) b c e) (where-first (spot .index) (m .state) (g .0) e)
+      ask-between n First (courseIn (m .state)) (spot .index) (m .state) (m .buffer) (m .store) (m .marks) f g (seated n (spot .index) (m .state) b c e) (where-first (spot .index) (m .state) (g .0) e)
   write-begins-between Located.BadHeadOrSector f g e = rw e (g, refl)
   write-begins-between Located.BadCylinder f g e = rw e (g, refl)
   write-begins-between Located.BadLba f g e = rw e (g, refl)

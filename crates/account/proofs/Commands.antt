@@ -16,6 +16,7 @@ use Rattle.registers.specs.declared.State.{State}
 use Rattle.registers.specs.declared.Core.{Core}
 use Rattle.registers.specs.State.{locatedIn, totalIn}
 use Rattle.registers.specs.Machine.{Machine, machine, core, withCore}
+use Rattle.transfers.specs.declared.Order.the-variants.{First}
 use Rattle.transfers.specs.declared.Way.{Way}
 use Rattle.transfers.specs.declared.Way.the-variants.{In, Out}
 use Rattle.transfers.specs.Steps.{readSector, askSector}
@@ -83,18 +84,18 @@ read-all-between m g h =
     rw (count-is (m .state))
     (asked-elim (λ (n : ℕ). Between In (readSector n m) None) (m .state .registers .count) (h .0) (λ n e. read-begins-between n m (h .1) e (locatedIn (m .state)) g refl))
 
-pub write-all : (m : Machine) (d : List ℕ) → Ground Out m → Eight (m .state) → writes (plainOf m) d ≡ rest (withCore (askSector (countOf (m .state)) true (m .state)) m) d
+pub write-all : (m : Machine) (d : List ℕ) → Ground Out m → Eight (m .state) → writes (plainOf m) d ≡ rest (withCore (askSector (countOf (m .state)) First (m .state)) m) d
 write-all m d g h =
     rw (count-is (m .state), first-is m (g .0))
     (asked-elim (λ (n : ℕ). fromFirst (asPlace (locatedIn (m .state))) silent (λ i. writeSectors (courseOf (plainOf m)) i n (plainOf m) d) (plainOf m)
-    ≡ rest (withCore (askSector n true (m .state)) m) d)
+    ≡ rest (withCore (askSector n First (m .state)) m) d)
     (m .state .registers .count) (h .0)
     (λ n e. sym (write-begins n m (h .1) e (locatedIn (m .state)) d g refl)))
 
-pub write-all-between : (m : Machine) → length (m .buffer) ≡ 512 → Ground Out m → Eight (m .state) → Between Out (withCore (askSector (countOf (m .state)) true (m .state)) m) None
+pub write-all-between : (m : Machine) → length (m .buffer) ≡ 512 → Ground Out m → Eight (m .state) → Between Out (withCore (askSector (countOf (m .state)) First (m .state)) m) None
 write-all-between m f g h =
     rw (count-is (m .state))
-    (asked-elim (λ (n : ℕ). Between Out (withCore (askSector n true (m .state)) m) None) (m .state .registers .count) (h .0)
+    (asked-elim (λ (n : ℕ). Between Out (withCore (askSector n First (m .state)) m) None) (m .state .registers .count) (h .0)
     (λ n e. write-begins-between n m (h .1) e (locatedIn (m .state)) f g refl))
 
 pub verify-all : (m : Machine) → Ground In m → Eight (m .state) → verifies (plainOf m) ≡ plainIn (verifyFrom (countOf (m .state)) (m .state) (m .marks) .state) (m .buffer) (m .store) (m .marks)
@@ -107,12 +108,12 @@ verify-all m g h =
 
 pub erase-all : (m : Machine) → Ground In m → Eight (m .state) →
     erases (plainOf m)
-    ≡ plainIn (eraseFrom (countOf (m .state)) (m .state) (m .store) (m .marks) .core .state) (m .buffer)
+    ≡ plainIn (eraseFrom (countOf (m .state)) (m .state) (m .store) (m .marks) .result .state) (m .buffer)
     (eraseFrom (countOf (m .state)) (m .state) (m .store) (m .marks) .store) (eraseFrom (countOf (m .state)) (m .state) (m .store) (m .marks) .marks)
 erase-all m g h =
     rw (count-is (m .state), first-is m (g .0))
     (asked-elim (λ (n : ℕ). fromFirst (asPlace (locatedIn (m .state))) (λ q. q) (λ i. eraseSectors (courseOf (plainOf m)) i n (plainOf m)) (plainOf m)
-    ≡ plainIn (eraseFrom n (m .state) (m .store) (m .marks) .core .state) (m .buffer) (eraseFrom n (m .state) (m .store) (m .marks) .store) (eraseFrom n (m .state) (m .store) (m .marks) .marks))
+    ≡ plainIn (eraseFrom n (m .state) (m .store) (m .marks) .result .state) (m .buffer) (eraseFrom n (m .state) (m .store) (m .marks) .store) (eraseFrom n (m .state) (m .store) (m .marks) .marks))
     (m .state .registers .count) (h .0)
     (λ n e. sym (erase-begins n m (h .1) e (locatedIn (m .state)) g refl)))
 

@@ -10,8 +10,7 @@ use Rattle.registers.specs.declared.State.{State}
 use Rattle.registers.specs.declared.Phase.the-variants.{Idle}
 use Rattle.commands.specs.declared.Command.{Command}
 use Rattle.commands.specs.declared.Command.the-variants.{Read, Write, Verify, Erase, Identify, ReadBuffer, WriteBuffer, SetGeometry, Diagnose, Recalibrate, Seek, Sense, Other}
-use Rattle.transfers.specs.Steps.{dropped}
-use Rattle.commands.specs.Table.{commandOf, obeyed, started, countOf, quiet, commandGiven}
+use Rattle.commands.specs.Table.{commandOf, obeyed, started, countOf, dropped, commandGiven}
 use Rattle.card.specs.Access.{Access}
 use Rattle.card.specs.Step.{step}
 use Rattle.account.specs.Plain.{Plain, Ending, Well, NotFound, Unreadable, WriteFault, Aborted, ends, starts, Account, silent}
@@ -55,10 +54,10 @@ over-at-once Other s m e = refl
 
 asks-not : (v : ℕ) (m : Machine) → dataless (rowOf v) ≡ true → asks (commandGiven v m) ≡ false
 unfolding commandGiven
-asks-not v m e = rw (over-at-once (commandOf v) (started (quiet m .state)) (quiet m) (ap dataless (sym (same-row v)) ∙ e))
+asks-not v m e = rw (over-at-once (commandOf v) (started (dropped m .state)) (dropped m) (ap dataless (sym (same-row v)) ∙ e))
 
 pub means-no-host-needed : (m : Machine) (v : ℕ) → Able m → dataless (rowOf v) ≡ true → asks (commanded v m) ≡ false
-means-no-host-needed m v k e = rw (command-given v m (k .free)) (asks-not v (dropped m) e)
+means-no-host-needed m v k e = rw (command-given v m (k .free)) (asks-not v m e)
 
 pub no-host-needed : (m : Machine) (a : Access) (v : ℕ) → AcceptedCommand m a v → dataless (rowOf v) ≡ true → Moves (step m a .next) []
 no-host-needed m a v w e = by-meaning (λ x. asks x ≡ false) m a v (w .accepted) (means-no-host-needed m v (able m a v w) e)

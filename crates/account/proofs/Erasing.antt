@@ -5,12 +5,14 @@ use mathlib.Core.Path.{_≡_, refl}
 use mathlib.Core.List.{List}
 use native.Mathlib.Omega.{arith}
 use lib.ListN.{set, replicate}
+use Rattle.ground.specs.Left.{Left}
 use Rattle.geometry.specs.Limits.{totalOf}
 use Rattle.registers.specs.declared.State.{State}
+use Rattle.registers.specs.declared.Core.{Core}
 use Rattle.transfers.specs.declared.Tested.{Tested}
 use Rattle.transfers.specs.Before.{sectorStored}
 use Rattle.transfers.specs.Steps.{sectorDone}
-use Rattle.commands.specs.Runs.{eraseFrom, Erased, allFF}
+use Rattle.commands.specs.Runs.{eraseFrom, allFF}
 use Rattle.account.specs.Plain.{Plain, Ending, Well, WriteFault}
 use Rattle.account.specs.Course.{Course}
 use Rattle.account.specs.Runs.{tried, stopped, runFrom, tests, unwritable, putSector, blanked, cleared, eraseSectors, eraseDone}
@@ -21,8 +23,8 @@ use Rattle.account.proofs.Stored.{LentFor, stored-is, stored-lent, run-
 use Rattle.account.proofs.Verifying.{where-good, seated-last}
 use Rattle.kept.proofs.Runs.{erasesOn}
 
-abbrev pub erasedPlain : Erased → List ℕ → Plain
-erasedPlain e b = plainIn (e .core .state) b (e .store) (e .marks)
+abbrev pub erasedPlain : Left Core → List ℕ → Plain
+erasedPlain e b = plainIn (e .result .state) b (e .store) (e .marks)
 
 pub erase-is : (n : ℕ) (c : Course) (i : ℕ) (s : State) (b t k : List ℕ) → Shaped (s .made) (s .current) → LentFor (totalOf (s .made .default)) t k → Seated c i (suc n) s → Where c i s →
     erasedPlain (eraseFrom (suc n) s t k) b ≡ eraseSectors c i (suc n) (plainIn s b t k)
@@ -32,7 +34,7 @@ erase-is zero c i s b t k h l q w =
     (λ (x : Tested) (e : Ending). erasedPlain (erasesOn x 0 s t k) b ≡ eraseDone c i (tried e 1 i (stopped Well 0 (i + 1))) (plainIn s b t k))
     w
     (λ r. let m = room-total c s h (q .2) in unfold sectorDone in rw (stored-is (totalOf (s .made .default)) i t k (replicate 512 0xFF) (omega arith) l, seated-last c i 1 s q))
-    (λ f z. rw (stops-run f z c 1 i (stopped Well 0 (i + 1)) (plainIn s b t k)) (stops-ends f true z c 1 i s b t k q))
+    (λ f z. rw (stops-run f z c 1 i (stopped Well 0 (i + 1)) (plainIn s b t k)) (stops-ends f z c 1 i s b t k q))
 erase-is (suc n) c i s b t k h l q w =
     store-tested c i s k
     (λ (x : Tested) (e : Ending). erasedPlain (erasesOn x (suc n) s t k) b ≡ eraseDone c i (tried e (suc (suc n)) i (runFrom (tests unwritable WriteFault c k) (i + 1) (suc n))) (plainIn s b t k))
@@ -44,4 +46,4 @@ erase-is (suc n) c i s b t k h l q w =
     rw (done-on n s, g, ← run-later unwritable WriteFault c k i (i + 1) (suc n) (omega arith))
     (erase-is n c (i + 1) (onward (suc n) s) b (putSector i (replicate 512 0xFF) t) (set k i 0) h
     (stored-lent (totalOf (s .made .default)) i t k (replicate 512 0xFF) (omega arith) l refl) (z .0) (z .1)))
-    (λ f z. rw (stops-run f z c (suc (suc n)) i (runFrom (tests unwritable WriteFault c k) (i + 1) (suc n)) (plainIn s b t k)) (stops-ends f true z c (suc (suc n)) i s b t k q))
+    (λ f z. rw (stops-run f z c (suc (suc n)) i (runFrom (tests unwritable WriteFault c k) (i + 1) (suc n)) (plainIn s b t k)) (stops-ends f z c (suc (suc n)) i s b t k q))

@@ -53,8 +53,8 @@ begins Erase m h =
     let x = idleWith (started (m .state)) m in
     let k = eraseFrom (countOf (x .state)) (x .state) (m .store) (m .marks) in
     let z = erase-settled (countOf (x .state)) (totalOf (m .state .made .default)) (x .state) (m .store) (m .marks) (h .0 .1) in
-    over _ Out (k .core) (m .buffer) (k .store) (k .marks) (z .0 .0)
-    (settled-ground Out (x .state) (k .core) (m .buffer) (m .store) (m .marks) (m .buffer) (k .store) (k .marks) (z .0) (outward m (h .0)) (z .1) tt)
+    over _ Out (k .result) (m .buffer) (k .store) (k .marks) (z .0 .0)
+    (settled-ground Out (x .state) (k .result) (m .buffer) (m .store) (m .marks) (m .buffer) (k .store) (k .marks) (z .0) (outward m (h .0)) (z .1) tt)
     (λ d. ap silent (erase-all x (h .0) (h .1)))
 begins Identify m h =
     let e : identifyBytes (factsOf (started (m .state))) ≡ identifyData (plainOf m) = identify-is (m .state) (m .buffer) (m .store) (m .marks) (h .0 .0 .1) in

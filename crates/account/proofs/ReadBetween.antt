@@ -19,7 +19,7 @@ use Rattle.registers.specs.declared.Phase.the-variants.{DataIn}
 use Rattle.registers.specs.State.{locatedIn}
 use Rattle.registers.specs.Machine.{Machine}
 use Rattle.transfers.specs.declared.Tested.{Tested}
-use Rattle.transfers.specs.Steps.{idleWith, sectorDone, readTested, readSector, nextRead, loadRead, dropped}
+use Rattle.transfers.specs.Steps.{idleWith, sectorDone, readTested, readSector, nextRead, loadRead, allMoved}
 use Rattle.port.specs.Halves.{nextWord}
 use Rattle.port.specs.Data.{withPhase}
 use Rattle.transfers.specs.declared.Way.the-variants.{In}
@@ -76,6 +76,6 @@ load-between (Sectors zero) m g k = absurd (omega (arith, k .1))
 load-between (Sectors (suc n)) m g k = rw (sub-one (suc n)) (next-between n (courseIn (m .state)) (here (m .state)) m g (k .2, k .3, refl) (k .0))
 
 pub word-between : (b : Bool) (t : Transfer) (m : Machine) (q : Waiting) → ltb (t .words) 255 ≡ b → Ground In m → Running In t (plainOf m) q →
-    Between In (pick b (withPhase (DataIn (nextWord t)) m) (loadRead (t .load) (dropped m))) None
+    Between In (pick b (withPhase (DataIn (nextWord t)) m) (loadRead (t .load) (allMoved m))) None
 word-between true t m q e g r = let h : t .words < 255 = ltb-true _ _ e in (g, (omega arith, r .1, r .2, tt, r .4))
-word-between false t m q e g r = load-between (t .load) (dropped m) g (r .4)
+word-between false t m q e g r = load-between (t .load) (allMoved m) g (r .4)

@@ -20,7 +20,7 @@ use Rattle.registers.specs.declared.Phase.the-variants.{DataIn}
 use Rattle.registers.specs.State.{locatedIn}
 use Rattle.registers.specs.Machine.{Machine}
 use Rattle.transfers.specs.declared.Tested.{Tested}
-use Rattle.transfers.specs.Steps.{idleWith, sectorDone, readTested, readSector, nextRead, loadRead, dropped}
+use Rattle.transfers.specs.Steps.{idleWith, sectorDone, readTested, readSector, nextRead, loadRead, allMoved}
 use Rattle.port.specs.Halves.{nextWord}
 use Rattle.port.specs.Data.{withPhase}
 use Rattle.account.specs.Plain.{Plain, Ending, Unreadable, moving, withBuffer}
@@ -53,7 +53,7 @@ read-rest n c i m d h l q w =
     rw (sector-read (totalOf (m .state .made .default)) i (m .store) (m .buffer) (omega arith) (l .0), where-good c i (m .state) w r, q .2, sub-one (suc n))
     (ap (λ (x : Plain). record { moved = sectorAt (m .store) i ++ sectorsFrom (m .store) (i + 1) (v .done); left = x })
     (run-status c v 0x58 (withBuffer (lastSector (m .store) (i + 1) (v .done) (sectorAt (m .store) i)) (plainOf m)))))
-    (λ f z. rw (stops-run f z c (suc n) i (runFrom (tests unreadable Unreadable c (m .marks)) (i + 1) n) (plainOf m), stops-ends f true z c (suc n) i (m .state) (m .buffer) (m .store) (m .marks) q))
+    (λ f z. rw (stops-run f z c (suc n) i (runFrom (tests unreadable Unreadable c (m .marks)) (i + 1) n) (plainOf m), stops-ends f z c (suc n) i (m .state) (m .buffer) (m .store) (m .marks) q))
 
 -- the last byte of sector i has gone
 next-rest : (n : ℕ) (c : Course) (i : ℕ) (m : Machine) (d : List ℕ) → Shaped (m .state .made) (m .state .current) → LentFor (totalOf (m .state .made .default)) (m .store) (m .marks) →
@@ -82,9 +82,9 @@ word-bytes b w h =
 pub word-rest : (b : Bool) (t : Transfer) (m : Machine) (d e : List ℕ) → ltb (t .words) 255 ≡ b → t .words < 256 → length (m .buffer) ≡ 512 →
     Shaped (m .state .made) (m .state .current) → LentFor (totalOf (m .state .made .default)) (m .store) (m .marks) → Loaded (t .load) (bare (plainOf m)) →
     restAt (DataIn t) (plainOf m) e
-    ≡ moving (getD (m .buffer) (2 * t .words) 0 ∷ getD (m .buffer) (2 * t .words + 1) 0 ∷ []) (rest (pick b (withPhase (DataIn (nextWord t)) m) (loadRead (t .load) (dropped m))) d)
+    ≡ moving (getD (m .buffer) (2 * t .words) 0 ∷ getD (m .buffer) (2 * t .words + 1) 0 ∷ []) (rest (pick b (withPhase (DataIn (nextWord t)) m) (loadRead (t .load) (allMoved m))) d)
 unfolding restAt
 word-rest true t m d e q w f h l k = rw (word-bytes (m .buffer) (t .words) (omega (arith, ltb-true)))
 word-rest false t m d e q w f h l k =
     let z : drop (2 * (t .words + 1)) (m .buffer) ≡ [] = drop-of-length-le (m .buffer) {i = 2 * (t .words + 1)} (omega (arith, ltb-false)) in
-    rw (word-bytes (m .buffer) (t .words) (omega (arith, ltb-false)), z, load-rest (t .load) (dropped m) d h l k)
+    rw (word-bytes (m .buffer) (t .words) (omega (arith, ltb-false)), z, load-rest (t .load) (allMoved m) d h l k)

@@ -4,17 +4,15 @@ use mathlib.Core.Bool.{true}
 use mathlib.Core.Path.{_≡_, refl, sym, ap, _∙_}
 use mathlib.Core.List.{List}
 use lib.ListN.{take}
-use Rattle.registers.specs.declared.Load.{Load}
 use Rattle.registers.specs.declared.Load.the-variants.{Buffer}
 use Rattle.registers.specs.declared.Phase.the-variants.{DataIn, DataOut}
 use Rattle.registers.specs.declared.State.{State}
 use Rattle.registers.specs.State.{withError}
 use Rattle.registers.specs.Machine.{machine}
 use Rattle.transfers.specs.declared.End.{End}
-use Rattle.transfers.specs.declared.Way.{Way}
-use Rattle.transfers.specs.declared.Way.the-variants.{In, Out}
+use Rattle.transfers.specs.declared.Order.the-variants.{First}
 use Rattle.transfers.specs.Ends.{ended}
-use Rattle.transfers.specs.Steps.{newTransfer, begun}
+use Rattle.transfers.specs.Steps.{newTransfer, ready, askedFor}
 use Rattle.commands.specs.Table.{started, diagnosed}
 use Rattle.account.specs.Plain.{Plain, withBuffer, withStatus, starts, Ending, Well, ends, silent, moving}
 use Rattle.account.specs.Table.{diagnoses, senses}
@@ -27,16 +25,16 @@ pub started-starts : (s : State) (b t k : List ℕ) → plainIn (started s) b t 
 started-starts s b t k = refl
 
 -- a command that starts and ends, and does nothing between
-pub starts-ends : (e : End) (s : State) (b t k : List ℕ) → plainIn (ended e true (started s) .state) b t k ≡ ends (endingOf e) (starts (plainIn s b t k))
-starts-ends e s b t k = ended-ends e true (started s) b t k ∙ ap (ends (endingOf e)) (started-starts s b t k)
+pub starts-ends : (e : End) (s : State) (b t k : List ℕ) → plainIn (ended e (started s) .state) b t k ≡ ends (endingOf e) (starts (plainIn s b t k))
+starts-ends e s b t k = ended-ends e (started s) b t k ∙ ap (ends (endingOf e)) (started-starts s b t k)
 
 -- 90H
-pub diagnosed-is : (s : State) (b t k : List ℕ) → plainIn (ended End.Good true (diagnosed s) .state) b t k ≡ diagnoses (plainIn s b t k)
-diagnosed-is s b t k = ended-ends End.Good true (diagnosed s) b t k
+pub diagnosed-is : (s : State) (b t k : List ℕ) → plainIn (ended End.Good (diagnosed s) .state) b t k ≡ diagnoses (plainIn s b t k)
+diagnosed-is s b t k = ended-ends End.Good (diagnosed s) b t k
 
 -- 03H: Error is the last code, which stays
-pub sensed-is : (s : State) (b t k : List ℕ) → plainIn (ended End.Good true (withError (s .code) s) .state) b t k ≡ senses (plainIn s b t k)
-sensed-is s b t k = ended-ends End.Good true (withError (s .code) s) b t k
+pub sensed-is : (s : State) (b t k : List ℕ) → plainIn (ended End.Good (withError (s .code) s) .state) b t k ≡ senses (plainIn s b t k)
+sensed-is s b t k = ended-ends End.Good (withError (s .code) s) b t k
 
 -- ---- the buffer
 
@@ -49,23 +47,19 @@ buffer-out : (p : Plain) (d : List ℕ) → restAt (DataOut (newTransfer Buffer)
 unfolding restAt doneOut
 buffer-out p d = refl
 
--- its Status is 58H
-begun-is : (way : Way) (load : Load) (s : State) (b t k : List ℕ) → plainIn (begun way load true s .state) b t k ≡ withStatus 0x58 (plainIn s b t k)
-begun-is way load s b t k = refl
-
--- which its end does not keep
-begun-ends : (e : Ending) (way : Way) (load : Load) (s : State) (b t k : List ℕ) → ends e (plainIn (begun way load true (started s) .state) b t k) ≡ ends e (starts (plainIn s b t k))
-begun-ends e way load s b t k =
-    ap (ends e) (begun-is way load (started s) b t k ∙ ap (withStatus 0x58) (started-starts s b t k))
+-- its Status is 58H, which its end does not keep
+begun-ends : (e : Ending) (s : State) (b t k : List ℕ) → ends e (withStatus 0x58 (plainIn (started s) b t k)) ≡ ends e (starts (plainIn s b t k))
+begun-ends e s b t k =
+    ap (λ (p : Plain). ends e (withStatus 0x58 p)) (started-starts s b t k)
     ∙ ends-status e 0x58 (starts (plainIn s b t k))
 
 -- E4H, and ECH once its bytes are in the buffer
-pub buffer-read : (s : State) (b t k d : List ℕ) → moving b (silent (ends Well (starts (plainIn s b t k)))) ≡ rest (machine (begun In Buffer true (started s)) b t k) d
-buffer-read s b t k d = ap (λ (p : Plain). moving b (silent p)) (sym (begun-ends Well In Buffer s b t k)) ∙ sym (buffer-in (plainIn (begun In Buffer true (started s) .state) b t k) d)
+pub buffer-read : (s : State) (b t k d : List ℕ) → moving b (silent (ends Well (starts (plainIn s b t k)))) ≡ rest (machine (ready Buffer (started s)) b t k) d
+buffer-read s b t k d = ap (λ (p : Plain). moving b (silent p)) (sym (begun-ends Well s b t k)) ∙ sym (buffer-in (plainIn (ready Buffer (started s) .state) b t k) d)
 
 -- E8H
 pub buffer-written : (s : State) (b t k d : List ℕ) →
-    moving (take 512 d) (silent (ends Well (withBuffer (take 512 d) (starts (plainIn s b t k))))) ≡ rest (machine (begun Out Buffer true (started s)) b t k) d
+    moving (take 512 d) (silent (ends Well (withBuffer (take 512 d) (starts (plainIn s b t k))))) ≡ rest (machine (askedFor Buffer First (started s)) b t k) d
 buffer-written s b t k d =
-    ap (λ (p : Plain). moving (take 512 d) (silent p)) (sym (begun-ends Well Out Buffer s (take 512 d) t k))
-    ∙ sym (buffer-out (plainIn (begun Out Buffer true (started s) .state) b t k) d)
+    ap (λ (p : Plain). moving (take 512 d) (silent p)) (sym (begun-ends Well s (take 512 d) t k))
+    ∙ sym (buffer-out (plainIn (askedFor Buffer First (started s) .state) b t k) d)

@@ -9,8 +9,7 @@ use Rattle.registers.specs.State.{sresetIn}
 use Rattle.registers.specs.Machine.{Machine}
 use Rattle.registers.specs.WellMade.{heldIn}
 use Rattle.transfers.specs.declared.Way.{Way}
-use Rattle.transfers.specs.Steps.{dropped}
-use Rattle.commands.specs.Table.{quiet, commandGiven}
+use Rattle.commands.specs.Table.{dropped, commandGiven}
 use Rattle.card.specs.declared.Meaning.{Meaning}
 use Rattle.card.specs.declared.Meaning.the-variants.{WriteRegister}
 use Rattle.card.specs.Access.{Access, meaning}
@@ -31,7 +30,7 @@ use Rattle.account.proofs.Accepted.{given, able}
 
 -- ---- over what accesses mean
 
-pub command-given : (v : ℕ) (m : Machine) → heldIn (m .state) ≡ false → commanded v m ≡ commandGiven v (dropped m)
+pub command-given : (v : ℕ) (m : Machine) → heldIn (m .state) ≡ false → commanded v m ≡ commandGiven v m
 unfolding perform registerWritten heldIn
 command-given v m h = rw (neither (sresetIn (m .state .option)) (m .state .control .held) h .1)
 
@@ -40,7 +39,7 @@ pub begun : (m : Machine) (v : ℕ) → Able m → Rel (wayOf (rowOf v)) (accoun
 unfolding commandGiven
 begun m v k =
     subst (λ (x : Machine). Rel (wayOf (rowOf v)) (account (rowOf v) (plainOf m)) x noNotes) (sym (command-given v m (k .free)))
-    (begins-row v (quiet (dropped m)) (given m k))
+    (begins-row v (dropped m) (given m k))
 
 module _ (plain : List ℕ → Account) (way : Way) where
   -- and each access keeps what was moved and the account of the rest

@@ -34,15 +34,15 @@ endingOf End.WriteFault = WriteFault
 endingOf End.BadGeometry = Aborted 0x21
 endingOf End.NoSuchCommand = Aborted 0x20
 
-pub ended-ends : (e : End) (mark : Bool) (s : State) (b t k : List ℕ) → plainIn (ended e mark s .state) b t k ≡ ends (endingOf e) (plainIn s b t k)
-ended-ends End.Good mark s b t k = refl
-ended-ends End.BadHeadOrSector mark s b t k = refl
-ended-ends End.BadCylinder mark s b t k = refl
-ended-ends End.BadLba mark s b t k = refl
-ended-ends End.Unreadable mark s b t k = refl
-ended-ends End.WriteFault mark s b t k = refl
-ended-ends End.BadGeometry mark s b t k = refl
-ended-ends End.NoSuchCommand mark s b t k = refl
+pub ended-ends : (e : End) (s : State) (b t k : List ℕ) → plainIn (ended e s .state) b t k ≡ ends (endingOf e) (plainIn s b t k)
+ended-ends End.Good s b t k = refl
+ended-ends End.BadHeadOrSector s b t k = refl
+ended-ends End.BadCylinder s b t k = refl
+ended-ends End.BadLba s b t k = refl
+ended-ends End.Unreadable s b t k = refl
+ended-ends End.WriteFault s b t k = refl
+ended-ends End.BadGeometry s b t k = refl
+ended-ends End.NoSuchCommand s b t k = refl
 
 -- a failed test stops a run there
 stops : (e : End) → bad e ≡ true → (c : Course) (n i : ℕ) (rest : Run) (p : Plain) →
@@ -60,10 +60,10 @@ pub stops-run : (e : End) → bad e ≡ true → (c : Course) (n i : ℕ) (rest 
 stops-run e h c n i rest p = stops e h c n i rest p .0
 
 -- and leaves what the machine's end leaves
-pub stops-ends : (e : End) (mark : Bool) → bad e ≡ true → (c : Course) (n i : ℕ) (s : State) (b t k : List ℕ) → Seated c i n s →
-    plainIn (ended e mark s .state) b t k ≡ runEnds c (stopped (endingOf e) n i) (plainIn s b t k)
-stops-ends e mark h c n i s b t k q =
-    ended-ends e mark s b t k
+pub stops-ends : (e : End) → bad e ≡ true → (c : Course) (n i : ℕ) (s : State) (b t k : List ℕ) → Seated c i n s →
+    plainIn (ended e s .state) b t k ≡ runEnds c (stopped (endingOf e) n i) (plainIn s b t k)
+stops-ends e h c n i s b t k q =
+    ended-ends e s b t k
     ∙ ap (ends (endingOf e)) (sym (place-seated c i n s b t k q))
     ∙ sym (stops e h c n i (stopped Well 0 0) (plainIn s b t k) .1)
 

@@ -36,11 +36,11 @@ verify-is zero c i s b t k h q w =
     (λ (x : Tested) (e : Ending). plainIn (goesOn x (λ y. y) s (verifyFrom 0 (sectorDone 0 s) k) .state) b t k ≡ runEnds c (tried e 1 i (stopped Well 0 (i + 1))) (plainIn s b t k))
     w
     (λ r. unfold sectorDone in rw (seated-last c i 1 s q))
-    (λ f z. rw (stops-run f z c 1 i (stopped Well 0 (i + 1)) (plainIn s b t k)) (stops-ends f true z c 1 i s b t k q))
+    (λ f z. rw (stops-run f z c 1 i (stopped Well 0 (i + 1)) (plainIn s b t k)) (stops-ends f z c 1 i s b t k q))
 verify-is (suc n) c i s b t k h q w =
     read-tested c i s k
     (λ (x : Tested) (e : Ending). plainIn (goesOn x (λ y. y) s (verifyFrom (suc n) (sectorDone (suc n) s) k) .state) b t k
     ≡ runEnds c (tried e (suc (suc n)) i (runFrom (tests unreadable Unreadable c k) (i + 1) (suc n))) (plainIn s b t k))
     w
     (λ r. let z = seat-next c (suc n) i s h (where-good c i s w r) (q .2) in rw (done-on n s) (verify-is n c (i + 1) (onward (suc n) s) b t k h (z .0) (z .1)))
-    (λ f z. rw (stops-run f z c (suc (suc n)) i (runFrom (tests unreadable Unreadable c k) (i + 1) (suc n)) (plainIn s b t k)) (stops-ends f true z c (suc (suc n)) i s b t k q))
+    (λ f z. rw (stops-run f z c (suc (suc n)) i (runFrom (tests unreadable Unreadable c k) (i + 1) (suc n)) (plainIn s b t k)) (stops-ends f z c (suc (suc n)) i s b t k q))

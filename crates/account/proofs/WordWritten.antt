@@ -24,7 +24,7 @@ use Rattle.transfers.specs.declared.End.{End}
 use Rattle.transfers.specs.declared.Tested.the-variants.{Passes, Fails}
 use Rattle.transfers.specs.declared.Way.the-variants.{Out}
 use Rattle.transfers.specs.Before.{addressTest, sectorTest, sectorStored}
-use Rattle.transfers.specs.Steps.{loadWritten, dropped}
+use Rattle.transfers.specs.Steps.{loadWritten, allMoved}
 use Rattle.port.specs.Halves.{nextWord}
 use Rattle.port.specs.Data.{withPhase}
 use Rattle.account.specs.Plain.{moving}
@@ -64,7 +64,7 @@ pub word-written-rest : (g : Bool) (t : Transfer) (m : Machine) (b : List ℕ) (
     take (2 * (t .words + 1)) b ≡ take (2 * t .words) (m .buffer) ++ (l ∷ h ∷ []) →
     Shaped (m .state .made) (m .state .current) → LentFor (totalOf (m .state .made .default)) (m .store) (m .marks) → Loaded (t .load) (bare (plainOf m)) →
     restAt (DataOut t) (plainOf m) (l ∷ h ∷ d)
-    ≡ moving (l ∷ h ∷ []) (rest (pick g (withPhase (DataOut (nextWord t)) (withBuffer b m)) (loadWritten (t .load) (dropped (withBuffer b m)))) d)
+    ≡ moving (l ∷ h ∷ []) (rest (pick g (withPhase (DataOut (nextWord t)) (withBuffer b m)) (loadWritten (t .load) (allMoved (withBuffer b m)))) d)
 unfolding restAt
 word-written-rest true t m b l h d e w n o x y z =
     let q : 512 - 2 * t .words ≡ suc (suc (512 - 2 * (t .words + 1))) = omega (arith, ltb-true) in
@@ -73,7 +73,7 @@ word-written-rest false t m b l h d e w n o x y z =
     let q : 512 - 2 * t .words ≡ 2 = omega (arith, ltb-false) in
     let v : 2 * (t .words + 1) ≡ 512 = omega (arith, ltb-false) in
     let u : b ≡ take (2 * t .words) (m .buffer) ++ (l ∷ h ∷ []) = sym (take-all 512 b (omega arith)) ∙ (rw v at o) in
-    rw (q, written-rest (t .load) (dropped (withBuffer b m)) d x y z, done-over (t .load) (plainOf m) b, u)
+    rw (q, written-rest (t .load) (allMoved (withBuffer b m)) d x y z, done-over (t .load) (plainOf m) b, u)
 
 -- ---- the buffer with a word, or half of one, written
 

@@ -19,10 +19,12 @@ use Rattle.registers.specs.declared.Phase.the-variants.{DataOut}
 use Rattle.registers.specs.declared.State.{State}
 use Rattle.registers.specs.State.{locatedIn}
 use Rattle.registers.specs.Machine.{Machine, machine, withBuffer}
+use Rattle.transfers.specs.declared.Order.{Order}
+use Rattle.transfers.specs.declared.Order.the-variants.{Later}
 use Rattle.transfers.specs.declared.End.{End}
 use Rattle.transfers.specs.declared.Tested.the-variants.{Passes, Fails}
 use Rattle.transfers.specs.Before.{addressTest, testedOf, storedBy, sectorStored}
-use Rattle.transfers.specs.Steps.{idle, sectorDone, askTested, askSector, nextAsked, writtenBy, loadWritten, dropped}
+use Rattle.transfers.specs.Steps.{idle, sectorDone, askTested, askSector, nextAsked, writtenBy, loadWritten, allMoved}
 use Rattle.port.specs.Halves.{nextWord}
 use Rattle.port.specs.Data.{withPhase}
 use Rattle.transfers.specs.declared.Way.the-variants.{Out}
@@ -35,22 +37,22 @@ use Rattle.account.proofs.Stored.{stored-is, stored-lent}
 use Rattle.account.proofs.Rest.{bare, here, Ground, Running, Between, Loaded, loaded-of}
 use Rattle.account.proofs.WordWritten.{sector-test, here-inside}
 
-past-between : (l : Bool) (n : ℕ) (first : Bool) (s : State) (b t k : List ℕ) → Ground Out (idle s b t k) →
-    Between Out (machine (askTested (testedOf (pick l Located.BadLba Located.BadCylinder)) n first s) b t k) None
-past-between true n first s b t k g = (g, refl)
-past-between false n first s b t k g = (g, refl)
+past-between : (l : Bool) (n : ℕ) (order : Order) (s : State) (b t k : List ℕ) → Ground Out (idle s b t k) →
+    Between Out (machine (askTested (testedOf (pick l Located.BadLba Located.BadCylinder)) n order s) b t k) None
+past-between true n order s b t k g = (g, refl)
+past-between false n order s b t k g = (g, refl)
 
-ask-by : (v : Bool) (n : ℕ) (first : Bool) (c : Course) (i : ℕ) (s : State) (b t k : List ℕ) → length b ≡ 512 → Ground Out (idle s b t k) → Seated c i (suc n) s →
+ask-by : (v : Bool) (n : ℕ) (order : Order) (c : Course) (i : ℕ) (s : State) (b t k : List ℕ) → length b ≡ 512 → Ground Out (idle s b t k) → Seated c i (suc n) s →
     locatedIn s ≡ pick v (Located.Good (record { index = i })) (pastEnd c) →
-    Between Out (machine (askTested (testedOf (pick v (Located.Good (record { index = i })) (pastEnd c))) (suc n) first s) b t k) None
-ask-by true n first c i s b t k e g q w = (g, (omega arith, e, tt, tt, loaded-of c i n s q w))
-ask-by false n first c i s b t k e g q w = past-between (c .lba) (suc n) first s b t k g
+    Between Out (machine (askTested (testedOf (pick v (Located.Good (record { index = i })) (pastEnd c))) (suc n) order s) b t k) None
+ask-by true n order c i s b t k e g q w = (g, (omega arith, e, tt, tt, loaded-of c i n s q w))
+ask-by false n order c i s b t k e g q w = past-between (c .lba) (suc n) order s b t k g
 
-pub ask-between : (n : ℕ) (first : Bool) (c : Course) (i : ℕ) (s : State) (b t k : List ℕ) → length b ≡ 512 → Ground Out (idle s b t k) → Seated c i (suc n) s → Where c i s →
-    Between Out (machine (askSector (suc n) first s) b t k) None
+pub ask-between : (n : ℕ) (order : Order) (c : Course) (i : ℕ) (s : State) (b t k : List ℕ) → length b ≡ 512 → Ground Out (idle s b t k) → Seated c i (suc n) s → Where c i s →
+    Between Out (machine (askSector (suc n) order s) b t k) None
 unfolding askSector addressTest
-ask-between n first c i s b t k e g q w =
-    subst (λ (l : Located). Between Out (machine (askTested (testedOf l) (suc n) first s) b t k) None) (sym w) (ask-by (ltb i (c .room)) n first c i s b t k e g q w)
+ask-between n order c i s b t k e g q w =
+    subst (λ (l : Located). Between Out (machine (askTested (testedOf l) (suc n) order s) b t k) None) (sym w) (ask-by (ltb i (c .room)) n order c i s b t k e g q w)
 
 asked-between : (n : ℕ) (c : Course) (i : ℕ) (s : State) (b t k : List ℕ) → length b ≡ 512 → Ground Out (idle s b t k) → Seated c i (suc n) s → locatedIn s ≡ Located.Good (record { index = i }) →
     Between Out (machine (nextAsked n s) b t k) None
@@ -58,7 +60,7 @@ unfolding nextAsked
 asked-between zero c i s b t k f g q e = unfold sectorDone in (g, refl)
 asked-between (suc n) c i s b t k f g q e =
     let z = seat-next c (suc n) i s (g .0) e (q .2) in
-    rw (done-on n s, ne-eqb (suc n) 0 (omega arith)) (ask-between n false c (i + 1) (onward (suc n) s) b t k f g (z .0) (z .1))
+    rw (done-on n s, ne-eqb (suc n) 0 (omega arith)) (ask-between n Later c (i + 1) (onward (suc n) s) b t k f g (z .0) (z .1))
 
 marked-between : (u : Bool) (n : ℕ) (c : Course) (i : ℕ) (m : Machine) → i < totalOf (m .state .made .default) → length (m .buffer) ≡ 512 → Ground Out m → Seated c i (suc n) (m .state) →
     locatedIn (m .state) ≡ Located.Good (record { index = i }) →
@@ -78,6 +80,6 @@ written-between (Sectors (suc n)) m f g k =
     (marked-between (writable (getD (m .marks) (here (m .state)) 0)) n (courseIn (m .state)) (here (m .state)) m (here-inside (m .state) (g .0) (k .0)) f g (k .2, k .3, refl) (k .0))
 
 pub word-written-between : (v : Bool) (t : Transfer) (m : Machine) (b : List ℕ) (q : Waiting) → ltb (t .words) 255 ≡ v → length b ≡ 512 → Ground Out m → Running Out t (plainOf m) q →
-    Between Out (pick v (withPhase (DataOut (nextWord t)) (withBuffer b m)) (loadWritten (t .load) (dropped (withBuffer b m)))) None
+    Between Out (pick v (withPhase (DataOut (nextWord t)) (withBuffer b m)) (loadWritten (t .load) (allMoved (withBuffer b m)))) None
 word-written-between true t m b q e f g r = let h : t .words < 255 = ltb-true _ _ e in (g, (omega arith, f, tt, tt, r .4))
-word-written-between false t m b q e f g r = written-between (t .load) (dropped (withBuffer b m)) f g (r .4)
+word-written-between false t m b q e f g r = written-between (t .load) (allMoved (withBuffer b m)) f g (r .4)

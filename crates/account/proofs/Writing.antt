@@ -16,6 +16,8 @@ use Rattle.registers.specs.declared.Load.the-variants.{Sectors, Buffer}
 use Rattle.registers.specs.declared.State.{State}
 use Rattle.registers.specs.State.{locatedIn}
 use Rattle.registers.specs.Machine.{Machine, machine}
+use Rattle.transfers.specs.declared.Order.{Order}
+use Rattle.transfers.specs.declared.Order.the-variants.{Later}
 use Rattle.transfers.specs.declared.End.{End}
 use Rattle.transfers.specs.declared.Tested.the-variants.{Passes, Fails}
 use Rattle.transfers.specs.Before.{addressTest, testedOf, storedBy}
@@ -75,29 +77,29 @@ done-over (Sectors n) p x b d = stored-over _ n _ _ p x b d
 
 -- ---- the machine
 
-past-rest : (l : Bool) (n : ℕ) (first : Bool) (c : Course) (i : ℕ) (s : State) (b t k d : List ℕ) → Seated c i (suc n) s →
-    rest (machine (askTested (testedOf (pick l Located.BadLba Located.BadCylinder)) (suc n) first s) b t k) d
+past-rest : (l : Bool) (n : ℕ) (order : Order) (c : Course) (i : ℕ) (s : State) (b t k d : List ℕ) → Seated c i (suc n) s →
+    rest (machine (askTested (testedOf (pick l Located.BadLba Located.BadCylinder)) (suc n) order s) b t k) d
     ≡ writeDone c i (tried (NotFound 0x2F) (suc n) i (runFrom (tests unwritable WriteFault c k) (i + 1) n)) (plainIn s b t k) d
 unfolding restAt firstSectors lastSectors replaced cleared
-past-rest true n first c i s b t k d q = rw (stops-ends End.BadLba true refl c (suc n) i s b t k q)
-past-rest false n first c i s b t k d q = rw (stops-ends End.BadCylinder true refl c (suc n) i s b t k q)
+past-rest true n order c i s b t k d q = rw (stops-ends End.BadLba refl c (suc n) i s b t k q)
+past-rest false n order c i s b t k d q = rw (stops-ends End.BadCylinder refl c (suc n) i s b t k q)
 
-ask-by : (v : Bool) (n : ℕ) (first : Bool) (c : Course) (i : ℕ) (s : State) (b t k d : List ℕ) → ltb i (c .room) ≡ v → Seated c i (suc n) s →
+ask-by : (v : Bool) (n : ℕ) (order : Order) (c : Course) (i : ℕ) (s : State) (b t k d : List ℕ) → ltb i (c .room) ≡ v → Seated c i (suc n) s →
     locatedIn s ≡ pick v (Located.Good (record { index = i })) (pastEnd c) →
-    rest (machine (askTested (testedOf (pick v (Located.Good (record { index = i })) (pastEnd c))) (suc n) first s) b t k) d ≡ writeSectors c i (suc n) (plainIn s b t k) d
+    rest (machine (askTested (testedOf (pick v (Located.Good (record { index = i })) (pastEnd c))) (suc n) order s) b t k) d ≡ writeSectors c i (suc n) (plainIn s b t k) d
 unfolding restAt doneOut
-ask-by true n first c i s b t k d e q w =
+ask-by true n order c i s b t k d e q w =
     let h = ltb-true i (c .room) e in
     rw (w, q .2, stored-status (unwritable (getD k i 0)) (suc n) i c (plainIn s b t k) (take 512 d) (drop 512 d) 0x58, write-sound n c i (plainIn s b t k) d h)
-ask-by false n first c i s b t k d e q w = unfold writeSectors runFrom tests in rw e (past-rest (c .lba) n first c i s b t k d q)
+ask-by false n order c i s b t k d e q w = unfold writeSectors runFrom tests in rw e (past-rest (c .lba) n order c i s b t k d q)
 
 -- a sector is asked for
-pub ask-rest : (n : ℕ) (first : Bool) (c : Course) (i : ℕ) (s : State) (b t k d : List ℕ) → Seated c i (suc n) s → Where c i s →
-    rest (machine (askSector (suc n) first s) b t k) d ≡ writeSectors c i (suc n) (plainIn s b t k) d
+pub ask-rest : (n : ℕ) (order : Order) (c : Course) (i : ℕ) (s : State) (b t k d : List ℕ) → Seated c i (suc n) s → Where c i s →
+    rest (machine (askSector (suc n) order s) b t k) d ≡ writeSectors c i (suc n) (plainIn s b t k) d
 unfolding askSector addressTest
-ask-rest n first c i s b t k d q w =
-    subst (λ (l : Located). rest (machine (askTested (testedOf l) (suc n) first s) b t k) d ≡ writeSectors c i (suc n) (plainIn s b t k) d) (sym w)
-    (ask-by _ n first c i s b t k d refl q w)
+ask-rest n order c i s b t k d q w =
+    subst (λ (l : Located). rest (machine (askTested (testedOf l) (suc n) order s) b t k) d ≡ writeSectors c i (suc n) (plainIn s b t k) d) (sym w)
+    (ask-by _ n order c i s b t k d refl q w)
 
 -- sector i is stored
 asked-rest : (n : ℕ) (c : Course) (i : ℕ) (s : State) (b t k d : List ℕ) → Shaped (s .made) (s .current) → Seated c i (suc n) s → locatedIn s ≡ Located.Good (record { index = i }) →
@@ -106,7 +108,7 @@ unfolding nextAsked
 asked-rest zero c i s b t k d h q e = unfold sectorDone restAt writeSectors runFrom firstSectors lastSectors replaced cleared in rw (seated-last c i 1 s q)
 asked-rest (suc n) c i s b t k d h q e =
     let z = seat-next c (suc n) i s h e (q .2) in
-    rw (done-on n s, ne-eqb (suc n) 0 (omega arith)) (ask-rest n false c (i + 1) (onward (suc n) s) b t k d (z .0) (z .1) ∙ (unfold writeSectors in refl))
+    rw (done-on n s, ne-eqb (suc n) 0 (omega arith)) (ask-rest n Later c (i + 1) (onward (suc n) s) b t k d (z .0) (z .1) ∙ (unfold writeSectors in refl))
 
 -- its mark first
 pub marked-rest : (u v : Bool) (n : ℕ) (c : Course) (i : ℕ) (m : Machine) (d : List ℕ) → v ≡ not u → i < totalOf (m .state .made .default) → Shaped (m .state .made) (m .state .current) →
@@ -118,5 +120,5 @@ marked-rest true true n c i m d e h g l q w = absurd (true≢false e)
 marked-rest true false n c i m d e h g l q w =
     rw (stored-is (totalOf (m .state .made .default)) i (m .store) (m .marks) (m .buffer) h l, sub-one (suc n))
     (asked-rest n c i (m .state) (m .buffer) (putSector i (m .buffer) (m .store)) (set (m .marks) i 0) d g q w)
-marked-rest false true n c i m d e h g l q w = unfold restAt in rw (stops-ends End.WriteFault true refl c (suc n) i (m .state) (m .buffer) (m .store) (m .marks) q)
+marked-rest false true n c i m d e h g l q w = unfold restAt in rw (stops-ends End.WriteFault refl c (suc n) i (m .state) (m .buffer) (m .store) (m .marks) q)
 marked-rest false false n c i m d e h g l q w = absurd (false≢true e)

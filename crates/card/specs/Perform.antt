@@ -10,7 +10,6 @@ use Rattle.registers.specs.Machine.{Machine, machine, core, coreOf, withCore}
 use Rattle.registers.specs.Resets.{controlWritten, optionCore, optionBuffer}
 use Rattle.registers.specs.Values.{valueRead, afterRead, registerSet}
 use Rattle.port.specs.declared.Done.{Done}
-use Rattle.transfers.specs.Steps.{dropped}
 use Rattle.port.specs.Data.{Effect, effect, accepted, dataRead, dataWritten}
 use Rattle.commands.specs.Table.{commandGiven}
 use Rattle.card.specs.declared.Meaning.{Meaning}
@@ -38,7 +37,7 @@ registerWritten SectorNumber v m = plainWritten SectorNumber v m
 registerWritten CylinderLow v m = plainWritten CylinderLow v m
 registerWritten CylinderHigh v m = plainWritten CylinderHigh v m
 registerWritten DriveHead v m = plainWritten DriveHead v m
-registerWritten StatusCommand v m = pick (m .state .control .held) m (commandGiven v (dropped m))
+registerWritten StatusCommand v m = pick (m .state .control .held) m (commandGiven v m)
 registerWritten AlternateControl v m = withCore (controlWritten v (m .phase) (m .state)) m
 registerWritten DriveAddress v m = plainWritten DriveAddress v m
 

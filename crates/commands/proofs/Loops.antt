@@ -3,24 +3,24 @@ use Prim.Native.Nat.{ℕ, zero, suc, _-_, _<_, _≤_}
 use native.Mathlib.Nat.{not-suc-le-zero}
 use native.Mathlib.Numerals.{sub-one}
 use mathlib.Core.Path.{_≡_, refl, sym}
-use mathlib.Core.Bool.{true}
 use mathlib.Core.List.{List}
+use Rattle.ground.specs.Left.{left}
 use Rattle.geometry.specs.declared.Spot.{Spot}
 use Rattle.registers.specs.declared.State.{State}
 use Rattle.transfers.specs.declared.End.{End}
 use Rattle.transfers.specs.declared.Tested.the-variants.{Passes, Fails}
 use Rattle.transfers.specs.Ends.{ended}
 use Rattle.transfers.specs.declared.Way.the-variants.{In}
-use Rattle.transfers.specs.Before.{sectorTest, storeTested, sectorStored}
+use Rattle.transfers.specs.Before.{sectorTest, sectorStored}
 use Rattle.transfers.specs.Steps.{sectorDone}
-use Rattle.commands.specs.Runs.{verifyFrom, erased, allFF, eraseFrom}
+use Rattle.commands.specs.Runs.{verifyFrom, allFF, eraseFrom}
 
-pub verify-end : (n : ℕ) (s : State) (marks : List ℕ) → n ≤ 0 → verifyFrom n s marks ≡ ended End.Good true s
+pub verify-end : (n : ℕ) (s : State) (marks : List ℕ) → n ≤ 0 → verifyFrom n s marks ≡ ended End.Good s
 unfolding verifyFrom
 verify-end zero s marks h = refl
 verify-end (suc n) s marks h = absurd (not-suc-le-zero h)
 
-pub verify-fails : (n : ℕ) (s : State) (marks : List ℕ) (e : End) → 0 < n → sectorTest In s marks ≡ Fails e → verifyFrom n s marks ≡ ended e true s
+pub verify-fails : (n : ℕ) (s : State) (marks : List ℕ) (e : End) → 0 < n → sectorTest In s marks ≡ Fails e → verifyFrom n s marks ≡ ended e s
 unfolding verifyFrom
 verify-fails zero s marks e h t = absurd (not-suc-le-zero h)
 verify-fails (suc n) s marks e h t = simp t
@@ -30,19 +30,19 @@ unfolding verifyFrom
 verify-step zero s marks spot h t = absurd (not-suc-le-zero h)
 verify-step (suc n) s marks spot h t = simp (t, sub-one)
 
-pub erase-end : (n : ℕ) (s : State) (store marks : List ℕ) → n ≤ 0 → eraseFrom n s store marks ≡ erased (ended End.Good true s) store marks
+pub erase-end : (n : ℕ) (s : State) (store marks : List ℕ) → n ≤ 0 → eraseFrom n s store marks ≡ left (ended End.Good s) store marks
 unfolding eraseFrom
 erase-end zero s store marks h = refl
 erase-end (suc n) s store marks h = absurd (not-suc-le-zero h)
 
 -- the store and the marks after a sector's test are given by what the test and the storing promise
-pub erase-fails : (n : ℕ) (s : State) (store marks store′ marks′ : List ℕ) (e : End) → 0 < n → storeTested (Fails e) store′ marks′ ≡ sectorStored s allFF store marks
-    → eraseFrom n s store marks ≡ erased (ended e true s) store′ marks′
+pub erase-fails : (n : ℕ) (s : State) (store marks store′ marks′ : List ℕ) (e : End) → 0 < n → left (Fails e) store′ marks′ ≡ sectorStored s allFF store marks
+    → eraseFrom n s store marks ≡ left (ended e s) store′ marks′
 unfolding eraseFrom
 erase-fails zero s store marks store′ marks′ e h k = absurd (not-suc-le-zero h)
 erase-fails (suc n) s store marks store′ marks′ e h k = simp (sym k)
 
-pub erase-step : (n : ℕ) (s : State) (store marks store′ marks′ : List ℕ) (spot : Spot) → 0 < n → storeTested (Passes spot) store′ marks′ ≡ sectorStored s allFF store marks
+pub erase-step : (n : ℕ) (s : State) (store marks store′ marks′ : List ℕ) (spot : Spot) → 0 < n → left (Passes spot) store′ marks′ ≡ sectorStored s allFF store marks
     → eraseFrom n s store marks ≡ eraseFrom (n - 1) (sectorDone (n - 1) s) store′ marks′
 unfolding eraseFrom
 erase-step zero s store marks store′ marks′ spot h k = absurd (not-suc-le-zero h)

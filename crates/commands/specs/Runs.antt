@@ -1,8 +1,8 @@
 -- 40H 41H "as read, no data"; C0H "as write, storing FFH (H), no data": sector after sector until none is left or a test fails.
 use Prim.Native.Nat.{ℕ, zero, suc}
-use mathlib.Core.Bool.{true}
 use mathlib.Core.List.{List}
 use lib.ListN.{replicate}
+use Rattle.ground.specs.Left.{Left, left}
 use Rattle.registers.specs.declared.State.{State}
 use Rattle.registers.specs.declared.Core.{Core}
 use Rattle.transfers.specs.declared.End.the-variants.{Good}
@@ -16,25 +16,17 @@ use Rattle.transfers.specs.Steps.{sectorDone}
 -- the rest where the sector's tests hold, else the end
 abbrev pub goesOn {ℓ} : {A : Type ℓ} → Tested → (Core → A) → State → A → A
 goesOn (Passes spot) end s rest = rest
-goesOn (Fails e) end s rest = end (ended e true s)
+goesOn (Fails e) end s rest = end (ended e s)
 
 unfoldable pub verifyFrom : ℕ → State → List ℕ → Core
-verifyFrom zero s marks = ended Good true s
+verifyFrom zero s marks = ended Good s
 verifyFrom (suc n) s marks = goesOn (sectorTest In s marks) (λ k. k) s (verifyFrom n (sectorDone n s) marks)
-
-pub record Erased : Type 0 where
-  pub core : Core
-  pub store : List ℕ
-  pub marks : List ℕ
-
-abbrev pub erased : Core → List ℕ → List ℕ → Erased
-erased k store marks = record { core = k; store = store; marks = marks }
 
 unfoldable pub allFF : List ℕ
 allFF = replicate 512 0xFF
 
-unfoldable pub eraseFrom : ℕ → State → List ℕ → List ℕ → Erased
-eraseFrom zero s store marks = erased (ended Good true s) store marks
+unfoldable pub eraseFrom : ℕ → State → List ℕ → List ℕ → Left Core
+eraseFrom zero s store marks = left (ended Good s) store marks
 eraseFrom (suc n) s store marks =
     let k = sectorStored s allFF store marks in
-    goesOn (k .tested) (λ c. erased c (k .store) (k .marks)) s (eraseFrom n (sectorDone n s) (k .store) (k .marks))
+    goesOn (k .result) (λ c. left c (k .store) (k .marks)) s (eraseFrom n (sectorDone n s) (k .store) (k .marks))

@@ -1,8 +1,9 @@
 -- 01, "Commands": the table.
 use Prim.Native.Nat.{ℕ, _/_}
-use mathlib.Core.Bool.{true, false}
+use mathlib.Core.Bool.{false}
 use lib.Dec.{eqb}
 use Rattle.ground.specs.Choice.{pick}
+use Rattle.ground.specs.Left.{Left}
 use Rattle.geometry.specs.declared.Sought.{Sought}
 use Rattle.geometry.specs.declared.Reshaped.{Reshaped}
 use Rattle.geometry.specs.Address.{seek}
@@ -15,12 +16,12 @@ use Rattle.registers.specs.declared.Core.{Core}
 use Rattle.registers.specs.State.{withInterrupt, withError, withCode, withCount, withAddress, withCurrent, totalIn}
 use Rattle.registers.specs.Machine.{Machine, machine, withCore}
 use Rattle.transfers.specs.declared.End.{End}
-use Rattle.transfers.specs.declared.Way.the-variants.{In, Out}
+use Rattle.transfers.specs.declared.Order.the-variants.{First}
 use Rattle.commands.specs.declared.Command.{Command}
 use Rattle.commands.specs.declared.Command.the-variants.{Read, Write, Verify, Erase, Identify, ReadBuffer, WriteBuffer, SetGeometry, Diagnose, Recalibrate, Seek, Sense, Other}
 use Rattle.transfers.specs.Ends.{ended}
-use Rattle.transfers.specs.Steps.{idleWith, begun, readSector, askSector}
-use Rattle.commands.specs.Runs.{verifyFrom, Erased, eraseFrom}
+use Rattle.transfers.specs.Steps.{idleWith, ready, askedFor, readSector, askSector}
+use Rattle.commands.specs.Runs.{verifyFrom, eraseFrom}
 
 -- the rows that name no sectors
 unfoldable pub sectorlessCommand : ℕ → Command
@@ -60,8 +61,8 @@ factsOf s = record { default = s .made .default; current = s .current }
 
 -- 91H: "S := Count, H := low nibble+1; if S is 0 or H·S>N: ABRT, 21H, old geometry stays"
 abbrev pub reshapedEnded : Reshaped → State → Core
-reshapedEnded (Reshaped.Taken g) s = ended End.Good true (withCurrent g s)
-reshapedEnded Reshaped.Refused s = ended End.BadGeometry true s
+reshapedEnded (Reshaped.Taken g) s = ended End.Good (withCurrent g s)
+reshapedEnded Reshaped.Refused s = ended End.BadGeometry s
 
 abbrev pub geometryEnded : State → Core
 geometryEnded s = reshapedEnded (reshaped (s .registers .count) (s .registers .address .head) (totalIn s)) s
@@ -78,46 +79,46 @@ soughtEnd Sought.BadCylinder = End.BadCylinder
 soughtEnd Sought.BadLba = End.BadLba
 
 abbrev pub seekEnded : State → Core
-seekEnded s = ended (soughtEnd (seek (s .registers .address) (s .current) (totalIn s))) true s
+seekEnded s = ended (soughtEnd (seek (s .registers .address) (s .current) (totalIn s))) s
 
 -- 03H: "Error := last code, which stays"
 abbrev pub senseEnded : State → Core
-senseEnded s = ended End.Good true (withError (s .code) s)
+senseEnded s = ended End.Good (withError (s .code) s)
 
-abbrev pub withErased : Erased → Machine → Machine
-withErased e m = machine (e .core) (m .buffer) (e .store) (e .marks)
+abbrev pub withErased : Left Core → Machine → Machine
+withErased e m = machine (e .result) (m .buffer) (e .store) (e .marks)
 
 -- what a command does; s is the state with Error and code 0. "Commands that move no sectors leave these registers, but for 90H."
 abbrev pub obeyed : Command → State → Machine → Machine
 -- 20H 21H: read sectors
 obeyed Read s m = readSector (countOf s) (idleWith s m)
 -- 30H 31H: write
-obeyed Write s m = withCore (askSector (countOf s) true s) m
+obeyed Write s m = withCore (askSector (countOf s) First s) m
 -- 40H 41H: as read, no data
 obeyed Verify s m = withCore (verifyFrom (countOf s) s (m .marks)) m
 -- C0H: as write, storing FFH, no data
 obeyed Erase s m = withErased (eraseFrom (countOf s) s (m .store) (m .marks)) m
 -- ECH: Identify, 512 bytes through the buffer
-obeyed Identify s m = machine (begun In Buffer true s) (identifyBytes (factsOf s)) (m .store) (m .marks)
+obeyed Identify s m = machine (ready Buffer s) (identifyBytes (factsOf s)) (m .store) (m .marks)
 -- E4H E8H: read, write the 512-byte buffer
-obeyed ReadBuffer s m = withCore (begun In Buffer true s) m
-obeyed WriteBuffer s m = withCore (begun Out Buffer true s) m
+obeyed ReadBuffer s m = withCore (ready Buffer s) m
+obeyed WriteBuffer s m = withCore (askedFor Buffer First s) m
 -- 91H
 obeyed SetGeometry s m = withCore (geometryEnded s) m
 -- 90H: buffer, geometry, index, mask kept
-obeyed Diagnose s m = withCore (ended End.Good true (diagnosed s)) m
+obeyed Diagnose s m = withCore (ended End.Good (diagnosed s)) m
 -- 1XH: nothing
-obeyed Recalibrate s m = withCore (ended End.Good true s) m
+obeyed Recalibrate s m = withCore (ended End.Good s) m
 -- 7XH
 obeyed Seek s m = withCore (seekEnded s) m
 -- 03H: Error := last code, which stays
 obeyed Sense s m = withCore (senseEnded (m .state)) m
 -- others: ABRT, 20H
-obeyed Other s m = withCore (ended End.NoSuchCommand true s) m
+obeyed Other s m = withCore (ended End.NoSuchCommand s) m
 
--- "A Command write drops the transfer, keeps stored sectors, and starts afresh"; the mark is cleared "before the command's own effect"
-abbrev pub quiet : Machine → Machine
-quiet m = idleWith (withInterrupt false (m .state)) m
+-- "A Command write drops the transfer, keeps stored sectors, and starts afresh"; the interrupt mark is cleared "before the command's own effect"
+abbrev pub dropped : Machine → Machine
+dropped m = idleWith (withInterrupt false (m .state)) m
 
 unfoldable pub commandGiven : ℕ → Machine → Machine
-commandGiven opcode m = obeyed (commandOf opcode) (started (quiet m .state)) (quiet m)
+commandGiven opcode m = obeyed (commandOf opcode) (started (dropped m .state)) (dropped m)

@@ -5,14 +5,15 @@ use transfers::End;
 use transfers::Tested;
 use transfers::Way;
 ghost use mathlib.Core.Path.{_≡_};
-ghost use Rattle.commands.specs.Runs.{verifyFrom, erased, eraseFrom};
+ghost use Rattle.ground.specs.Left.{left};
+ghost use Rattle.commands.specs.Runs.{verifyFrom, eraseFrom};
 
 // 40H 41H.
-pub(crate) fn verify(state: State, left: u16, marks: &[u8]) -> Core
-    ensures { λ r. ⌜ r ≡ verifyFrom left state (now (marks .entry)) ⌝ }
+pub(crate) fn verify(state: State, count: u16, marks: &[u8]) -> Core
+    ensures { λ r. ⌜ r ≡ verifyFrom count state (now (marks .entry)) ⌝ }
 {
     let mut s = state;
-    let mut n = left;
+    let mut n = count;
     while 0 < n {
         match transfers::sector_test(s, Way::In, marks) {
             Tested::Passes(_) => {
@@ -20,20 +21,20 @@ pub(crate) fn verify(state: State, left: u16, marks: &[u8]) -> Core
                 s = transfers::sector_done(s, n);
             }
             Tested::Fails(end) => {
-                return transfers::ended(s, end, true);
+                return transfers::ended(s, end);
             }
         }
     }
-    transfers::ended(s, End::Good, true)
+    transfers::ended(s, End::Good)
 }
 
 // C0H.
-pub(crate) fn erase(state: State, left: u16, store: &mut [u8], marks: &mut [u8]) -> Core
-    ensures { λ r. ⌜ erased r (now (store .exit)) (now (marks .exit)) ≡ eraseFrom left state (now (store .entry)) (now (marks .entry)) ⌝ }
+pub(crate) fn erase(state: State, count: u16, store: &mut [u8], marks: &mut [u8]) -> Core
+    ensures { λ r. ⌜ left r (now (store .exit)) (now (marks .exit)) ≡ eraseFrom count state (now (store .entry)) (now (marks .entry)) ⌝ }
 {
     let bytes = [0xFFu8; 512];
     let mut s = state;
-    let mut n = left;
+    let mut n = count;
     while 0 < n {
         match transfers::sector_stored(s, &bytes, store, marks) {
             Tested::Passes(_) => {
@@ -41,9 +42,9 @@ pub(crate) fn erase(state: State, left: u16, store: &mut [u8], marks: &mut [u8])
                 s = transfers::sector_done(s, n);
             }
             Tested::Fails(end) => {
-                return transfers::ended(s, end, true);
+                return transfers::ended(s, end);
             }
         }
     }
-    transfers::ended(s, End::Good, true)
+    transfers::ended(s, End::Good)
 }

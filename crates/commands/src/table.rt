@@ -8,7 +8,7 @@ use registers::Core;
 use registers::Load;
 use registers::State;
 use transfers::End;
-use transfers::Way;
+use transfers::Order;
 ghost use mathlib.Core.Path.{_≡_};
 ghost use Rattle.identify.specs.Words.{identifyBytes};
 ghost use Rattle.registers.specs.Machine.{machine};
@@ -120,9 +120,9 @@ fn set_geometry(state: State) -> Core
         Reshaped::Taken(geometry) => {
             let mut s = state;
             s.current = geometry;
-            transfers::ended(s, End::Good, true)
+            transfers::ended(s, End::Good)
         }
-        Reshaped::Refused => transfers::ended(state, End::BadGeometry, true),
+        Reshaped::Refused => transfers::ended(state, End::BadGeometry),
     }
 }
 
@@ -163,7 +163,7 @@ fn seek(state: State) -> Core
     let registers = state.registers;
     let address = registers.address;
     let sought = address.seek(state.current, state.total());
-    transfers::ended(state, sought_end(sought), true)
+    transfers::ended(state, sought_end(sought))
 }
 
 // 03H: Error is the last code, which stays.
@@ -173,7 +173,7 @@ fn sense(state: State) -> Core
     let mut s = state;
     let code = state.code;
     s.registers.error = code;
-    transfers::ended(s, End::Good, true)
+    transfers::ended(s, End::Good)
 }
 
 // What a command does.
@@ -186,28 +186,28 @@ fn obey(
 ) -> Core
     ensures { λ r. ⌜ machine r (now (buffer .exit)) (now (store .exit)) (now (marks .exit)) ≡ obeyed command (started state) (idle state (now (buffer .entry)) (now (store .entry)) (now (marks .entry))) ⌝ }
 {
-    let ready = started(state);
+    let fresh = started(state);
     match command {
-        Command::Read => transfers::read_sector(ready, count_of(ready), buffer, store, marks),
-        Command::Write => transfers::ask_sector(ready, count_of(ready), true),
-        Command::Verify => super::runs::verify(ready, count_of(ready), marks),
-        Command::Erase => super::runs::erase(ready, count_of(ready), store, marks),
+        Command::Read => transfers::read_sector(fresh, count_of(fresh), buffer, store, marks),
+        Command::Write => transfers::ask_sector(fresh, count_of(fresh), Order::First),
+        Command::Verify => super::runs::verify(fresh, count_of(fresh), marks),
+        Command::Erase => super::runs::erase(fresh, count_of(fresh), store, marks),
         Command::Identify => {
-            identify(ready, buffer);
-            transfers::begun(ready, Way::In, Load::Buffer, true)
+            identify(fresh, buffer);
+            transfers::ready(fresh, Load::Buffer)
         }
-        Command::ReadBuffer => transfers::begun(ready, Way::In, Load::Buffer, true),
-        Command::WriteBuffer => transfers::begun(ready, Way::Out, Load::Buffer, true),
-        Command::SetGeometry => set_geometry(ready),
-        Command::Diagnose => transfers::ended(diagnosed(ready), End::Good, true),
-        Command::Recalibrate => transfers::ended(ready, End::Good, true),
-        Command::Seek => seek(ready),
+        Command::ReadBuffer => transfers::ready(fresh, Load::Buffer),
+        Command::WriteBuffer => transfers::asked_for(fresh, Load::Buffer, Order::First),
+        Command::SetGeometry => set_geometry(fresh),
+        Command::Diagnose => transfers::ended(diagnosed(fresh), End::Good),
+        Command::Recalibrate => transfers::ended(fresh, End::Good),
+        Command::Seek => seek(fresh),
         Command::Sense => sense(state),
-        Command::Other => transfers::ended(ready, End::NoSuchCommand, true),
+        Command::Other => transfers::ended(fresh, End::NoSuchCommand),
     }
 }
 
-// A Command write: the transfer is dropped and the mark cleared, then the command's own effect.
+// A Command write: the transfer is allMoved and the interrupt mark cleared, then the command's own effect.
 pub fn command_given(
     state: State,
     opcode: u8,

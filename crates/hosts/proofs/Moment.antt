@@ -4,8 +4,7 @@ use mathlib.Core.Bool.{Bool, true, false, true≢false}
 use mathlib.Core.Path.{_≡_, refl, sym, ap, _∙_, subst}
 use mathlib.Core.List.{List, [], _∷_, _++_, append-nil, append-assoc}
 use Rattle.registers.specs.Machine.{Machine}
-use Rattle.commands.specs.Table.{commandOf, quiet, commandGiven}
-use Rattle.transfers.specs.Steps.{dropped}
+use Rattle.commands.specs.Table.{commandOf, dropped, commandGiven}
 use Rattle.card.specs.declared.Meaning.{Meaning}
 use Rattle.card.specs.Access.{Access}
 use Rattle.card.specs.Perform.{perform}
@@ -58,7 +57,7 @@ unfolding commandGiven
 means-at-every-moment m v l k =
     calm-on (rowOf v) (plainOf m) l (commanded v m) noNotes _ refl (begun m v k)
     (subst (λ (x : Machine). Lies (targetOf (rowOf v) (plainOf m)) (starts (plainOf m)) x []) (sym (command-given v m (k .free)))
-    (subst (λ (r : Row). Lies (targetOf r (plainOf m)) (starts (plainOf m)) (commandGiven v (dropped m)) []) (sym (same-row v)) (begins-lies (commandOf v) (quiet (dropped m)) (given m k))))
+    (subst (λ (r : Row). Lies (targetOf r (plainOf m)) (starts (plainOf m)) (commandGiven v m) []) (sym (same-row v)) (begins-lies (commandOf v) (dropped m) (given m k))))
 
 -- The same of a Command write that is accepted, and accesses.
 pub at-every-moment : (m : Machine) (a : Access) (v : ℕ) (l : List Access) → AcceptedCommand m a v → Calm (step m a .next) l →

@@ -11,6 +11,7 @@ use Rattle.registers.specs.Machine.{Machine, withCore}
 use Rattle.commands.specs.declared.Command.{Command}
 use Rattle.commands.specs.declared.Command.the-variants.{Read, Write, Verify, Erase, Identify, ReadBuffer, WriteBuffer, SetGeometry, Diagnose, Recalibrate, Seek, Sense, Other}
 use Rattle.commands.specs.Table.{started, countOf, obeyed}
+use Rattle.transfers.specs.declared.Order.the-variants.{First}
 use Rattle.transfers.specs.Before.{addressTest}
 use Rattle.transfers.specs.Steps.{askSector, idleWith}
 use Rattle.transfers.specs.declared.Way.the-variants.{In}
@@ -53,11 +54,11 @@ targetOf Senses p = Nowhere
 targetOf Others p = Nowhere
 
 write-begins : (n : ℕ) (m : Machine) (p : Plain) (l : Located) → p .store ≡ m .store → p .marks ≡ m .marks → Shaped (m .state .made) (m .state .current) → locatedIn (m .state) ≡ l →
-    Lies (targetAt (asPlace l)) p (withCore (askSector (suc n) true (m .state)) m) []
+    Lies (targetAt (asPlace l)) p (withCore (askSector (suc n) First (m .state)) m) []
 unfolding askSector addressTest
 write-begins n m p (Located.Good spot) s k h e =
     unfold askSector addressTest in
-    ask-lies (spot .index) p n true (courseIn (m .state)) (spot .index) (m .state) (m .buffer) (m .store) (m .marks) []
+    ask-lies (spot .index) p n First (courseIn (m .state)) (spot .index) (m .state) (m .buffer) (m .store) (m .marks) []
     (unfold replaced cleared in record { k = 0; size = refl; stored = λ j d. simp zero-add (ap (replaced (spot .index) j d) s); marked = λ j. simp zero-add (ap (cleared (spot .index) j) k) })
     (e ∙ (rw (lt-ltb (spot .index) (courseIn (m .state) .room) (seat-room (m .state) (spot .index) h e))))
 write-begins n m p Located.BadHeadOrSector s k h e = rw e tt
@@ -75,7 +76,7 @@ pub begins-lies : (k : Command) (m : Machine) → Given m → Lies (targetOf (ro
 begins-lies Read m h = read-lies (starts (plainOf m)) _ (obeyed Read (started (m .state)) m) noNotes (begins Read m h)
 begins-lies Write m h =
     let x = idleWith (started (m .state)) m in
-    count-is _ (h .1 .0) x refl (λ (n : ℕ). Lies (targetAt (first (plainOf m))) (starts (plainOf m)) (withCore (askSector n true (x .state)) x) [])
+    count-is _ (h .1 .0) x refl (λ (n : ℕ). Lies (targetAt (first (plainOf m))) (starts (plainOf m)) (withCore (askSector n First (x .state)) x) [])
     (λ n. rw (first-is x (h .0 .0)) (write-begins n x (starts (plainOf m)) (locatedIn (x .state)) refl refl (h .0 .0) refl))
 begins-lies Verify m h = read-lies (starts (plainOf m)) _ (obeyed Verify (started (m .state)) m) noNotes (begins Verify m h)
 begins-lies Erase m h = rw (erase-idle (countOf (started (m .state))) (started (m .state)) (m .store) (m .marks)) tt

@@ -20,10 +20,12 @@ use Rattle.registers.specs.declared.Phase.the-variants.{DataOut}
 use Rattle.registers.specs.declared.State.{State}
 use Rattle.registers.specs.State.{locatedIn}
 use Rattle.registers.specs.Machine.{Machine, machine, withBuffer}
+use Rattle.transfers.specs.declared.Order.{Order}
+use Rattle.transfers.specs.declared.Order.the-variants.{Later}
 use Rattle.transfers.specs.declared.End.{End}
 use Rattle.transfers.specs.declared.Tested.the-variants.{Passes, Fails}
 use Rattle.transfers.specs.Before.{addressTest, testedOf, storedBy, sectorStored}
-use Rattle.transfers.specs.Steps.{askTested, askSector, nextAsked, writtenBy, loadWritten, dropped}
+use Rattle.transfers.specs.Steps.{askTested, askSector, nextAsked, writtenBy, loadWritten, allMoved}
 use Rattle.transfers.specs.declared.Way.the-variants.{Out}
 use Rattle.port.specs.Halves.{nextWord}
 use Rattle.port.specs.Data.{withPhase}
@@ -38,22 +40,22 @@ use Rattle.account.proofs.WordWritten.{sector-test, here-inside}
 use Rattle.hosts.proofs.Written.{Written, Target, Nowhere, From, LoadLies, Lies, word-more, sector-more}
 
 module _ (i : ℕ) (p : Plain) where
-  past-lies : (l : Bool) (n : ℕ) (first : Bool) (s : State) (b t k q : List ℕ) → Lies (From i) p (machine (askTested (testedOf (pick l Located.BadLba Located.BadCylinder)) n first s) b t k) q
-  past-lies true n first s b t k q = tt
-  past-lies false n first s b t k q = tt
+  past-lies : (l : Bool) (n : ℕ) (order : Order) (s : State) (b t k q : List ℕ) → Lies (From i) p (machine (askTested (testedOf (pick l Located.BadLba Located.BadCylinder)) n order s) b t k) q
+  past-lies true n order s b t k q = tt
+  past-lies false n order s b t k q = tt
 
-  ask-by : (v : Bool) (n : ℕ) (first : Bool) (c : Course) (h : ℕ) (s : State) (b t k q : List ℕ) → Written i p h 0 b t k q →
+  ask-by : (v : Bool) (n : ℕ) (order : Order) (c : Course) (h : ℕ) (s : State) (b t k q : List ℕ) → Written i p h 0 b t k q →
       locatedIn s ≡ pick v (Located.Good (record { index = h })) (pastEnd c) →
-      Lies (From i) p (machine (askTested (testedOf (pick v (Located.Good (record { index = h })) (pastEnd c))) (suc n) first s) b t k) q
-  ask-by true n first c h s b t k q z e = subst (λ (x : Located). Written i p (indexOf x) 0 b t k q) (sym e) z
-  ask-by false n first c h s b t k q z e = past-lies (c .lba) (suc n) first s b t k q
+      Lies (From i) p (machine (askTested (testedOf (pick v (Located.Good (record { index = h })) (pastEnd c))) (suc n) order s) b t k) q
+  ask-by true n order c h s b t k q z e = subst (λ (x : Located). Written i p (indexOf x) 0 b t k q) (sym e) z
+  ask-by false n order c h s b t k q z e = past-lies (c .lba) (suc n) order s b t k q
 
   -- a sector is asked for
-  pub ask-lies : (n : ℕ) (first : Bool) (c : Course) (h : ℕ) (s : State) (b t k q : List ℕ) → Written i p h 0 b t k q → Where c h s →
-      Lies (From i) p (machine (askSector (suc n) first s) b t k) q
+  pub ask-lies : (n : ℕ) (order : Order) (c : Course) (h : ℕ) (s : State) (b t k q : List ℕ) → Written i p h 0 b t k q → Where c h s →
+      Lies (From i) p (machine (askSector (suc n) order s) b t k) q
   unfolding askSector addressTest
-  ask-lies n first c h s b t k q z w =
-      subst (λ (l : Located). Lies (From i) p (machine (askTested (testedOf l) (suc n) first s) b t k) q) (sym w) (ask-by (ltb h (c .room)) n first c h s b t k q z w)
+  ask-lies n order c h s b t k q z w =
+      subst (λ (l : Located). Lies (From i) p (machine (askTested (testedOf l) (suc n) order s) b t k) q) (sym w) (ask-by (ltb h (c .room)) n order c h s b t k q z w)
 
   asked-lies : (n : ℕ) (c : Course) (h : ℕ) (s : State) (b t k q : List ℕ) → Shaped (s .made) (s .current) → courseIn s ≡ c → locatedIn s ≡ Located.Good (record { index = h }) →
       Written i p (h + 1) 0 b t k q → Lies (From i) p (machine (nextAsked n s) b t k) q
@@ -61,7 +63,7 @@ module _ (i : ℕ) (p : Plain) where
   asked-lies zero c h s b t k q g x e z = tt
   asked-lies (suc n) c h s b t k q g x e z =
       let y = seat-next c (suc n) h s g e x in
-      rw (done-on n s, ne-eqb (suc n) 0 (omega arith)) (ask-lies n false c (h + 1) (onward (suc n) s) b t k q z (y .1))
+      rw (done-on n s, ne-eqb (suc n) 0 (omega arith)) (ask-lies n Later c (h + 1) (onward (suc n) s) b t k q z (y .1))
 
   marked-lies : (u : Bool) (n h : ℕ) (m : Machine) (l : List ℕ) → h < totalOf (m .state .made .default) → length (m .buffer) ≡ 512 → Ground Out m →
       locatedIn (m .state) ≡ Located.Good (record { index = h }) → Written i p h 256 (m .buffer) (m .store) (m .marks) l →
@@ -95,10 +97,10 @@ load-more (From i) p (Sectors n) h w b o store marks l x y e z = word-more i p h
 pub word-lies : (v : Bool) (g : Target) (p : Plain) (t : Transfer) (m : Machine) (b l : List ℕ) (x y : ℕ) → ltb (t .words) 255 ≡ v → t .words < 256 → length b ≡ 512 →
     take (2 * (t .words + 1)) b ≡ take (2 * t .words) (m .buffer) ++ (x ∷ y ∷ []) → Ground Out m → Loaded (t .load) (bare (plainOf m)) →
     LoadLies g (t .load) p (here (m .state)) (t .words) (m .buffer) (m .store) (m .marks) l →
-    Lies g p (pick v (withPhase (DataOut (nextWord t)) (withBuffer b m)) (loadWritten (t .load) (dropped (withBuffer b m)))) (l ++ (x ∷ y ∷ []))
+    Lies g p (pick v (withPhase (DataOut (nextWord t)) (withBuffer b m)) (loadWritten (t .load) (allMoved (withBuffer b m)))) (l ++ (x ∷ y ∷ []))
 word-lies true g p t m b l x y e w f o u k z = load-more g p (t .load) (here (m .state)) (t .words) b (m .buffer) (m .store) (m .marks) l x y o z
 word-lies false g p t m b l x y e w f o u k z =
     let q : t .words + 1 ≡ 256 = omega (arith, ltb-false) in
-    load-lies g p (t .load) (dropped (withBuffer b m)) (l ++ (x ∷ y ∷ [])) f u k
+    load-lies g p (t .load) (allMoved (withBuffer b m)) (l ++ (x ∷ y ∷ [])) f u k
     (subst (λ (n : ℕ). LoadLies g (t .load) p (here (m .state)) n b (m .store) (m .marks) (l ++ (x ∷ y ∷ []))) q
     (load-more g p (t .load) (here (m .state)) (t .words) b (m .buffer) (m .store) (m .marks) l x y o z))

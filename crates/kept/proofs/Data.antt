@@ -10,6 +10,7 @@ use Rattle.ground.proofs.Picks.{un-not}
 use Rattle.maps.specs.declared.Port.{Port}
 use Rattle.registers.specs.declared.Transfer.{Transfer}
 use Rattle.registers.specs.declared.Phase.{Phase}
+use Rattle.registers.specs.declared.Phase.the-variants.{DataIn, DataOut}
 use Rattle.registers.specs.declared.Made.{Made}
 use Rattle.registers.specs.declared.State.{State}
 use Rattle.registers.specs.Machine.{Machine, coreOf}
@@ -18,7 +19,7 @@ use Rattle.port.specs.declared.Part.{Part}
 use Rattle.port.specs.Halves.{halved, nextWord}
 use Rattle.transfers.specs.declared.Way.{Way}
 use Rattle.transfers.specs.declared.Way.the-variants.{In, Out}
-use Rattle.transfers.specs.Steps.{phaseOf, dropped}
+use Rattle.transfers.specs.Steps.{allMoved}
 use Rattle.port.specs.Data.{Effect, withPhase, dataRead, dataWritten}
 use Rattle.kept.proofs.Registers.{PhaseFits, CoreFits}
 use Rattle.kept.proofs.Lent.{lent-same, part-length}
@@ -27,6 +28,10 @@ use Rattle.kept.proofs.DataElim.{partCome, data-read-elim, data-written
 use Rattle.kept.proofs.Steps.{load-read, load-written}
 
 -- ---- either way
+
+abbrev pub phaseOf : Way → Transfer → Phase
+phaseOf In t = DataIn t
+phaseOf Out t = DataOut t
 
 running : (way : Way) (t : Transfer) (s : State) → PhaseFits (phaseOf way t) s → (heldIn s ≡ false) × (loadFits (t .load) s ≡ true)
 unfolding holdFits runFits
@@ -59,7 +64,7 @@ data-read port d m f =
     data-read-elim (λ (x : Effect). Next d m (x .next)) port m (λ v. (f, lent-same m)) (f, lent-same m)
     (λ v part t e. ((f .0, halved-fits In part t (m .state) (onward In t d m e f), f .2), lent-same m))
     (λ v t e w. (next-word In t d m e w f, lent-same m))
-    (λ v t e. let x = running In t (m .state) (onward In t d m e f) in load-read (t .load) d (dropped m) ((f .0, f .2), x .0) (x .1))
+    (λ v t e. let x = running In t (m .state) (onward In t d m e f) in load-read (t .load) d (allMoved m) ((f .0, f .2), x .0) (x .1))
 
 come : (part : Part) (t : Transfer) (value : ℕ) (m : Machine) → length (m .buffer) ≡ 512 → length (partCome part t value m .buffer) ≡ 512
 come part t value m b = part-length part (t .words) value (m .buffer) ∙ b
@@ -71,5 +76,5 @@ data-written port value d m f =
     (λ part t e w. (next-word Out t d m e w f, λ b. (refl, refl, come part t value m b)))
     (λ part t e.
     let x = running Out t (m .state) (onward Out t d m e f) in
-    let w = load-written (t .load) d (dropped (partCome part t value m)) ((f .0, f .2), x .0) (x .1) in
+    let w = load-written (t .load) d (allMoved (partCome part t value m)) ((f .0, f .2), x .0) (x .1) in
     (w .0, λ b. w .1 (come part t value m b)))

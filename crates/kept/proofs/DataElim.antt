@@ -14,7 +14,7 @@ use Rattle.registers.specs.Machine.{Machine, withBuffer}
 use Rattle.port.specs.declared.Part.{Part}
 use Rattle.port.specs.declared.Take.{Take}
 use Rattle.port.specs.Halves.{takeOf, partValue, withPart, halved, nextWord}
-use Rattle.transfers.specs.Steps.{loadRead, loadWritten, dropped}
+use Rattle.transfers.specs.Steps.{loadRead, loadWritten, allMoved}
 use Rattle.port.specs.Data.{Effect, accepted, withPhase, wordRead, takenRead, phaseRead, dataRead, wordWritten, takenWritten, phaseWritten, dataWritten}
 
 -- refusal 11
@@ -26,7 +26,7 @@ halfMoved m = record { outcome = Outcome.Refused HalfMoved; next = m }
 taken-read : (P : Effect → Type 0) (k : Take) (t : Transfer) (m : Machine) → P (halfMoved m) →
     ((v : ℕ) (part : Part) → P (accepted v (withPhase (DataIn (halved part t)) m))) →
     ((v : ℕ) → ltb (t .words) 255 ≡ true → P (accepted v (withPhase (DataIn (nextWord t)) m))) →
-    ((v : ℕ) → P (accepted v (loadRead (t .load) (dropped m)))) →
+    ((v : ℕ) → P (accepted v (loadRead (t .load) (allMoved m)))) →
     P (takenRead k t m)
 unfolding wordRead
 taken-read P Take.Refused t m r h n l = r
@@ -38,7 +38,7 @@ taken-read P (Take.Moves part true) t m r h n l =
 phase-read-elim : (P : Effect → Type 0) (p : Phase) (port : Port) (m : Machine) → ((v : ℕ) → P (accepted v m)) → P (halfMoved m) →
     ((v : ℕ) (part : Part) (t : Transfer) → p ≡ DataIn t → P (accepted v (withPhase (DataIn (halved part t)) m))) →
     ((v : ℕ) (t : Transfer) → p ≡ DataIn t → ltb (t .words) 255 ≡ true → P (accepted v (withPhase (DataIn (nextWord t)) m))) →
-    ((v : ℕ) (t : Transfer) → p ≡ DataIn t → P (accepted v (loadRead (t .load) (dropped m)))) →
+    ((v : ℕ) (t : Transfer) → p ≡ DataIn t → P (accepted v (loadRead (t .load) (allMoved m)))) →
     P (phaseRead p port m)
 phase-read-elim P Idle port m a r h n l = a _
 phase-read-elim P (DataIn t) port m a r h n l = taken-read P (takeOf (t .half) port) t m r (λ v part. h v part t refl) (λ v e. n v t refl e) (λ v. l v t refl)
@@ -48,7 +48,7 @@ phase-read-elim P (DataOut t) port m a r h n l = a _
 pub data-read-elim : (P : Effect → Type 0) (port : Port) (m : Machine) → ((v : ℕ) → P (accepted v m)) → P (halfMoved m) →
     ((v : ℕ) (part : Part) (t : Transfer) → m .phase ≡ DataIn t → P (accepted v (withPhase (DataIn (halved part t)) m))) →
     ((v : ℕ) (t : Transfer) → m .phase ≡ DataIn t → ltb (t .words) 255 ≡ true → P (accepted v (withPhase (DataIn (nextWord t)) m))) →
-    ((v : ℕ) (t : Transfer) → m .phase ≡ DataIn t → P (accepted v (loadRead (t .load) (dropped m)))) →
+    ((v : ℕ) (t : Transfer) → m .phase ≡ DataIn t → P (accepted v (loadRead (t .load) (allMoved m)))) →
     P (dataRead port m)
 unfolding dataRead
 data-read-elim P port m a r h n l = pick-elim P (m .state .control .held) _ _ (λ e. a _) (λ e. phase-read-elim P (m .phase) port m a r h n l)
@@ -62,7 +62,7 @@ partCome part t value m = withBuffer (withPart part (t .words) value (m .buffer)
 taken-written : (P : Effect → Type 0) (k : Take) (value : ℕ) (t : Transfer) (m : Machine) → P (halfMoved m) →
     ((part : Part) → P (accepted 0 (withPhase (DataOut (halved part t)) (partCome part t value m)))) →
     ((part : Part) → ltb (t .words) 255 ≡ true → P (accepted 0 (withPhase (DataOut (nextWord t)) (partCome part t value m)))) →
-    ((part : Part) → P (accepted 0 (loadWritten (t .load) (dropped (partCome part t value m))))) →
+    ((part : Part) → P (accepted 0 (loadWritten (t .load) (allMoved (partCome part t value m))))) →
     P (takenWritten k value t m)
 unfolding wordWritten
 taken-written P Take.Refused value t m r h n l = r
@@ -72,7 +72,7 @@ taken-written P (Take.Moves part true) value t m r h n l = pick-elim (λ (x : Ma
 phase-written-elim : (P : Effect → Type 0) (p : Phase) (port : Port) (value : ℕ) (m : Machine) → P (accepted 0 m) → P (halfMoved m) →
     ((part : Part) (t : Transfer) → p ≡ DataOut t → P (accepted 0 (withPhase (DataOut (halved part t)) (partCome part t value m)))) →
     ((part : Part) (t : Transfer) → p ≡ DataOut t → ltb (t .words) 255 ≡ true → P (accepted 0 (withPhase (DataOut (nextWord t)) (partCome part t value m)))) →
-    ((part : Part) (t : Transfer) → p ≡ DataOut t → P (accepted 0 (loadWritten (t .load) (dropped (partCome part t value m))))) →
+    ((part : Part) (t : Transfer) → p ≡ DataOut t → P (accepted 0 (loadWritten (t .load) (allMoved (partCome part t value m))))) →
     P (phaseWritten p port value m)
 phase-written-elim P Idle port value m a r h n l = a
 phase-written-elim P (DataIn t) port value m a r h n l = a
@@ -82,7 +82,7 @@ phase-written-elim P (DataOut t) port value m a r h n l =
 pub data-written-elim : (P : Effect → Type 0) (port : Port) (value : ℕ) (m : Machine) → P (accepted 0 m) → P (halfMoved m) →
     ((part : Part) (t : Transfer) → m .phase ≡ DataOut t → P (accepted 0 (withPhase (DataOut (halved part t)) (partCome part t value m)))) →
     ((part : Part) (t : Transfer) → m .phase ≡ DataOut t → ltb (t .words) 255 ≡ true → P (accepted 0 (withPhase (DataOut (nextWord t)) (partCome part t value m)))) →
-    ((part : Part) (t : Transfer) → m .phase ≡ DataOut t → P (accepted 0 (loadWritten (t .load) (dropped (partCome part t value m))))) →
+    ((part : Part) (t : Transfer) → m .phase ≡ DataOut t → P (accepted 0 (loadWritten (t .load) (allMoved (partCome part t value m))))) →
     P (dataWritten port value m)
 unfolding dataWritten
 data-written-elim P port value m a r h n l = pick-elim P (m .state .control .held) _ _ (λ e. a) (λ e. phase-written-elim P (m .phase) port value m a r h n l)

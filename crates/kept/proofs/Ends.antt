@@ -22,11 +22,10 @@ use Rattle.geometry.specs.Address.{found}
 use Rattle.transfers.specs.declared.End.{End}
 use Rattle.transfers.specs.declared.Tested.{Tested}
 use Rattle.transfers.specs.declared.Tested.the-variants.{Passes, Fails}
-use Rattle.transfers.specs.declared.Way.{Way}
-use Rattle.transfers.specs.declared.Way.the-variants.{In, Out}
-use Rattle.transfers.specs.Ends.{endStatus, ended}
+use Rattle.transfers.specs.declared.Order.{Order}
+use Rattle.transfers.specs.Ends.{endStatus, ended, readingEnded}
 use Rattle.transfers.specs.Before.{testedOf, markTested}
-use Rattle.transfers.specs.Steps.{begun, sectorDone}
+use Rattle.transfers.specs.Steps.{ready, askedFor, sectorDone}
 use Rattle.kept.specs.Sound.{CountFits}
 use Rattle.kept.proofs.Registers.{StateFits, PhaseFits, CoreFits, load-same}
 use Rattle.kept.proofs.Resets.{at-rest}
@@ -58,16 +57,19 @@ end-rests End.WriteFault = refl
 end-rests End.BadGeometry = refl
 end-rests End.NoSuchCommand = refl
 
-pub ended-left : (e : End) (mark : Bool) (d : Made) (s : State) → Fine d s → CoreFits d (ended e mark s)
-ended-left e mark d s f = (f .0, at-rest (ended e mark s .state) (end-rests e), f .1)
+pub ended-left : (e : End) (d : Made) (s : State) → Fine d s → CoreFits d (ended e s)
+ended-left e d s f = (f .0, at-rest (ended e s .state) (end-rests e), f .1)
 
-begun-fits : (way : Way) (load : Load) (first : Bool) (s : State) → heldIn s ≡ false → loadFits load s ≡ true → PhaseFits (begun way load first s .phase) (begun way load first s .state)
+pub reading-left : (d : Made) (s : State) → Fine d s → CoreFits d (readingEnded s)
+reading-left d s f = (f .0, at-rest (readingEnded s .state) (end-rests End.Good), f .1)
+
+pub ready-left : (load : Load) (d : Made) (s : State) → Ready d s → loadFits load s ≡ true → CoreFits d (ready load s)
 unfolding statusFits holdFits wordsFit runFits heldIn
-begun-fits In load first s h e = (refl, ap not h, refl, load-same load s (begun In load first s .state) refl refl e)
-begun-fits Out load first s h e = (refl, ap not h, refl, load-same load s (begun Out load first s .state) refl refl e)
+ready-left load d s r e = (r .0 .0, (refl, ap not (r .1), refl, load-same load s (ready load s .state) refl refl e), r .0 .1)
 
-pub begun-left : (way : Way) (load : Load) (first : Bool) (d : Made) (s : State) → Ready d s → loadFits load s ≡ true → CoreFits d (begun way load first s)
-begun-left way load first d s r e = (r .0 .0, begun-fits way load first s (r .1) e, r .0 .1)
+pub asked-left : (load : Load) (order : Order) (d : Made) (s : State) → Ready d s → loadFits load s ≡ true → CoreFits d (askedFor load order s)
+unfolding statusFits holdFits wordsFit runFits heldIn
+asked-left load order d s r e = (r .0 .0, (refl, ap not (r .1), refl, load-same load s (askedFor load order s .state) refl refl e), r .0 .1)
 
 pub sectors-fit : (left : ℕ) (s : State) → found (locatedIn s) ≡ true → CountAgrees left s → loadFits (Sectors left) s ≡ true
 unfolding loadFits sectorsFit every

@@ -11,7 +11,6 @@ use Rattle.registers.specs.State.{sresetIn, totalIn}
 use Rattle.registers.specs.Machine.{Machine, coreOf}
 use Rattle.registers.specs.WellMade.{wellMade, heldIn}
 use Rattle.registers.specs.Resets.{optionTurn, controlWritten, optionCore}
-use Rattle.transfers.specs.Steps.{dropped}
 use Rattle.card.specs.declared.Meaning.{Meaning}
 use Rattle.card.specs.declared.Meaning.the-variants.{TupleByte, ReadOption, WriteOption, ReadRegister, WriteRegister, ReadData, WriteData}
 use Rattle.card.specs.Perform.{optionWritten, registerWritten, perform}
@@ -47,7 +46,7 @@ register-next : (r : Register) (v : ℕ) (d : Made) (m : Machine) → sresetIn (
 register-next r v d m a b f =
     written-elim (Next d m) r v m (same d m f)
     (λ e h. (set-left r v d (m .phase) (m .state) b h f, lent-same m))
-    (λ c e. command-next v d (dropped m) ((f .0, f .2), not-held (m .state) a e))
+    (λ c e. command-next v d m ((f .0, f .2), not-held (m .state) a e))
     (λ c.
     (turned-left d (m .state) (controlWritten v (m .phase) (m .state)) (f .2) (control-turned v d (m .phase) (m .state) (f .0) (f .1)), lent-same m))
 

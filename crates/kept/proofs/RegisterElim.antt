@@ -12,7 +12,6 @@ use Rattle.registers.specs.State.{runs, withInterrupt, withCount, withAddress}
 use Rattle.registers.specs.Machine.{Machine, core, coreOf, withCore}
 use Rattle.registers.specs.Resets.{controlWritten}
 use Rattle.registers.specs.Values.{afterRead, registerSet}
-use Rattle.transfers.specs.Steps.{dropped}
 use Rattle.commands.specs.Table.{commandGiven}
 use Rattle.card.specs.Perform.{plainCore, registerWritten}
 
@@ -50,7 +49,7 @@ plain-elim P r v k a f = pick-elim P (k .state .control .held) _ _ (λ e. a) (λ
 
 pub written-elim : (P : Machine → Type 0) (r : Register) (v : ℕ) (m : Machine) → P m →
     (m .state .control .held ≡ false → runs (m .phase) ≡ false → P (withCore (core (m .phase) (registerSet r v (m .state))) m)) →
-    (r ≡ StatusCommand → m .state .control .held ≡ false → P (commandGiven v (dropped m))) →
+    (r ≡ StatusCommand → m .state .control .held ≡ false → P (commandGiven v m)) →
     (r ≡ AlternateControl → P (withCore (controlWritten v (m .phase) (m .state)) m)) →
     P (registerWritten r v m)
 unfolding registerWritten

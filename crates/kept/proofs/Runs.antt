@@ -4,6 +4,7 @@ use mathlib.Core.Bool.{true}
 use mathlib.Core.Path.{_≡_, refl, _∙_}
 use mathlib.Core.List.{List}
 use lib.ListN.{length, length-replicate}
+use Rattle.ground.specs.Left.{Left, left}
 use Rattle.registers.specs.declared.Made.{Made}
 use Rattle.registers.specs.declared.State.{State}
 use Rattle.registers.specs.declared.Core.{Core}
@@ -14,23 +15,23 @@ use Rattle.transfers.specs.Ends.{ended}
 use Rattle.transfers.specs.declared.Way.the-variants.{In}
 use Rattle.transfers.specs.Before.{sectorTest, sectorStored, storedBy}
 use Rattle.transfers.specs.Steps.{sectorDone}
-use Rattle.commands.specs.Runs.{goesOn, verifyFrom, Erased, erased, allFF, eraseFrom}
+use Rattle.commands.specs.Runs.{goesOn, verifyFrom, allFF, eraseFrom}
 use Rattle.kept.proofs.Registers.{CoreFits}
 use Rattle.kept.proofs.Ends.{Fine, ended-left, done-fine}
 use Rattle.kept.proofs.Steps.{sector-stored}
 
 -- a sector of Erase by its tests, with n to come
-abbrev pub erasesOn : Tested → ℕ → State → List ℕ → List ℕ → Erased
+abbrev pub erasesOn : Tested → ℕ → State → List ℕ → List ℕ → Left Core
 erasesOn x n s t k =
-    goesOn (storedBy x allFF t k .tested) (λ c. erased c (storedBy x allFF t k .store) (storedBy x allFF t k .marks)) s
+    goesOn (storedBy x allFF t k .result) (λ c. left c (storedBy x allFF t k .store) (storedBy x allFF t k .marks)) s
     (eraseFrom n (sectorDone n s) (storedBy x allFF t k .store) (storedBy x allFF t k .marks))
 
-goes-elim : {A : Type 0} (P : A → Type 0) (t : Tested) (end : Core → A) (s : State) (rest : A) → ((e : End) → P (end (ended e true s))) → P rest → P (goesOn t end s rest)
+goes-elim : {A : Type 0} (P : A → Type 0) (t : Tested) (end : Core → A) (s : State) (rest : A) → ((e : End) → P (end (ended e s))) → P rest → P (goesOn t end s rest)
 goes-elim P (Passes spot) end s rest f g = g
 goes-elim P (Fails e) end s rest f g = f e
 
 -- what each sector and each end keep, Verify keeps
-pub verify-elim : (I : State → Type 0) (P : Core → Type 0) → ((n : ℕ) (s : State) → I s → I (sectorDone n s)) → ((e : End) (s : State) → I s → P (ended e true s)) →
+pub verify-elim : (I : State → Type 0) (P : Core → Type 0) → ((n : ℕ) (s : State) → I s → I (sectorDone n s)) → ((e : End) (s : State) → I s → P (ended e s)) →
     (n : ℕ) (s : State) (marks : List ℕ) → I s → P (verifyFrom n s marks)
 unfolding verifyFrom
 verify-elim I P f g zero s marks h = g End.Good s h
@@ -38,26 +39,26 @@ verify-elim I P f g (suc n) s marks h =
     goes-elim P (sectorTest In s marks) (λ k. k) s (verifyFrom n (sectorDone n s) marks) (λ e. g e s h) (verify-elim I P f g n (sectorDone n s) marks (f n s h))
 
 -- … and Erase, with the store and the marks
-pub erase-elim : (I : State → List ℕ → List ℕ → Type 0) (P : Erased → Type 0) →
+pub erase-elim : (I : State → List ℕ → List ℕ → Type 0) (P : Left Core → Type 0) →
     ((s : State) (store marks : List ℕ) → I s store marks → I s (sectorStored s allFF store marks .store) (sectorStored s allFF store marks .marks)) →
     ((n : ℕ) (s : State) (store marks : List ℕ) → I s store marks → I (sectorDone n s) store marks) →
-    ((e : End) (s : State) (store marks : List ℕ) → I s store marks → P (erased (ended e true s) store marks)) →
+    ((e : End) (s : State) (store marks : List ℕ) → I s store marks → P (left (ended e s) store marks)) →
     (n : ℕ) (s : State) (store marks : List ℕ) → I s store marks → P (eraseFrom n s store marks)
 unfolding eraseFrom
 erase-elim I P w f g zero s store marks h = g End.Good s store marks h
 erase-elim I P w f g (suc n) s store marks h =
     let k = sectorStored s allFF store marks in
     let i = w s store marks h in
-    goes-elim P (k .tested) (λ c. erased c (k .store) (k .marks)) s (eraseFrom n (sectorDone n s) (k .store) (k .marks))
+    goes-elim P (k .result) (λ c. left c (k .store) (k .marks)) s (eraseFrom n (sectorDone n s) (k .store) (k .marks))
     (λ e. g e s (k .store) (k .marks) i)
     (erase-elim I P w f g n (sectorDone n s) (k .store) (k .marks) (f n s (k .store) (k .marks) i))
 
 pub verify-left : (n : ℕ) (d : Made) (s : State) (marks : List ℕ) → Fine d s → CoreFits d (verifyFrom n s marks)
-verify-left n d = verify-elim (Fine d) (CoreFits d) (λ n s f. done-fine n d s f) (λ e s f. ended-left e true d s f) n
+verify-left n d = verify-elim (Fine d) (CoreFits d) (λ n s f. done-fine n d s f) (λ e s f. ended-left e d s f) n
 
 -- what Erase leaves
-abbrev pub Blanked : Made → List ℕ → List ℕ → Erased → Type 0
-Blanked d store marks x = CoreFits d (x .core) × (length (x .store) ≡ length store) × (length (x .marks) ≡ length marks)
+abbrev pub Blanked : Made → List ℕ → List ℕ → Left Core → Type 0
+Blanked d store marks x = CoreFits d (x .result) × (length (x .store) ≡ length store) × (length (x .marks) ≡ length marks)
 
 pub all-FF-length : length allFF ≡ 512
 unfolding allFF
@@ -68,5 +69,5 @@ erase-left n d s store marks f =
     erase-elim (λ (x : State) (st mk : List ℕ). Fine d x × (length st ≡ length store) × (length mk ≡ length marks)) (Blanked d store marks)
     (λ x st mk h. let w = sector-stored x allFF st mk all-FF-length in (h .0, w .0 ∙ h .1, w .1 ∙ h .2))
     (λ k x st mk h. (done-fine k d x (h .0), h .1, h .2))
-    (λ e x st mk h. (ended-left e true d x (h .0), h .1, h .2))
+    (λ e x st mk h. (ended-left e d x (h .0), h .1, h .2))
     n s store marks (f, refl, refl)

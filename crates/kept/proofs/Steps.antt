@@ -21,11 +21,13 @@ use Rattle.transfers.specs.declared.End.{End}
 use Rattle.transfers.specs.declared.Tested.{Tested}
 use Rattle.transfers.specs.declared.Tested.the-variants.{Passes, Fails}
 use Rattle.transfers.specs.declared.Way.the-variants.{In, Out}
+use Rattle.transfers.specs.declared.Order.{Order}
+use Rattle.transfers.specs.declared.Order.the-variants.{Later}
 use Rattle.transfers.specs.Before.{addressTest, sectorTest, storedBy, sectorStored}
 use Rattle.transfers.specs.Steps.{idleWith, sectorDone, readTested, readSector, nextRead, loadRead, askTested, askSector, nextAsked, coreWritten, loadWritten}
 use Rattle.kept.proofs.Registers.{CoreFits}
 use Rattle.kept.proofs.Lent.{lent-same, buffer-read, stored-lengths}
-use Rattle.kept.proofs.Ends.{Ready, CountAgrees, Next, ended-left, begun-left, sectors-fit, address-elim, mark-elim, done-ready, done-agrees}
+use Rattle.kept.proofs.Ends.{Ready, CountAgrees, Next, ended-left, reading-left, ready-left, asked-left, sectors-fit, address-elim, mark-elim, done-ready, done-agrees}
 
 -- ---- reading
 
@@ -33,15 +35,15 @@ pub read-next : (left : ℕ) (d : Made) (m : Machine) → Ready d (m .state) →
 unfolding readSector sectorTest addressTest
 read-next left d m r a =
     mark-elim (λ (t : Tested). Next d m (readTested t left m)) _ _ (m .marks) (locatedIn (m .state)) refl
-    (λ spot g. (begun-left In (Sectors left) true d (m .state) r (sectors-fit left (m .state) g a), λ b. (refl, refl, buffer-read (m .store) (spot .index) (m .buffer) b)))
-    (λ e b. (ended-left e true d (m .state) (r .0), lent-same m))
+    (λ spot g. (ready-left (Sectors left) d (m .state) r (sectors-fit left (m .state) g a), λ b. (refl, refl, buffer-read (m .store) (spot .index) (m .buffer) b)))
+    (λ e b. (ended-left e d (m .state) (r .0), lent-same m))
 
 on-read : (left : ℕ) (d : Made) (m : Machine) → left ≤ 255 → Ready d (m .state) → Next d m (nextRead left m)
 unfolding nextRead
 on-read left d m l r =
     let q = done-ready left d (m .state) r in
     pick-elim (λ (n : Machine). Next d m n) (eqb left 0) _ _
-    (λ e. (ended-left End.Good (m .state .interrupt) d (sectorDone left (m .state)) (q .0), lent-same m))
+    (λ e. (reading-left d (sectorDone left (m .state)) (q .0), lent-same m))
     (λ e. read-next left d (idleWith (sectorDone left (m .state)) m) q (done-agrees left (m .state) e l))
 
 -- 1..256 sectors were left
@@ -50,29 +52,29 @@ unfolding loadFits sectorsFit
 few left s e = let h = leb-true left 256 (each _ e 2) in omega arith
 
 pub load-read : (load : Load) (d : Made) (m : Machine) → Ready d (m .state) → loadFits load (m .state) ≡ true → Next d m (loadRead load m)
-load-read Buffer d m r e = (ended-left End.Good (m .state .interrupt) d (m .state) (r .0), lent-same m)
+load-read Buffer d m r e = (reading-left d (m .state) (r .0), lent-same m)
 load-read (Sectors left) d m r e = on-read (left - 1) d m (few left (m .state) e) r
 
 -- ---- writing
 
-pub ask-left : (left : ℕ) (first : Bool) (d : Made) (s : State) → Ready d s → CountAgrees left s → CoreFits d (askSector left first s)
+pub ask-left : (left : ℕ) (order : Order) (d : Made) (s : State) → Ready d s → CountAgrees left s → CoreFits d (askSector left order s)
 unfolding askSector addressTest
-ask-left left first d s r a =
-    address-elim (λ (t : Tested). CoreFits d (askTested t left first s)) (locatedIn s)
-    (λ spot g. begun-left Out (Sectors left) first d s r (sectors-fit left s g a))
-    (λ e b. ended-left e true d s (r .0))
+ask-left left order d s r a =
+    address-elim (λ (t : Tested). CoreFits d (askTested t left order s)) (locatedIn s)
+    (λ spot g. asked-left (Sectors left) order d s r (sectors-fit left s g a))
+    (λ e b. ended-left e d s (r .0))
 
 on-asked : (left : ℕ) (d : Made) (s : State) → left ≤ 255 → Ready d s → CoreFits d (nextAsked left s)
 unfolding nextAsked
 on-asked left d s l r =
     let q = done-ready left d s r in
     pick-elim (λ (k : Core). CoreFits d k) (eqb left 0) _ _
-    (λ e. ended-left End.Good true d (sectorDone left s) (q .0))
-    (λ e. ask-left left false d (sectorDone left s) q (done-agrees left s e l))
+    (λ e. ended-left End.Good d (sectorDone left s) (q .0))
+    (λ e. ask-left left Later d (sectorDone left s) q (done-agrees left s e l))
 
 written-left : (t : Tested) (left : ℕ) (d : Made) (s : State) → left ≤ 255 → Ready d s → CoreFits d (coreWritten t left s)
 written-left (Passes spot) left d s l r = on-asked left d s l r
-written-left (Fails e) left d s l r = ended-left e true d s (r .0)
+written-left (Fails e) left d s l r = ended-left e d s (r .0)
 
 stored-by : (t : Tested) (bytes store marks : List ℕ) → length bytes ≡ 512 →
     (length (storedBy t bytes store marks .store) ≡ length store) × (length (storedBy t bytes store marks .marks) ≡ length marks)
@@ -85,8 +87,8 @@ unfolding sectorStored
 sector-stored s bytes store marks b = stored-by (sectorTest Out s marks) bytes store marks b
 
 pub load-written : (load : Load) (d : Made) (m : Machine) → Ready d (m .state) → loadFits load (m .state) ≡ true → Next d m (loadWritten load m)
-load-written Buffer d m r e = (ended-left End.Good true d (m .state) (r .0), lent-same m)
+load-written Buffer d m r e = (ended-left End.Good d (m .state) (r .0), lent-same m)
 load-written (Sectors left) d m r e = (
-  written-left (sectorStored (m .state) (m .buffer) (m .store) (m .marks) .tested) (left - 1) d (m .state) (few left (m .state) e) r,
+  written-left (sectorStored (m .state) (m .buffer) (m .store) (m .marks) .result) (left - 1) d (m .state) (few left (m .state) e) r,
   λ b. let w = sector-stored (m .state) (m .buffer) (m .store) (m .marks) b in (w .0, w .1, b),
 )

@@ -18,9 +18,9 @@ use Rattle.commands.specs.declared.Command.{Command}
 use Rattle.commands.specs.declared.Command.the-variants.{Read, Write, Verify, Erase, Identify, ReadBuffer, WriteBuffer, SetGeometry, Diagnose, Recalibrate, Seek, Sense, Other}
 use Rattle.transfers.specs.declared.Way.the-variants.{In}
 use Rattle.transfers.specs.Before.{sectorTest}
-use Rattle.transfers.specs.Steps.{idleWith, sectorDone, readTested, readSector, nextRead, loadRead, dropped}
+use Rattle.transfers.specs.Steps.{idleWith, sectorDone, readTested, readSector, nextRead, loadRead, allMoved}
 use Rattle.port.specs.Data.{Effect, accepted, phaseWritten, dataWritten}
-use Rattle.commands.specs.Table.{countOf, commandOf, started, quiet, obeyed, commandGiven}
+use Rattle.commands.specs.Table.{countOf, commandOf, started, dropped, obeyed, commandGiven}
 use Rattle.card.specs.declared.Meaning.{Meaning}
 use Rattle.card.specs.declared.Meaning.the-variants.{TupleByte, ReadOption, WriteOption, ReadRegister, WriteRegister, ReadData, WriteData}
 use Rattle.card.specs.Access.{Access, meaning}
@@ -33,18 +33,18 @@ use Rattle.laws.proofs.WrittenSectors.{phase-written}
 
 -- ---- reading changes nothing
 
-abbrev Left : StoreMarks → Machine → Type 0
-Left k n = storeMarksIn n ≡ k
+abbrev Keeps : StoreMarks → Machine → Type 0
+Keeps k n = storeMarksIn n ≡ k
 
-read-tested : (t : Tested) (left : ℕ) (m : Machine) → Left (storeMarksIn m) (readTested t left m)
+read-tested : (t : Tested) (left : ℕ) (m : Machine) → Keeps (storeMarksIn m) (readTested t left m)
 read-tested (Passes spot) left m = refl
 read-tested (Fails e) left m = refl
 
-load-read : (l : Load) (m : Machine) → Left (storeMarksIn m) (loadRead l m)
+load-read : (l : Load) (m : Machine) → Keeps (storeMarksIn m) (loadRead l m)
 unfolding nextRead readSector
 load-read Buffer m = refl
 load-read (Sectors left) m =
-    pick-elim (Left (storeMarksIn m)) (eqb (left - 1) 0) _ _ (λ e. refl)
+    pick-elim (Keeps (storeMarksIn m)) (eqb (left - 1) 0) _ _ (λ e. refl)
     (λ e. read-tested (sectorTest In (sectorDone (left - 1) (m .state)) (m .marks)) (left - 1) (idleWith (sectorDone (left - 1) (m .state)) m))
 
 -- ---- writing
@@ -58,12 +58,12 @@ by-hold false x l m v e = e
 -- ---- the command table
 
 -- Error, code and the interrupt mark, with which a command starts afresh, do not matter to what is erased
-obeys : (c : Command) (m : Machine) → storeMarksIn (obeyed c (started (quiet m .state)) (quiet m)) ≡ changed (commandChanges c (m .state) (m .marks)) (storeMarksIn m)
+obeys : (c : Command) (m : Machine) → storeMarksIn (obeyed c (started (dropped m .state)) (dropped m)) ≡ changed (commandChanges c (m .state) (m .marks)) (storeMarksIn m)
 unfolding changed readSector countOf
-obeys Read m = read-tested (sectorTest In (started (quiet m .state)) (m .marks)) (countOf (started (quiet m .state))) (idleWith (started (quiet m .state)) m)
+obeys Read m = read-tested (sectorTest In (started (dropped m .state)) (m .marks)) (countOf (started (dropped m .state))) (idleWith (started (dropped m .state)) m)
 obeys Write m = refl
 obeys Verify m = refl
-obeys Erase m = erase-kept (countOf (started (quiet m .state))) (started (quiet m .state)) (m .store) (m .marks)
+obeys Erase m = erase-kept (countOf (started (dropped m .state))) (started (dropped m .state)) (m .store) (m .marks)
 obeys Identify m = refl
 obeys ReadBuffer m = refl
 obeys WriteBuffer m = refl
@@ -75,7 +75,7 @@ obeys Sense m = refl
 obeys Other m = refl
 
 command-written : (held : Bool) (v : ℕ) (m : Machine) →
-    storeMarksIn (pick held m (commandGiven v (dropped m))) ≡ changed (pick held [] (commandChanges (commandOf v) (m .state) (m .marks))) (storeMarksIn m)
+    storeMarksIn (pick held m (commandGiven v m)) ≡ changed (pick held [] (commandChanges (commandOf v) (m .state) (m .marks))) (storeMarksIn m)
 unfolding changed commandGiven
 command-written true v m = refl
 command-written false v m = obeys (commandOf v) m
@@ -101,7 +101,7 @@ meant-sectors (WriteOption v) m = refl
 meant-sectors (ReadRegister r) m = refl
 meant-sectors (WriteRegister r v) m = register-written r v m
 meant-sectors (ReadData port) m =
-    data-read-elim (λ (x : Effect). Left (storeMarksIn m) (x .next)) port m (λ v. refl) refl (λ v part t e. refl) (λ v t e w. refl) (λ v t e. load-read (t .load) (dropped m))
+    data-read-elim (λ (x : Effect). Keeps (storeMarksIn m) (x .next)) port m (λ v. refl) refl (λ v part t e. refl) (λ v t e w. refl) (λ v t e. load-read (t .load) (allMoved m))
 meant-sectors (WriteData port v) m = by-hold (m .state .control .held) (phaseWritten (m .phase) port v m) (phaseChanges (m .phase) port v m) m 0 (phase-written (m .phase) port v m)
 
 pub by-sectors : (m : Machine) (a : Access) → storeMarksIn (step m a .next) ≡ changed (changes (meaning m a) m) (storeMarksIn m)

@@ -5,6 +5,7 @@ use mathlib.Core.Bool.{Bool, true, false, false≢true}
 use mathlib.Core.List.{List}
 use lib.Dec.{eqb}
 use borrow.Author.Tests.{eqb-false}
+use Rattle.ground.specs.Left.{Left}
 use Rattle.ground.proofs.Picks.{pick-elim}
 use Rattle.geometry.specs.declared.Reshaped.{Reshaped}
 use Rattle.geometry.specs.Shape.{reshaped}
@@ -15,6 +16,8 @@ use Rattle.registers.specs.declared.State.{State}
 use Rattle.registers.specs.declared.Core.{Core}
 use Rattle.registers.specs.State.{totalIn}
 use Rattle.registers.specs.Machine.{Machine}
+use Rattle.transfers.specs.declared.Order.{Order}
+use Rattle.transfers.specs.declared.Order.the-variants.{First, Later}
 use Rattle.transfers.specs.declared.End.{End}
 use Rattle.transfers.specs.declared.End.the-variants.{Good, BadHeadOrSector, BadCylinder, BadLba, Unreadable, WriteFault, BadGeometry, NoSuchCommand}
 use Rattle.transfers.specs.declared.Tested.{Tested}
@@ -25,8 +28,8 @@ use Rattle.transfers.specs.Ends.{endStatus, endCode}
 use Rattle.transfers.specs.declared.Way.the-variants.{In}
 use Rattle.transfers.specs.Before.{sectorTest, addressTest, sectorStored}
 use Rattle.transfers.specs.Steps.{readTested, readSector, nextRead, loadRead, askTested, askSector, nextAsked, coreWritten, loadWritten}
-use Rattle.commands.specs.Runs.{verifyFrom, Erased, eraseFrom}
-use Rattle.commands.specs.Table.{obeyed, reshapedEnded, soughtEnd, commandOf, started, quiet, commandGiven}
+use Rattle.commands.specs.Runs.{verifyFrom, eraseFrom}
+use Rattle.commands.specs.Table.{obeyed, reshapedEnded, soughtEnd, commandOf, started, dropped, commandGiven}
 use Rattle.kept.proofs.Runs.{verify-elim, erase-elim}
 use Rattle.laws.specs.Coded.{inError, Coded}
 
@@ -65,17 +68,17 @@ load-read (Sectors left) m = next-read (left - 1) m
 
 -- ---- writing
 
-ask-tested : (t : Tested) (left : ℕ) (first : Bool) (s : State) → Coded (askTested t left first s .state)
-ask-tested (Passes spot) left first s = begun-coded _
-ask-tested (Fails e) left first s = end-coded e _
+ask-tested : (t : Tested) (left : ℕ) (order : Order) (s : State) → Coded (askTested t left order s .state)
+ask-tested (Passes spot) left order s = begun-coded _
+ask-tested (Fails e) left order s = end-coded e _
 
-ask-sector : (left : ℕ) (first : Bool) (s : State) → Coded (askSector left first s .state)
+ask-sector : (left : ℕ) (order : Order) (s : State) → Coded (askSector left order s .state)
 unfolding askSector
-ask-sector left first s = ask-tested (addressTest s) left first s
+ask-sector left order s = ask-tested (addressTest s) left order s
 
 next-asked : (left : ℕ) (s : State) → Coded (nextAsked left s .state)
 unfolding nextAsked
-next-asked left s = pick-elim (λ (k : Core). Coded (k .state)) (eqb left 0) _ _ (λ e. end-coded Good _) (λ e. ask-sector left false _)
+next-asked left s = pick-elim (λ (k : Core). Coded (k .state)) (eqb left 0) _ _ (λ e. end-coded Good _) (λ e. ask-sector left Later _)
 
 core-written : (t : Tested) (left : ℕ) (s : State) → Coded (coreWritten t left s .state)
 core-written (Passes spot) left s = next-asked left s
@@ -83,16 +86,16 @@ core-written (Fails e) left s = end-coded e _
 
 pub load-written : (l : Load) (m : Machine) → Coded (loadWritten l m .state)
 load-written Buffer m = end-coded Good _
-load-written (Sectors left) m = core-written (sectorStored (m .state) (m .buffer) (m .store) (m .marks) .tested) (left - 1) (m .state)
+load-written (Sectors left) m = core-written (sectorStored (m .state) (m .buffer) (m .store) (m .marks) .result) (left - 1) (m .state)
 
 -- ---- Verify and Erase
 
 verified : (n : ℕ) (s : State) (marks : List ℕ) → Coded (verifyFrom n s marks .state)
 verified n s marks = verify-elim (λ (x : State). Unit {0}) (λ (k : Core). Coded (k .state)) (λ n s u. tt) (λ e s u. end-coded e _) n s marks tt
 
-erases : (n : ℕ) (s : State) (store marks : List ℕ) → Coded (eraseFrom n s store marks .core .state)
+erases : (n : ℕ) (s : State) (store marks : List ℕ) → Coded (eraseFrom n s store marks .result .state)
 erases n s store marks =
-    erase-elim (λ (x : State) (st mk : List ℕ). Unit {0}) (λ (k : Erased). Coded (k .core .state)) (λ s st mk u. tt) (λ n s st mk u. tt) (λ e s st mk u. end-coded e _) n s store marks tt
+    erase-elim (λ (x : State) (st mk : List ℕ). Unit {0}) (λ (k : Left Core). Coded (k .result .state)) (λ s st mk u. tt) (λ n s st mk u. tt) (λ e s st mk u. end-coded e _) n s store marks tt
 
 -- ---- the table
 
@@ -102,7 +105,7 @@ reshaped-ended Reshaped.Refused s = end-coded BadGeometry 0
 
 obeys : (c : Command) (s : State) (m : Machine) → Coded (obeyed c s m .state)
 obeys Read s m = read-sector _ _
-obeys Write s m = ask-sector _ true s
+obeys Write s m = ask-sector _ First s
 obeys Verify s m = verified _ s (m .marks)
 obeys Erase s m = erases _ s (m .store) (m .marks)
 obeys Identify s m = begun-coded _
@@ -117,4 +120,4 @@ obeys Other s m = end-coded NoSuchCommand 0
 
 pub commanded : (v : ℕ) (m : Machine) → Coded (commandGiven v m .state)
 unfolding commandGiven
-commanded v m = obeys (commandOf v) (started (quiet m .state)) (quiet m)
+commanded v m = obeys (commandOf v) (started (dropped m .state)) (dropped m)

@@ -12,7 +12,7 @@ use Rattle.registers.specs.declared.resets.Turn.{Turn}
 use Rattle.registers.specs.declared.resets.Turn.the-variants.{Enter, Leave, Stay}
 use Rattle.registers.specs.Machine.{Machine}
 use Rattle.registers.specs.Resets.{restStatus, optionTurn, optionTurned, turnOf, bitTwo, bitOne, controlTurned}
-use Rattle.transfers.specs.Steps.{dropped}
+use Rattle.transfers.specs.Steps.{allMoved}
 use Rattle.port.specs.Data.{Effect}
 use Rattle.commands.specs.Table.{commandGiven}
 use Rattle.card.specs.declared.Meaning.{Meaning}
@@ -48,13 +48,13 @@ register-written : (r : Register) (v : ℕ) (m : Machine) → Coded (m .state) �
 register-written r v m h =
     written-elim (λ (n : Machine). Coded (n .state)) r v m h
     (λ e i. set-elim (λ (x : State). Coded x) r v (m .state) h h (λ a. h))
-    (λ c e. commanded v (dropped m))
+    (λ c e. commanded v m)
     (λ c. control-coded (turnOf (m .state .control .held) (bitTwo v)) (bitOne v) (m .phase) (m .state) h)
 
 -- a Command write outside a Device Control hold, whatever was there before
 pub meant-command-coded : (v : ℕ) (m : Machine) → m .state .control .held ≡ false → Coded (perform (WriteRegister StatusCommand v) m .next .state)
 unfolding perform registerWritten
-meant-command-coded v m e = subst (λ (b : Bool). Coded (pick b m (commandGiven v (dropped m)) .state)) (sym e) (commanded v (dropped m))
+meant-command-coded v m e = subst (λ (b : Bool). Coded (pick b m (commandGiven v m) .state)) (sym e) (commanded v m)
 
 pub meant-coded : (x : Meaning) (m : Machine) → Coded (m .state) → Coded (perform x m .next .state)
 unfolding perform optionWritten
@@ -65,6 +65,6 @@ meant-coded (WriteOption v) m h = option-coded (optionTurn v (m .state)) v (m .p
 meant-coded (ReadRegister g) m h = read-elim (λ (x : State). Coded x) g (m .state) h h
 meant-coded (WriteRegister g v) m h = register-written g v m h
 meant-coded (ReadData port) m h =
-    data-read-elim (λ (x : Effect). Coded (x .next .state)) port m (λ v. h) h (λ v part t e. h) (λ v t e w. h) (λ v t e. load-read (t .load) (dropped m))
+    data-read-elim (λ (x : Effect). Coded (x .next .state)) port m (λ v. h) h (λ v part t e. h) (λ v t e w. h) (λ v t e. load-read (t .load) (allMoved m))
 meant-coded (WriteData port v) m h =
-    data-written-elim (λ (x : Effect). Coded (x .next .state)) port v m h h (λ part t e. h) (λ part t e w. h) (λ part t e. load-written (t .load) (dropped (partCome part t v m)))
+    data-written-elim (λ (x : Effect). Coded (x .next .state)) port v m h h (λ part t e. h) (λ part t e w. h) (λ part t e. load-written (t .load) (allMoved (partCome part t v m)))

@@ -8,6 +8,7 @@ use lib.Dec.{ltb, eqb}
 use lib.ListN.{length, getD, set, replicate}
 use lib.Seq.{getD-set-same, getD-set-other}
 use borrow.Author.Tests.{ltb-true, eqb-true, eqb-false, ne-eqb}
+use Rattle.ground.specs.Left.{Left}
 use Rattle.ground.specs.Choice.{pick}
 use Rattle.ground.proofs.Picks.{pick-elim}
 use Rattle.geometry.specs.declared.Spot.{Spot}
@@ -16,12 +17,13 @@ use Rattle.geometry.specs.Next.{nextOf}
 use Rattle.sectors.specs.Marks.{writable}
 use Rattle.sectors.specs.Sectors.{StoreMarks, storeMarks, stored}
 use Rattle.registers.specs.declared.State.{State}
+use Rattle.registers.specs.declared.Core.{Core}
 use Rattle.registers.specs.State.{totalIn, locatedIn}
 use Rattle.transfers.specs.declared.End.the-variants.{WriteFault}
 use Rattle.transfers.specs.declared.Tested.the-variants.{Passes, Fails}
 use Rattle.transfers.specs.Before.{testedOf, addressTest, markTested, sectorTest, sectorStored}
 use Rattle.transfers.specs.Steps.{sectorDone}
-use Rattle.commands.specs.Runs.{allFF, Erased, eraseFrom}
+use Rattle.commands.specs.Runs.{allFF, eraseFrom}
 use Rattle.laws.specs.Changes.{Change, changed, writes, erasures}
 use Rattle.kept.proofs.Runs.{erasesOn}
 
@@ -47,7 +49,7 @@ same-stored store marks marks0 bytes i h w =
 
 -- ---- one sector, and the rest
 
-abbrev storeMarksOf : Erased → StoreMarks
+abbrev storeMarksOf : Left Core → StoreMarks
 storeMarksOf e = storeMarks (e .store) (e .marks)
 
 -- the rest of the run, from whatever store and marks

@@ -20,14 +20,16 @@ use Rattle.registers.specs.State.{locatedIn}
 use Rattle.registers.specs.Machine.{Machine}
 use Rattle.registers.specs.WellMade.{statusFits, sectorsFit, loadFits, runFits}
 use Rattle.geometry.specs.Address.{found}
+use Rattle.transfers.specs.declared.Order.the-variants.{Later}
 use Rattle.transfers.specs.declared.End.the-variants.{Unreadable}
 use Rattle.transfers.specs.declared.Tested.{Tested}
 use Rattle.transfers.specs.declared.Tested.the-variants.{Passes, Fails}
 use Rattle.transfers.specs.declared.Way.{Way}
 use Rattle.transfers.specs.declared.Way.the-variants.{In, Out}
 use Rattle.transfers.specs.Before.{addressTest, sectorTest, sectorStored}
-use Rattle.transfers.specs.Steps.{phaseOf, idleWith, sectorDone, readTested, readSector, nextRead, loadRead, askTested, askSector, nextAsked, coreWritten, loadWritten, dropped}
+use Rattle.transfers.specs.Steps.{idleWith, sectorDone, readTested, readSector, nextRead, loadRead, askTested, askSector, nextAsked, coreWritten, loadWritten, allMoved}
 use Rattle.port.specs.Data.{Effect, dataRead, dataWritten}
+use Rattle.kept.proofs.Data.{phaseOf}
 use Rattle.kept.proofs.Ends.{bad, mark-elim, done-count}
 use Rattle.kept.proofs.DataElim.{partCome, data-read-elim, data-written-elim}
 use Rattle.laws.specs.Mark.{asks, another, MarkRule}
@@ -63,12 +65,16 @@ read-tested : (t : Tested) (left : ℕ) (s : State) (m : Machine) → proper t �
 read-tested (Passes spot) left s m p a d = turned In s (readTested (Passes spot) left m .state) a refl d refl
 read-tested (Fails e) left s m p a d = read-failed s (readTested (Fails e) left m .state) a (end-asks e) (un-not _ _ p) refl
 
-load-read : (l : Load) (m : Machine) → asks (m .state) ≡ true → loadFits l (m .state) ≡ true → MarkRule DataRead (m .state) (loadRead l (dropped m) .state)
+done-interrupt : (left : ℕ) (s : State) → sectorDone left s .interrupt ≡ s .interrupt
+unfolding sectorDone
+done-interrupt left s = pick-elim (λ (x : State). x .interrupt ≡ s .interrupt) (eqb left 0) _ _ (λ e. refl) (λ e. refl)
+
+load-read : (l : Load) (m : Machine) → asks (m .state) ≡ true → loadFits l (m .state) ≡ true → MarkRule DataRead (m .state) (loadRead l (allMoved m) .state)
 unfolding nextRead readSector
-load-read Buffer m a f = read-well (m .state) (loadRead Buffer (dropped m) .state) a refl refl refl
+load-read Buffer m a f = read-well (m .state) (loadRead Buffer (allMoved m) .state) a refl refl refl
 load-read (Sectors left) m a f =
     pick-elim (λ (n : Machine). MarkRule DataRead (m .state) (n .state)) (eqb (left - 1) 0) _ _
-    (λ e. read-well (m .state) _ a refl refl refl)
+    (λ e. read-well (m .state) _ a refl refl (done-interrupt (left - 1) (m .state)))
     (λ e. read-tested (sectorTest In (sectorDone (left - 1) (m .state)) (m .marks)) (left - 1) (m .state) _ (read-proper _ (m .marks)) a (left-facts left (m .state) f e))
 
 -- a well-made card that runs a transfer asks for data, and its load fits
@@ -88,9 +94,9 @@ data-read port m r =
 
 -- ---- writing
 
-ask-tested : (t : Tested) (left : ℕ) (s n : State) → asks s ≡ true → another s n ≡ true → MarkRule DataWrite s (askTested t left false n .state)
-ask-tested (Passes spot) left s n a d = turned Out s (askTested (Passes spot) left false n .state) a refl d refl
-ask-tested (Fails e) left s n a d = written-end s (askTested (Fails e) left false n .state) a (end-asks e) refl
+ask-tested : (t : Tested) (left : ℕ) (s n : State) → asks s ≡ true → another s n ≡ true → MarkRule DataWrite s (askTested t left Later n .state)
+ask-tested (Passes spot) left s n a d = turned Out s (askTested (Passes spot) left Later n .state) a refl d refl
+ask-tested (Fails e) left s n a d = written-end s (askTested (Fails e) left Later n .state) a (end-asks e) refl
 
 core-written : (t : Tested) (left : ℕ) (s : State) → asks s ≡ true → loadFits (Sectors left) s ≡ true → MarkRule DataWrite s (coreWritten t (left - 1) s .state)
 unfolding nextAsked askSector
@@ -102,7 +108,7 @@ core-written (Fails e) left s a f = written-end s (coreWritten (Fails e) (left -
 
 load-written : (l : Load) (s : State) (m : Machine) → asks s ≡ true → loadFits l s ≡ true → MarkRule DataWrite s (loadWritten l (idleWith s m) .state)
 load-written Buffer s m a f = written-end s (loadWritten Buffer (idleWith s m) .state) a refl refl
-load-written (Sectors left) s m a f = core-written (sectorStored s (m .buffer) (m .store) (m .marks) .tested) left s a f
+load-written (Sectors left) s m a f = core-written (sectorStored s (m .buffer) (m .store) (m .marks) .result) left s a f
 
 pub data-written : (port : Port) (v : ℕ) (m : Machine) → Runs (m .phase) (m .state) → MarkRule DataWrite (m .state) (dataWritten port v m .next .state)
 data-written port v m r =

@@ -4,6 +4,7 @@ use mathlib.Core.Path.{_≡_, refl}
 use mathlib.Core.Bool.{true, false}
 use mathlib.Core.List.{List}
 use lib.Dec.{eqb}
+use Rattle.ground.specs.Left.{Left}
 use Rattle.geometry.specs.declared.Reshaped.{Reshaped}
 use Rattle.geometry.specs.Shape.{reshaped}
 use Rattle.geometry.specs.Address.{seek}
@@ -11,6 +12,7 @@ use Rattle.registers.specs.declared.State.{State}
 use Rattle.registers.specs.declared.Core.{Core}
 use Rattle.registers.specs.State.{totalIn}
 use Rattle.registers.specs.Machine.{Machine}
+use Rattle.transfers.specs.declared.Order.the-variants.{First}
 use Rattle.transfers.specs.declared.End.{End}
 use Rattle.transfers.specs.declared.End.the-variants.{Good, BadHeadOrSector, BadCylinder, BadLba, Unreadable, WriteFault, BadGeometry, NoSuchCommand}
 use Rattle.transfers.specs.declared.Tested.{Tested}
@@ -21,8 +23,8 @@ use Rattle.transfers.specs.Ends.{endStatus}
 use Rattle.transfers.specs.declared.Way.the-variants.{In}
 use Rattle.transfers.specs.Before.{sectorTest, addressTest}
 use Rattle.transfers.specs.Steps.{readTested, readSector, askTested, askSector}
-use Rattle.commands.specs.Runs.{verifyFrom, Erased, eraseFrom}
-use Rattle.commands.specs.Table.{countOf, soughtEnd, reshapedEnded, started, quiet, commandOf, obeyed, commandGiven}
+use Rattle.commands.specs.Runs.{verifyFrom, eraseFrom}
+use Rattle.commands.specs.Table.{countOf, soughtEnd, reshapedEnded, started, dropped, commandOf, obeyed, commandGiven}
 use Rattle.kept.proofs.Runs.{verify-elim, erase-elim}
 use Rattle.laws.specs.Mark.{asks, MarkRule}
 use Rattle.laws.specs.Acts.{CommandWrite}
@@ -46,9 +48,9 @@ Over n = (n .interrupt ≡ true) × (asks n ≡ false)
 verified : (n : ℕ) (s : State) (marks : List ℕ) → Over (verifyFrom n s marks .state)
 verified n s marks = verify-elim (λ (x : State). Unit {0}) (λ (k : Core). Over (k .state)) (λ n s u. tt) (λ e s u. (refl, end-asks e)) n s marks tt
 
-erases : (n : ℕ) (s : State) (store marks : List ℕ) → Over (eraseFrom n s store marks .core .state)
+erases : (n : ℕ) (s : State) (store marks : List ℕ) → Over (eraseFrom n s store marks .result .state)
 erases n s store marks =
-    erase-elim (λ (x : State) (st mk : List ℕ). Unit {0}) (λ (k : Erased). Over (k .core .state)) (λ s st mk u. tt) (λ n s st mk u. tt) (λ e s st mk u. (refl, end-asks e)) n s store marks tt
+    erase-elim (λ (x : State) (st mk : List ℕ). Unit {0}) (λ (k : Left Core). Over (k .result .state)) (λ s st mk u. tt) (λ n s st mk u. tt) (λ e s st mk u. (refl, end-asks e)) n s store marks tt
 
 reshaped-ended : (r : Reshaped) (s : State) → Over (reshapedEnded r s .state)
 reshaped-ended (Reshaped.Taken g) s = (refl, refl)
@@ -62,9 +64,9 @@ read-first : (t : Tested) (left : ℕ) (s : State) (m : Machine) → MarkRule (C
 read-first (Passes spot) left s m = ready Read s (readTested (Passes spot) left m .state) refl refl refl
 read-first (Fails e) left s m = over Read s (readTested (Fails e) left m .state) refl (end-asks e)
 
-ask-first : (t : Tested) (left : ℕ) (s n : State) → n .interrupt ≡ false → MarkRule (CommandWrite Write) s (askTested t left true n .state)
-ask-first (Passes spot) left s n e = asked Write s (askTested (Passes spot) left true n .state) refl e refl
-ask-first (Fails f) left s n e = over Write s (askTested (Fails f) left true n .state) refl (end-asks f)
+ask-first : (t : Tested) (left : ℕ) (s n : State) → n .interrupt ≡ false → MarkRule (CommandWrite Write) s (askTested t left First n .state)
+ask-first (Passes spot) left s n e = asked Write s (askTested (Passes spot) left First n .state) refl e refl
+ask-first (Fails f) left s n e = over Write s (askTested (Fails f) left First n .state) refl (end-asks f)
 
 -- s is the state before the Command write, n the state that the command starts with
 obeys : (c : Command) (s n : State) (m : Machine) → n .interrupt ≡ false → MarkRule (CommandWrite c) s (obeyed c n m .state)
@@ -85,4 +87,4 @@ obeys Other s n m e = over Other s (obeyed Other n m .state) refl refl
 
 pub commanded : (v : ℕ) (m : Machine) → MarkRule (CommandWrite (commandOf v)) (m .state) (commandGiven v m .state)
 unfolding commandGiven
-commanded v m = obeys (commandOf v) (m .state) (started (quiet m .state)) (quiet m) refl
+commanded v m = obeys (commandOf v) (m .state) (started (dropped m .state)) (dropped m) refl

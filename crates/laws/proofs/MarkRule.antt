@@ -13,7 +13,6 @@ use Rattle.registers.specs.Machine.{Machine, coreOf}
 use Rattle.registers.specs.WellMade.{wellMade}
 use Rattle.registers.specs.Values.{afterRead}
 use Rattle.registers.specs.Resets.{turnOf, optionTurned, bitTwo, bitOne, controlTurned}
-use Rattle.transfers.specs.Steps.{dropped}
 use Rattle.commands.specs.Table.{commandGiven}
 use Rattle.card.specs.declared.Meaning.{Meaning}
 use Rattle.card.specs.declared.Meaning.the-variants.{TupleByte, ReadOption, WriteOption, ReadRegister, WriteRegister, ReadData, WriteData}
@@ -63,9 +62,9 @@ plain : (r : Register) (v : ℕ) (k : Core) → MarkRule NoMatter (k .state) (pl
 plain r v k = no-matter (k .state) _
     (plain-elim (λ (x : Core). x .state .interrupt ≡ k .state .interrupt) r v k refl (λ e h. set-elim (λ (x : State). x .interrupt ≡ k .state .interrupt) r v (k .state) refl refl (λ a. refl)))
 
-command-written : (held : Bool) (v : ℕ) (m : Machine) → MarkRule (writeAct StatusCommand v held) (m .state) (pick held m (commandGiven v (dropped m)) .state)
+command-written : (held : Bool) (v : ℕ) (m : Machine) → MarkRule (writeAct StatusCommand v held) (m .state) (pick held m (commandGiven v m) .state)
 command-written true v m = no-matter (m .state) (m .state) refl
-command-written false v m = commanded v (dropped m)
+command-written false v m = commanded v m
 
 register-written : (r : Register) (v : ℕ) (m : Machine) → MarkRule (writeAct r v (m .state .control .held)) (m .state) (registerWritten r v m .state)
 unfolding registerWritten sets clears

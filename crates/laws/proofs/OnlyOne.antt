@@ -7,9 +7,6 @@ use Rattle.sectors.specs.Sectors.{StoreMarks, storeMarks}
 use Rattle.registers.specs.declared.Core.{Core}
 use Rattle.registers.specs.Machine.{Machine, machine}
 use Rattle.port.specs.declared.Done.{Done}
-use Rattle.transfers.specs.declared.Tested.{Tested}
-use Rattle.transfers.specs.Before.{StoreTested, storeTested}
-use Rattle.commands.specs.Runs.{Erased, erased}
 use Rattle.port.specs.Data.{Effect, effect}
 use Rattle.card.specs.declared.Reply.{Reply}
 use Rattle.card.specs.declared.Answer.{Answer}
@@ -21,16 +18,6 @@ pub only-store-marks : (d : StoreMarks) (s s′ m m′ : List ℕ) → storeMark
 only-store-marks d s s′ m m′ p q =
     let e = only-one d (storeMarks s m) (storeMarks s′ m′) p q in
     (ap (λ (k : StoreMarks). k .store) e, ap (λ (k : StoreMarks). k .marks) e)
-
-pub only-store-tested : (d : StoreTested) (t t′ : Tested) (s s′ m m′ : List ℕ) → storeTested t s m ≡ d → storeTested t′ s′ m′ ≡ d → (t ≡ t′) × (s ≡ s′) × (m ≡ m′)
-only-store-tested d t t′ s s′ m m′ p q =
-    let e = only-one d (storeTested t s m) (storeTested t′ s′ m′) p q in
-    (ap (λ (k : StoreTested). k .tested) e, ap (λ (k : StoreTested). k .store) e, ap (λ (k : StoreTested). k .marks) e)
-
-pub only-erased : (d : Erased) (c c′ : Core) (s s′ m m′ : List ℕ) → erased c s m ≡ d → erased c′ s′ m′ ≡ d → (c ≡ c′) × (s ≡ s′) × (m ≡ m′)
-only-erased d c c′ s s′ m m′ p q =
-    let e = only-one d (erased c s m) (erased c′ s′ m′) p q in
-    (ap (λ (k : Erased). k .core) e, ap (λ (k : Erased). k .store) e, ap (λ (k : Erased). k .marks) e)
 
 -- the result is read back from the whole: its core, or its card, has the phase, the state and the buffer of the machine
 abbrev coreIn : Machine → Core

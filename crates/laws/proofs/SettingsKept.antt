@@ -4,6 +4,7 @@ use mathlib.Core.Path.{_≡_, refl, _∙_}
 use mathlib.Core.Bool.{Bool, true, false}
 use mathlib.Core.List.{List}
 use lib.Dec.{eqb}
+use Rattle.ground.specs.Left.{Left}
 use Rattle.ground.proofs.Picks.{pick-elim}
 use Rattle.geometry.specs.declared.Reshaped.{Reshaped}
 use Rattle.geometry.specs.Shape.{reshaped}
@@ -13,6 +14,8 @@ use Rattle.registers.specs.declared.State.{State}
 use Rattle.registers.specs.declared.Core.{Core}
 use Rattle.registers.specs.State.{totalIn}
 use Rattle.registers.specs.Machine.{Machine}
+use Rattle.transfers.specs.declared.Order.{Order}
+use Rattle.transfers.specs.declared.Order.the-variants.{First, Later}
 use Rattle.transfers.specs.declared.Tested.{Tested}
 use Rattle.transfers.specs.declared.Tested.the-variants.{Passes, Fails}
 use Rattle.transfers.specs.declared.Way.the-variants.{In}
@@ -20,8 +23,8 @@ use Rattle.transfers.specs.Before.{addressTest, sectorTest, sectorStored}
 use Rattle.transfers.specs.Steps.{idleWith, sectorDone, readTested, readSector, nextRead, loadRead, askTested, askSector, nextAsked, coreWritten, loadWritten}
 use Rattle.commands.specs.declared.Command.{Command}
 use Rattle.commands.specs.declared.Command.the-variants.{Read, Write, Verify, Erase, Identify, ReadBuffer, WriteBuffer, SetGeometry, Diagnose, Recalibrate, Seek, Sense, Other}
-use Rattle.commands.specs.Runs.{verifyFrom, Erased, eraseFrom}
-use Rattle.commands.specs.Table.{commandOf, countOf, obeyed, reshapedEnded, started, quiet, commandGiven}
+use Rattle.commands.specs.Runs.{verifyFrom, eraseFrom}
+use Rattle.commands.specs.Table.{commandOf, countOf, obeyed, reshapedEnded, started, dropped, commandGiven}
 use Rattle.kept.proofs.Runs.{verify-elim, erase-elim}
 use Rattle.laws.specs.Settings.{settingsOf}
 
@@ -48,32 +51,32 @@ load-read (Sectors left) m =
 
 -- ---- writing
 
-ask-tested : (t : Tested) (left : ℕ) (first : Bool) (s : State) → settingsOf (askTested t left first s .state) ≡ settingsOf s
-ask-tested (Passes spot) left first s = refl
-ask-tested (Fails e) left first s = refl
+ask-tested : (t : Tested) (left : ℕ) (order : Order) (s : State) → settingsOf (askTested t left order s .state) ≡ settingsOf s
+ask-tested (Passes spot) left order s = refl
+ask-tested (Fails e) left order s = refl
 
-ask-sector : (left : ℕ) (first : Bool) (s : State) → settingsOf (askSector left first s .state) ≡ settingsOf s
+ask-sector : (left : ℕ) (order : Order) (s : State) → settingsOf (askSector left order s .state) ≡ settingsOf s
 unfolding askSector
-ask-sector left first s = ask-tested (addressTest s) left first s
+ask-sector left order s = ask-tested (addressTest s) left order s
 
 core-written : (t : Tested) (left : ℕ) (s : State) → settingsOf (coreWritten t left s .state) ≡ settingsOf s
 unfolding nextAsked
 core-written (Passes spot) left s =
-    pick-elim (λ (k : Core). settingsOf (k .state) ≡ settingsOf s) (eqb left 0) _ _ (λ e. done left s) (λ e. ask-sector left false (sectorDone left s) ∙ done left s)
+    pick-elim (λ (k : Core). settingsOf (k .state) ≡ settingsOf s) (eqb left 0) _ _ (λ e. done left s) (λ e. ask-sector left Later (sectorDone left s) ∙ done left s)
 core-written (Fails e) left s = refl
 
 pub load-written : (l : Load) (m : Machine) → settingsOf (loadWritten l m .state) ≡ settingsOf (m .state)
 load-written Buffer m = refl
-load-written (Sectors left) m = core-written (sectorStored (m .state) (m .buffer) (m .store) (m .marks) .tested) (left - 1) (m .state)
+load-written (Sectors left) m = core-written (sectorStored (m .state) (m .buffer) (m .store) (m .marks) .result) (left - 1) (m .state)
 
 -- ---- the command table
 
 verified : (n : ℕ) (s : State) (marks : List ℕ) → settingsOf (verifyFrom n s marks .state) ≡ settingsOf s
 verified n s marks = verify-elim (λ (x : State). settingsOf x ≡ settingsOf s) (λ (k : Core). settingsOf (k .state) ≡ settingsOf s) (λ n x h. done n x ∙ h) (λ e x h. h) n s marks refl
 
-erases : (n : ℕ) (s : State) (store marks : List ℕ) → settingsOf (eraseFrom n s store marks .core .state) ≡ settingsOf s
+erases : (n : ℕ) (s : State) (store marks : List ℕ) → settingsOf (eraseFrom n s store marks .result .state) ≡ settingsOf s
 erases n s store marks =
-    erase-elim (λ (x : State) (st mk : List ℕ). settingsOf x ≡ settingsOf s) (λ (k : Erased). settingsOf (k .core .state) ≡ settingsOf s)
+    erase-elim (λ (x : State) (st mk : List ℕ). settingsOf x ≡ settingsOf s) (λ (k : Left Core). settingsOf (k .result .state) ≡ settingsOf s)
     (λ x st mk h. h) (λ n x st mk h. done n x ∙ h) (λ e x st mk h. h) n s store marks refl
 
 reshaped-ended : (r : Reshaped) (s : State) → settingsOf (reshapedEnded r s .state) ≡ settingsOf s
@@ -83,7 +86,7 @@ reshaped-ended Reshaped.Refused s = refl
 -- s is the state with Error and code 0
 obeys : (c : Command) (s : State) (m : Machine) → settingsOf s ≡ settingsOf (m .state) → settingsOf (obeyed c s m .state) ≡ settingsOf (m .state)
 obeys Read s m h = read-sector (countOf s) (idleWith s m) ∙ h
-obeys Write s m h = ask-sector (countOf s) true s ∙ h
+obeys Write s m h = ask-sector (countOf s) First s ∙ h
 obeys Verify s m h = verified (countOf s) s (m .marks) ∙ h
 obeys Erase s m h = erases (countOf s) s (m .store) (m .marks) ∙ h
 obeys Identify s m h = h
@@ -98,4 +101,4 @@ obeys Other s m h = h
 
 pub commanded : (v : ℕ) (m : Machine) → settingsOf (commandGiven v m .state) ≡ settingsOf (m .state)
 unfolding commandGiven
-commanded v m = obeys (commandOf v) (started (quiet m .state)) (quiet m) refl
+commanded v m = obeys (commandOf v) (started (dropped m .state)) (dropped m) refl

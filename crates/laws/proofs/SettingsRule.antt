@@ -11,7 +11,7 @@ use Rattle.registers.specs.declared.State.{State}
 use Rattle.registers.specs.declared.Core.{Core}
 use Rattle.registers.specs.Machine.{Machine, coreOf}
 use Rattle.registers.specs.Resets.{turnOf, optionTurned, controlTurned}
-use Rattle.transfers.specs.Steps.{dropped}
+use Rattle.transfers.specs.Steps.{allMoved}
 use Rattle.port.specs.Data.{Effect}
 use Rattle.card.specs.declared.Meaning.{Meaning}
 use Rattle.card.specs.declared.Meaning.the-variants.{TupleByte, ReadOption, WriteOption, ReadRegister, WriteRegister, ReadData, WriteData}
@@ -56,7 +56,7 @@ register-written CylinderLow v m = plain CylinderLow v (coreOf m)
 register-written CylinderHigh v m = plain CylinderHigh v (coreOf m)
 register-written DriveHead v m = plain DriveHead v (coreOf m)
 register-written StatusCommand v m =
-    pick-elim (λ (n : Machine). settingsOf (n .state) ≡ settingsOf (m .state)) (m .state .control .held) _ _ (λ h. refl) (λ h. commanded v (dropped m))
+    pick-elim (λ (n : Machine). settingsOf (n .state) ≡ settingsOf (m .state)) (m .state .control .held) _ _ (λ h. refl) (λ h. commanded v m)
 register-written AlternateControl v m = control-turned (m .state .control .held) (bitTwo v) (bitOne v) (m .phase) (m .state) refl
 register-written DriveAddress v m = plain DriveAddress v (coreOf m)
 
@@ -69,10 +69,10 @@ meant-settings (WriteOption v) m = option-turned (bitSeven (m .state .option)) (
 meant-settings (ReadRegister r) m = read-elim (λ (x : State). settingsOf x ≡ settingsOf (m .state)) r (m .state) refl refl
 meant-settings (WriteRegister r v) m = register-written r v m
 meant-settings (ReadData port) m =
-    data-read-elim (λ (e : Effect). settingsOf (e .next .state) ≡ settingsOf (m .state)) port m (λ v. refl) refl (λ v part t e. refl) (λ v t e w. refl) (λ v t e. load-read (t .load) (dropped m))
+    data-read-elim (λ (e : Effect). settingsOf (e .next .state) ≡ settingsOf (m .state)) port m (λ v. refl) refl (λ v part t e. refl) (λ v t e w. refl) (λ v t e. load-read (t .load) (allMoved m))
 meant-settings (WriteData port v) m =
     data-written-elim (λ (e : Effect). settingsOf (e .next .state) ≡ settingsOf (m .state)) port v m refl refl (λ part t e. refl) (λ part t e w. refl)
-    (λ part t e. load-written (t .load) (dropped (partCome part t v m)))
+    (λ part t e. load-written (t .load) (allMoved (partCome part t v m)))
 
 pub settings-rule : (m : Machine) (a : Access) → settingsOf (step m a .next .state) ≡ settingsAfter (meaning m a) (m .state)
 unfolding step

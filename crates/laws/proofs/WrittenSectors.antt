@@ -5,6 +5,7 @@ use mathlib.Core.Bool.{Bool, true, false}
 use mathlib.Core.List.{List, [], _∷_}
 use lib.Dec.{ltb}
 use lib.ListN.{getD}
+use Rattle.ground.specs.Left.{Left}
 use Rattle.ground.specs.Choice.{pick}
 use Rattle.geometry.specs.declared.Spot.{Spot}
 use Rattle.geometry.specs.declared.Located.{Located}
@@ -19,15 +20,16 @@ use Rattle.registers.specs.declared.Phase.the-variants.{Idle, DataIn, DataOut}
 use Rattle.registers.specs.State.{locatedIn}
 use Rattle.registers.specs.Machine.{Machine, withBuffer}
 use Rattle.transfers.specs.declared.End.the-variants.{WriteFault}
+use Rattle.transfers.specs.declared.Tested.{Tested}
 use Rattle.transfers.specs.declared.Tested.the-variants.{Passes, Fails}
 use Rattle.port.specs.declared.Take.{Take}
-use Rattle.transfers.specs.Before.{testedOf, addressTest, markTested, sectorTest, storedBy, sectorStored, StoreTested}
-use Rattle.transfers.specs.Steps.{loadWritten, dropped}
+use Rattle.transfers.specs.Before.{testedOf, addressTest, markTested, sectorTest, storedBy, sectorStored}
+use Rattle.transfers.specs.Steps.{loadWritten, allMoved}
 use Rattle.port.specs.Halves.{takeOf, withPart}
 use Rattle.port.specs.Data.{wordWritten, takenWritten, phaseWritten}
 use Rattle.laws.specs.Changes.{changed, storeMarksIn, writes, loadChanges, takenChanges, phaseChanges}
 
-abbrev storeMarksOf : StoreTested → StoreMarks
+abbrev storeMarksOf : Left Tested → StoreMarks
 storeMarksOf k = storeMarks (k .store) (k .marks)
 
 by-mark : (b : Bool) (spot : Spot) (bytes store marks : List ℕ) →
@@ -44,13 +46,13 @@ by-address Located.BadHeadOrSector bytes store marks = refl
 by-address Located.BadCylinder bytes store marks = refl
 by-address Located.BadLba bytes store marks = refl
 
-load-written : (l : Load) (bytes : List ℕ) (m : Machine) → storeMarksIn (loadWritten l (dropped (withBuffer bytes m))) ≡ changed (loadChanges l bytes m) (storeMarksIn m)
+load-written : (l : Load) (bytes : List ℕ) (m : Machine) → storeMarksIn (loadWritten l (allMoved (withBuffer bytes m))) ≡ changed (loadChanges l bytes m) (storeMarksIn m)
 unfolding changed sectorStored sectorTest addressTest
 load-written Buffer bytes m = refl
 load-written (Sectors left) bytes m = by-address (locatedIn (m .state)) bytes (m .store) (m .marks)
 
 by-word : (b : Bool) (l : Load) (bytes : List ℕ) (m x : Machine) → storeMarksIn x ≡ storeMarksIn m →
-    storeMarksIn (pick b x (loadWritten l (dropped (withBuffer bytes m)))) ≡ changed (pick b [] (loadChanges l bytes m)) (storeMarksIn m)
+    storeMarksIn (pick b x (loadWritten l (allMoved (withBuffer bytes m)))) ≡ changed (pick b [] (loadChanges l bytes m)) (storeMarksIn m)
 unfolding changed
 by-word true l bytes m x e = e
 by-word false l bytes m x e = load-written l bytes m

@@ -15,7 +15,7 @@ use Rattle.port.specs.declared.Part.{Part}
 use Rattle.port.specs.declared.Take.{Take}
 use Rattle.port.specs.declared.Done.{Done}
 use Rattle.port.specs.Halves.{takeOf, partValue, withPart, halved, nextWord}
-use Rattle.transfers.specs.Steps.{loadRead, loadWritten, dropped}
+use Rattle.transfers.specs.Steps.{loadRead, loadWritten, allMoved}
 
 -- what an access leaves: its outcome and the machine
 pub record Effect : Type 0 where
@@ -35,7 +35,7 @@ withPhase p m = withCore (core p (m .state)) m
 
 -- a word is whole: the next one, or the last byte has gone
 unfoldable pub wordRead : Transfer → Machine → Machine
-wordRead t m = pick (ltb (t .words) 255) (withPhase (DataIn (nextWord t)) m) (loadRead (t .load) (dropped m))
+wordRead t m = pick (ltb (t .words) 255) (withPhase (DataIn (nextWord t)) m) (loadRead (t .load) (allMoved m))
 
 -- a part has gone: the word is whole, or begun
 abbrev pub partRead : Bool → Part → Transfer → Machine → Machine
@@ -69,7 +69,7 @@ dataRead port m = pick (m .state .control .held) (accepted (heldValue port) m) (
 -- ---- writing
 
 unfoldable pub wordWritten : Transfer → Machine → Machine
-wordWritten t m = pick (ltb (t .words) 255) (withPhase (DataOut (nextWord t)) m) (loadWritten (t .load) (dropped m))
+wordWritten t m = pick (ltb (t .words) 255) (withPhase (DataOut (nextWord t)) m) (loadWritten (t .load) (allMoved m))
 
 -- a part has come: the word is whole, or begun
 abbrev pub partWritten : Bool → Part → Transfer → Machine → Machine

@@ -4,6 +4,7 @@ use mathlib.Core.Bool.{Bool}
 use mathlib.Core.List.{List}
 use lib.ListN.{getD}
 use Rattle.ground.specs.Choice.{pick}
+use Rattle.ground.specs.Left.{Left, left}
 use Rattle.geometry.specs.declared.Located.{Located}
 use Rattle.sectors.specs.Marks.{readable, writable}
 use Rattle.sectors.specs.Sectors.{stored}
@@ -43,17 +44,9 @@ unfoldable pub sectorTest : Way → State → List ℕ → Tested
 sectorTest way s marks = markTested (allows way) (markEnd way) (addressTest s) marks
 
 -- a sector is stored, and its mark set to 0, unless a test fails
-pub record StoreTested : Type 0 where
-  pub tested : Tested
-  pub store : List ℕ
-  pub marks : List ℕ
+abbrev pub storedBy : Tested → List ℕ → List ℕ → List ℕ → Left Tested
+storedBy (Passes spot) bytes store marks = left (Passes spot) (stored store marks (spot .index) bytes .store) (stored store marks (spot .index) bytes .marks)
+storedBy (Fails e) bytes store marks = left (Fails e) store marks
 
-abbrev pub storeTested : Tested → List ℕ → List ℕ → StoreTested
-storeTested t store marks = record { tested = t; store = store; marks = marks }
-
-abbrev pub storedBy : Tested → List ℕ → List ℕ → List ℕ → StoreTested
-storedBy (Passes spot) bytes store marks = storeTested (Passes spot) (stored store marks (spot .index) bytes .store) (stored store marks (spot .index) bytes .marks)
-storedBy (Fails e) bytes store marks = storeTested (Fails e) store marks
-
-unfoldable pub sectorStored : State → List ℕ → List ℕ → List ℕ → StoreTested
+unfoldable pub sectorStored : State → List ℕ → List ℕ → List ℕ → Left Tested
 sectorStored s bytes store marks = storedBy (sectorTest Out s marks) bytes store marks

@@ -1,6 +1,6 @@
 -- How a command ends: 01, "Registers" (Status, Error), and the codes of the command table.
 use Prim.Native.Nat.{ℕ}
-use mathlib.Core.Bool.{Bool}
+use mathlib.Core.Bool.{true}
 use Rattle.registers.specs.declared.Phase.the-variants.{Idle}
 use Rattle.registers.specs.declared.State.{State}
 use Rattle.registers.specs.declared.Core.{Core}
@@ -42,7 +42,10 @@ endCode WriteFault code = 0x03
 endCode BadGeometry code = 0x21
 endCode NoSuchCommand code = 0x20
 
--- a command ends, with the interrupt mark as given: it is set "at each command end except a good end of reading data"; the registers that
--- name the sector and Count are left as they stand
-abbrev pub ended : End → Bool → State → Core
-ended e mark s = core Idle (withInterrupt mark (withCode (endCode e (s .code)) (withError (endError e (s .registers .error)) (withStatus (endStatus e) s))))
+-- a command ends, and the interrupt mark is set: "at each command end"; the registers that name the sector and Count are left as they stand
+abbrev pub ended : End → State → Core
+ended e s = core Idle (withInterrupt true (withCode (endCode e (s .code)) (withError (endError e (s .registers .error)) (withStatus (endStatus e) s))))
+
+-- "… except a good end of reading data", which leaves the interrupt mark
+abbrev pub readingEnded : State → Core
+readingEnded s = core Idle (withStatus (endStatus Good) s)

@@ -9,10 +9,11 @@ use registers::State;
 use registers::Transfer;
 ghost use mathlib.Core.Path.{_≡_};
 ghost use Prim.Native.Nat.{_-_};
+ghost use Rattle.ground.specs.Left.{left};
 ghost use Rattle.registers.specs.Machine.{machine};
-ghost use Rattle.transfers.specs.Ends.{endStatus, endError, endCode, ended};
-ghost use Rattle.transfers.specs.Before.{addressTest, allows, markEnd, sectorTest, storeTested, sectorStored};
-ghost use Rattle.transfers.specs.Steps.{idle, markBegun, phaseOf, begun, sectorDone, readSector, nextRead, loadRead, askSector, nextAsked, loadWritten};
+ghost use Rattle.transfers.specs.Ends.{endStatus, endError, endCode, ended, readingEnded};
+ghost use Rattle.transfers.specs.Before.{addressTest, allows, markEnd, sectorTest, sectorStored};
+ghost use Rattle.transfers.specs.Steps.{idle, newTransfer, ready, interruptAsked, askedFor, sectorDone, readSector, nextRead, loadRead, askSector, nextAsked, loadWritten};
 
 // How a command ends: well, or by the test of the command table that failed.
 pub enum End {
@@ -36,6 +37,12 @@ pub enum Tested {
 pub enum Way {
     In,
     Out,
+}
+
+// Which write sector is asked for: the first of a command, or a later one.
+pub enum Order {
+    First,
+    Later,
 }
 
 impl End {
@@ -85,9 +92,9 @@ impl End {
     }
 }
 
-// A command ends, with the interrupt mark as given.
-pub fn ended(state: State, end: End, mark: bool) -> Core
-    ensures { λ r. ⌜ r ≡ ended end mark state ⌝ }
+// A command ends, and the interrupt mark is set.
+pub fn ended(state: State, end: End) -> Core
+    ensures { λ r. ⌜ r ≡ ended end state ⌝ }
 {
     let registers = state.registers;
     let status = end.status();
@@ -97,7 +104,19 @@ pub fn ended(state: State, end: End, mark: bool) -> Core
     s.registers.status = status;
     s.registers.error = error;
     s.code = code;
-    s.interrupt = mark;
+    s.interrupt = true;
+    Core {
+        phase: Phase::Idle,
+        state: s,
+    }
+}
+
+// A good end of reading data leaves the interrupt mark.
+fn reading_ended(state: State) -> Core
+    ensures { λ r. ⌜ r ≡ readingEnded state ⌝ }
+{
+    let mut s = state;
+    s.registers.status = 0x50;
     Core {
         phase: Phase::Idle,
         state: s,
@@ -154,7 +173,7 @@ pub fn sector_test(state: State, way: Way, marks: &[u8]) -> Tested
 
 // The sector is stored and its mark cleared, unless a test fails: for a write and for Erase.
 pub fn sector_stored(state: State, bytes: &[u8; 512], store: &mut [u8], marks: &mut [u8]) -> Tested
-    ensures { λ r. ⌜ storeTested r (now (store .exit)) (now (marks .exit)) ≡ sectorStored state (now (bytes .entry)) (now (store .entry)) (now (marks .entry)) ⌝ }
+    ensures { λ r. ⌜ left r (now (store .exit)) (now (marks .exit)) ≡ sectorStored state (now (bytes .entry)) (now (store .entry)) (now (marks .entry)) ⌝ }
 {
     match sector_test(state, Way::Out, marks) {
         Tested::Passes(spot) => {
@@ -168,45 +187,50 @@ pub fn sector_stored(state: State, bytes: &[u8; 512], store: &mut [u8], marks: &
 
 // ---- a transfer's start, and the sector after this one
 
-fn mark_begun(way: Way, first: bool, mark: bool) -> bool
-    ensures { λ r. ⌜ r ≡ markBegun way first mark ⌝ }
+fn new_transfer(load: Load) -> Transfer
+    ensures { λ r. ⌜ r ≡ newTransfer load ⌝ }
 {
-    match way {
-        Way::In => true,
-        Way::Out => {
-            if first {
-                return mark;
-            }
-            true
-        }
-    }
-}
-
-fn phase_of(way: Way, transfer: Transfer) -> Phase
-    ensures { λ r. ⌜ r ≡ phaseOf way transfer ⌝ }
-{
-    match way {
-        Way::In => Phase::DataIn(transfer),
-        Way::Out => Phase::DataOut(transfer),
-    }
-}
-
-// A sector or the buffer is ready to be read, or asked for. `first` matters to a write alone: what is ready to be read always sets the mark.
-pub fn begun(state: State, way: Way, load: Load, first: bool) -> Core
-    ensures { λ r. ⌜ r ≡ begun way load first state ⌝ }
-{
-    let transfer = Transfer {
+    Transfer {
         load: load,
         half: Half::Nothing,
         words: 0,
-    };
-    let mark = mark_begun(way, first, state.interrupt);
+    }
+}
+
+// A sector or the buffer is ready to be read.
+pub fn ready(state: State, load: Load) -> Core
+    ensures { λ r. ⌜ r ≡ ready load state ⌝ }
+{
+    let transfer = new_transfer(load);
     let mut s = state;
     s.registers.status = 0x58;
-    s.interrupt = mark;
-    let phase = phase_of(way, transfer);
+    s.interrupt = true;
     Core {
-        phase: phase,
+        phase: Phase::DataIn(transfer),
+        state: s,
+    }
+}
+
+fn interrupt_asked(order: Order, interrupt: bool) -> bool
+    ensures { λ r. ⌜ r ≡ interruptAsked order interrupt ⌝ }
+{
+    match order {
+        Order::First => interrupt,
+        Order::Later => true,
+    }
+}
+
+// A sector or the buffer is asked for.
+pub fn asked_for(state: State, load: Load, order: Order) -> Core
+    ensures { λ r. ⌜ r ≡ askedFor load order state ⌝ }
+{
+    let transfer = new_transfer(load);
+    let interrupt = interrupt_asked(order, state.interrupt);
+    let mut s = state;
+    s.registers.status = 0x58;
+    s.interrupt = interrupt;
+    Core {
+        phase: Phase::DataOut(transfer),
         state: s,
     }
 }
@@ -258,9 +282,9 @@ pub fn read_sector(
         Tested::Passes(spot) => {
             let i = spot.index;
             sectors::fetch_sector(store, i, buffer);
-            begun(state, Way::In, Load::Sectors(left), true)
+            ready(state, Load::Sectors(left))
         }
-        Tested::Fails(end) => ended(state, end, true),
+        Tested::Fails(end) => ended(state, end),
     }
 }
 
@@ -269,7 +293,7 @@ fn next_read(state: State, left: u16, buffer: &mut [u8; 512], store: &[u8], mark
 {
     let next = sector_done(state, left);
     if left == 0 {
-        return ended(next, End::Good, state.interrupt);
+        return reading_ended(next);
     }
     read_sector(next, left, buffer, store, marks)
 }
@@ -285,7 +309,7 @@ pub fn load_read(
     ensures { λ r. ⌜ machine r (now (buffer .exit)) (now (store .entry)) (now (marks .entry)) ≡ loadRead load (idle state (now (buffer .entry)) (now (store .entry)) (now (marks .entry))) ⌝ }
 {
     match load {
-        Load::Buffer => ended(state, End::Good, state.interrupt),
+        Load::Buffer => reading_ended(state),
         Load::Sectors(left) => next_read(state, less_one(left), buffer, store, marks),
     }
 }
@@ -293,12 +317,12 @@ pub fn load_read(
 // ---- writing
 
 // A sector is asked for, or its address fails.
-pub fn ask_sector(state: State, left: u16, first: bool) -> Core
-    ensures { λ r. ⌜ r ≡ askSector left first state ⌝ }
+pub fn ask_sector(state: State, left: u16, order: Order) -> Core
+    ensures { λ r. ⌜ r ≡ askSector left order state ⌝ }
 {
     match address_test(state) {
-        Tested::Passes(_) => begun(state, Way::Out, Load::Sectors(left), first),
-        Tested::Fails(end) => ended(state, end, true),
+        Tested::Passes(_) => asked_for(state, Load::Sectors(left), order),
+        Tested::Fails(end) => ended(state, end),
     }
 }
 
@@ -307,9 +331,9 @@ fn next_asked(state: State, left: u16) -> Core
 {
     let next = sector_done(state, left);
     if left == 0 {
-        return ended(next, End::Good, true);
+        return ended(next, End::Good);
     }
-    ask_sector(next, left, false)
+    ask_sector(next, left, Order::Later)
 }
 
 // The last byte of a sector or of the buffer has come: the sector is stored, and the next is asked for.
@@ -323,10 +347,10 @@ pub fn load_written(
     ensures { λ r. ⌜ machine r (now (buffer .entry)) (now (store .exit)) (now (marks .exit)) ≡ loadWritten load (idle state (now (buffer .entry)) (now (store .entry)) (now (marks .entry))) ⌝ }
 {
     match load {
-        Load::Buffer => ended(state, End::Good, true),
+        Load::Buffer => ended(state, End::Good),
         Load::Sectors(left) => match sector_stored(state, buffer, store, marks) {
             Tested::Passes(_) => next_asked(state, less_one(left)),
-            Tested::Fails(end) => ended(state, end, true),
+            Tested::Fails(end) => ended(state, end),
         },
     }
 }

@@ -1,4 +1,5 @@
 use Rattle.card.specs.Perform.{registerWritten}
+use Rattle.commands.specs.Table.{commandGiven}
 use borrow.Author.Needs.{needs}
 use Rattle.card.proofs.write_register.Statement.{statement}
 use Rattle.card.proofs.write_register.Tie as tie
@@ -92,7 +93,7 @@ same-length-2 : tie.Need-same-length-2
 same-length-2 c = search needs
 
 returns-8 : tie.Need-returns-8
-unfolding registerWritten
+unfolding registerWritten commandGiven
 returns-8 c =
     let c4 = c .before .before .before .before in
     let c8 = c4 .before .before .before .before in

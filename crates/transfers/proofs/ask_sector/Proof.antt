@@ -10,8 +10,8 @@ address-test-requires c κs = search needs
 enum-told : tie.Need-enum-told
 enum-told c = search needs
 
-begun-requires : tie.Need-begun-requires
-begun-requires c κs = search needs
+asked-for-requires : tie.Need-asked-for-requires
+asked-for-requires c κs = search needs
 
 enum-known-end : tie.Need-enum-known-end
 enum-known-end c = search needs
@@ -21,7 +21,7 @@ ended-requires c κs = search needs
 
 returns : tie.Need-returns
 unfolding askSector
-returns c = let e = sym (c .before .before .before .address-test .ensures) ∙ c .before .enum-told .given .1 in simp (e, c .begun .ensures)
+returns c = let e = sym (c .before .before .before .address-test .ensures) ∙ c .before .enum-told .given .1 in simp (e, c .asked-for .ensures)
 
 returns-2 : tie.Need-returns-2
 unfolding askSector
@@ -33,7 +33,7 @@ ask-sector-spec =
     (tie.spec
     address-test-requires
     enum-told
-    begun-requires
+    asked-for-requires
     enum-known-end
     ended-requires
     returns

@@ -5,8 +5,8 @@ use Rattle.transfers.proofs.load_read.Tie as tie
 enum-told : tie.Need-enum-told
 enum-told c = search needs
 
-ended-requires : tie.Need-ended-requires
-ended-requires c κs = search needs
+reading-ended-requires : tie.Need-reading-ended-requires
+reading-ended-requires c κs = search needs
 
 enum-known-load : tie.Need-enum-known-load
 enum-known-load c = search needs
@@ -18,7 +18,7 @@ next-read-requires : tie.Need-next-read-requires
 next-read-requires c κs = search needs
 
 returns : tie.Need-returns
-returns c = simp (c .before .enum-told .given .1, c .ended .ensures)
+returns c = simp (c .before .enum-told .given .1, c .reading-ended .ensures)
 
 returns-2 : tie.Need-returns-2
 returns-2 c = simp (c .before .before .before .before .load .given .1) (simp (c .before .before .less-one .ensures) at (c .next-read .ensures))
@@ -28,7 +28,7 @@ load-read-spec =
     tie.close
     (tie.spec
     enum-told
-    ended-requires
+    reading-ended-requires
     enum-known-load
     less-one-requires
     next-read-requires

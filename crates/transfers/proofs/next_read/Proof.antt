@@ -7,12 +7,12 @@ use Rattle.transfers.proofs.next_read.Tie as tie
 sector-done-requires : tie.Need-sector-done-requires
 sector-done-requires c κs = search needs
 
-ended-requires : tie.Need-ended-requires
-ended-requires c κs = search needs
+reading-ended-requires : tie.Need-reading-ended-requires
+reading-ended-requires c κs = search needs
 
 returns : tie.Need-returns
 unfolding nextRead
-returns c = simp (eq-eqb _ _ (c .before .if1 .taken), c .ended .ensures, c .before .before .sector-done .ensures)
+returns c = simp (eq-eqb _ _ (c .before .if1 .taken), c .reading-ended .ensures, c .before .before .sector-done .ensures)
 
 read-sector-requires : tie.Need-read-sector-requires
 read-sector-requires c κs = search needs
@@ -23,4 +23,4 @@ returns-2 c = simp (ne-eqb _ _ (c .before .before .if1 .left)) (simp (c .before 
 
 pub next-read-spec : {M : Type 1} → statement M
 next-read-spec =
-    tie.close (tie.spec sector-done-requires ended-requires returns read-sector-requires returns-2)
+    tie.close (tie.spec sector-done-requires reading-ended-requires returns read-sector-requires returns-2)

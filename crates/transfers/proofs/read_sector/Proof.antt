@@ -13,8 +13,8 @@ enum-known-spot c = search needs
 fetch-sector-requires : tie.Need-fetch-sector-requires
 fetch-sector-requires c κs = search needs
 
-begun-requires : tie.Need-begun-requires
-begun-requires c κs = search needs
+ready-requires : tie.Need-ready-requires
+ready-requires c κs = search needs
 
 enum-known-end : tie.Need-enum-known-end
 enum-known-end c = search needs
@@ -28,7 +28,7 @@ returns c =
     let c4 = c .before .before .before .before in
     let c6 = c4 .before .before in
     let e = sym (c6 .sector-test .ensures) ∙ c4 .spot .given .1 in
-    simp (e, c .begun .ensures, c .before .fetch-sector .ensures)
+    simp (e, c .ready .ensures, c .before .fetch-sector .ensures)
 
 returns-2 : tie.Need-returns-2
 unfolding readSector
@@ -41,7 +41,7 @@ read-sector-spec =
     sector-test-requires
     enum-known-spot
     fetch-sector-requires
-    begun-requires
+    ready-requires
     enum-known-end
     ended-requires
     returns

@@ -7,10 +7,10 @@ use Rattle.commands.proofs.runs.erase.Statement.{statement}
 use Rattle.commands.proofs.runs.erase.Tie as tie
 
 abbrev Inv-loop : tie.InvT-loop
-Inv-loop left store₀ marks₀ bytes s₀ n₀ store marks s n = (length store ≡ length store₀) × (length marks ≡ length marks₀) × (eraseFrom n s store marks ≡ eraseFrom n₀ s₀ store₀ marks₀)
+Inv-loop count store₀ marks₀ bytes s₀ n₀ store marks s n = (length store ≡ length store₀) × (length marks ≡ length marks₀) × (eraseFrom n s store marks ≡ eraseFrom n₀ s₀ store₀ marks₀)
 
 abbrev μ-loop : tie.MeasureT-loop
-μ-loop left store₀ marks₀ bytes s₀ n₀ store marks s n = n
+μ-loop count store₀ marks₀ bytes s₀ n₀ store marks s n = n
 
 loop-holds : tie.Need-loop-holds Inv-loop μ-loop
 loop-holds c = search needs

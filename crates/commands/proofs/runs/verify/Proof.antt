@@ -6,10 +6,10 @@ use Rattle.commands.proofs.runs.verify.Statement.{statement}
 use Rattle.commands.proofs.runs.verify.Tie as tie
 
 abbrev Inv-loop : tie.InvT-loop
-Inv-loop left marks s₀ n₀ s n = verifyFrom n s marks ≡ verifyFrom n₀ s₀ marks
+Inv-loop count marks s₀ n₀ s n = verifyFrom n s marks ≡ verifyFrom n₀ s₀ marks
 
 abbrev μ-loop : tie.MeasureT-loop
-μ-loop left marks s₀ n₀ s n = n
+μ-loop count marks s₀ n₀ s n = n
 
 loop-holds : tie.Need-loop-holds Inv-loop μ-loop
 loop-holds c = search needs

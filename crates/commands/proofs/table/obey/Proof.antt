@@ -48,20 +48,20 @@ enum-told-5 c = search needs
 identify-requires : tie.Need-identify-requires
 identify-requires c κs = search needs
 
-begun-requires : tie.Need-begun-requires
-begun-requires c κs = search needs
+ready-requires : tie.Need-ready-requires
+ready-requires c κs = search needs
 
 enum-told-6 : tie.Need-enum-told-6
 enum-told-6 c = search needs
 
-begun-requires-2 : tie.Need-begun-requires-2
-begun-requires-2 c κs = search needs
+ready-requires-2 : tie.Need-ready-requires-2
+ready-requires-2 c κs = search needs
 
 enum-told-7 : tie.Need-enum-told-7
 enum-told-7 c = search needs
 
-begun-requires-3 : tie.Need-begun-requires-3
-begun-requires-3 c κs = search needs
+asked-for-requires : tie.Need-asked-for-requires
+asked-for-requires c κs = search needs
 
 enum-told-8 : tie.Need-enum-told-8
 enum-told-8 c = search needs
@@ -146,13 +146,13 @@ returns-4 c =
 returns-5 : tie.Need-returns-5
 returns-5 c =
     let c5 = c .before .before .before .before .before in
-    simp (c .before .before .before .enum-told5 .given .1, c .begun .ensures, c .before .identify .ensures, c5 .started .ensures)
+    simp (c .before .before .before .enum-told5 .given .1, c .ready .ensures, c .before .identify .ensures, c5 .started .ensures)
 
 returns-6 : tie.Need-returns-6
-returns-6 c = simp (c .before .enum-told6 .given .1, c .begun2 .ensures, c .before .before .before .started .ensures)
+returns-6 c = simp (c .before .enum-told6 .given .1, c .ready2 .ensures, c .before .before .before .started .ensures)
 
 returns-7 : tie.Need-returns-7
-returns-7 c = simp (c .before .enum-told7 .given .1, c .begun3 .ensures, c .before .before .before .started .ensures)
+returns-7 c = simp (c .before .enum-told7 .given .1, c .asked-for .ensures, c .before .before .before .started .ensures)
 
 returns-8 : tie.Need-returns-8
 returns-8 c = simp (c .before .enum-told8 .given .1, c .set-geometry .ensures, c .before .before .before .started .ensures)
@@ -193,11 +193,11 @@ obey-spec =
     erase-requires
     enum-told-5
     identify-requires
-    begun-requires
+    ready-requires
     enum-told-6
-    begun-requires-2
+    ready-requires-2
     enum-told-7
-    begun-requires-3
+    asked-for-requires
     enum-told-8
     set-geometry-requires
     enum-told-9
