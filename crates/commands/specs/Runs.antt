@@ -3,6 +3,7 @@ use Prim.Native.Nat.{ℕ, zero, suc}
 use mathlib.Core.List.{List}
 use lib.ListN.{replicate}
 use Rattle.ground.specs.Left.{Left, left}
+use Rattle.ground.specs.Sizes.{sectorBytes}
 use Rattle.registers.specs.declared.State.{State}
 use Rattle.registers.specs.declared.Core.{Core}
 use Rattle.transfers.specs.declared.End.the-variants.{Good}
@@ -23,7 +24,7 @@ verifyFrom zero s marks = ended Good s
 verifyFrom (suc n) s marks = goesOn (sectorTest In s marks) (λ k. k) s (verifyFrom n (sectorDone n s) marks)
 
 unfoldable pub allFF : List ℕ
-allFF = replicate 512 0xFF
+allFF = replicate sectorBytes 0xFF
 
 unfoldable pub eraseFrom : ℕ → State → List ℕ → List ℕ → Left Core
 eraseFrom zero s store marks = left (ended Good s) store marks

@@ -32,10 +32,10 @@ use Rattle.port.specs.Data.{Effect, dataRead, dataWritten}
 use Rattle.kept.proofs.Data.{phaseOf}
 use Rattle.kept.proofs.Ends.{bad, mark-elim, done-count}
 use Rattle.kept.proofs.DataElim.{partCome, data-read-elim, data-written-elim}
-use Rattle.laws.specs.Mark.{asks, another, MarkRule}
+use Rattle.laws.specs.Mark.{drqSet, another, MarkRule}
 use Rattle.laws.specs.Acts.{DataRead, DataWrite}
 use Rattle.laws.proofs.MarkLaws.{still, turned, written-end, read-failed, read-well}
-use Rattle.laws.proofs.MarkEnds.{end-asks}
+use Rattle.laws.proofs.MarkEnds.{end-drq}
 
 -- ---- a test that fails is a bad end
 
@@ -61,15 +61,15 @@ left-facts left s f e =
 
 -- ---- reading
 
-read-tested : (t : Tested) (left : ℕ) (s : State) (m : Machine) → proper t ≡ true → asks s ≡ true → another s (m .state) ≡ true → MarkRule DataRead s (readTested t left m .state)
+read-tested : (t : Tested) (left : ℕ) (s : State) (m : Machine) → proper t ≡ true → drqSet s ≡ true → another s (m .state) ≡ true → MarkRule DataRead s (readTested t left m .state)
 read-tested (Passes spot) left s m p a d = turned In s (readTested (Passes spot) left m .state) a refl d refl
-read-tested (Fails e) left s m p a d = read-failed s (readTested (Fails e) left m .state) a (end-asks e) (un-not _ _ p) refl
+read-tested (Fails e) left s m p a d = read-failed s (readTested (Fails e) left m .state) a (end-drq e) (un-not _ _ p) refl
 
 done-interrupt : (left : ℕ) (s : State) → sectorDone left s .interrupt ≡ s .interrupt
 unfolding sectorDone
 done-interrupt left s = pick-elim (λ (x : State). x .interrupt ≡ s .interrupt) (eqb left 0) _ _ (λ e. refl) (λ e. refl)
 
-load-read : (l : Load) (m : Machine) → asks (m .state) ≡ true → loadFits l (m .state) ≡ true → MarkRule DataRead (m .state) (loadRead l (allMoved m) .state)
+load-read : (l : Load) (m : Machine) → drqSet (m .state) ≡ true → loadFits l (m .state) ≡ true → MarkRule DataRead (m .state) (loadRead l (allMoved m) .state)
 unfolding nextRead readSector
 load-read Buffer m a f = read-well (m .state) (loadRead Buffer (allMoved m) .state) a refl refl refl
 load-read (Sectors left) m a f =
@@ -81,7 +81,7 @@ load-read (Sectors left) m a f =
 abbrev pub Runs : Phase → State → Type 0
 Runs p s = (statusFits p (s .registers .status) ≡ true) × (runFits p s ≡ true)
 
-running : (way : Way) (t : Transfer) (p : Phase) (s : State) → p ≡ phaseOf way t → Runs p s → (asks s ≡ true) × (loadFits (t .load) s ≡ true)
+running : (way : Way) (t : Transfer) (p : Phase) (s : State) → p ≡ phaseOf way t → Runs p s → (drqSet s ≡ true) × (loadFits (t .load) s ≡ true)
 unfolding statusFits runFits
 running In t p s e r = subst (λ (p : Phase). Runs p s) e r
 running Out t p s e r = subst (λ (p : Phase). Runs p s) e r
@@ -94,19 +94,19 @@ data-read port m r =
 
 -- ---- writing
 
-ask-tested : (t : Tested) (left : ℕ) (s n : State) → asks s ≡ true → another s n ≡ true → MarkRule DataWrite s (askTested t left Later n .state)
+ask-tested : (t : Tested) (left : ℕ) (s n : State) → drqSet s ≡ true → another s n ≡ true → MarkRule DataWrite s (askTested t left Later n .state)
 ask-tested (Passes spot) left s n a d = turned Out s (askTested (Passes spot) left Later n .state) a refl d refl
-ask-tested (Fails e) left s n a d = written-end s (askTested (Fails e) left Later n .state) a (end-asks e) refl
+ask-tested (Fails e) left s n a d = written-end s (askTested (Fails e) left Later n .state) a (end-drq e) refl
 
-core-written : (t : Tested) (left : ℕ) (s : State) → asks s ≡ true → loadFits (Sectors left) s ≡ true → MarkRule DataWrite s (coreWritten t (left - 1) s .state)
+core-written : (t : Tested) (left : ℕ) (s : State) → drqSet s ≡ true → loadFits (Sectors left) s ≡ true → MarkRule DataWrite s (coreWritten t (left - 1) s .state)
 unfolding nextAsked askSector
 core-written (Passes spot) left s a f =
     pick-elim (λ (k : Core). MarkRule DataWrite s (k .state)) (eqb (left - 1) 0) _ _
     (λ e. written-end s _ a refl refl)
     (λ e. ask-tested (addressTest (sectorDone (left - 1) s)) (left - 1) s (sectorDone (left - 1) s) a (left-facts left s f e))
-core-written (Fails e) left s a f = written-end s (coreWritten (Fails e) (left - 1) s .state) a (end-asks e) refl
+core-written (Fails e) left s a f = written-end s (coreWritten (Fails e) (left - 1) s .state) a (end-drq e) refl
 
-load-written : (l : Load) (s : State) (m : Machine) → asks s ≡ true → loadFits l s ≡ true → MarkRule DataWrite s (loadWritten l (idleWith s m) .state)
+load-written : (l : Load) (s : State) (m : Machine) → drqSet s ≡ true → loadFits l s ≡ true → MarkRule DataWrite s (loadWritten l (idleWith s m) .state)
 load-written Buffer s m a f = written-end s (loadWritten Buffer (idleWith s m) .state) a refl refl
 load-written (Sectors left) s m a f = core-written (sectorStored s (m .buffer) (m .store) (m .marks) .result) left s a f
 

@@ -26,31 +26,31 @@ use Rattle.transfers.specs.Steps.{readTested, readSector, askTested, askSector}
 use Rattle.commands.specs.Runs.{verifyFrom, eraseFrom}
 use Rattle.commands.specs.Table.{countOf, soughtEnd, reshapedEnded, started, dropped, commandOf, obeyed, commandGiven}
 use Rattle.kept.proofs.Runs.{verify-elim, erase-elim}
-use Rattle.laws.specs.Mark.{asks, MarkRule}
+use Rattle.laws.specs.Mark.{drqSet, MarkRule}
 use Rattle.laws.specs.Acts.{CommandWrite}
 use Rattle.laws.proofs.MarkLaws.{over, ready, asked}
 
 -- no end is 58H
-pub end-asks : (e : End) → eqb (endStatus e) 0x58 ≡ false
-end-asks Good = refl
-end-asks BadHeadOrSector = refl
-end-asks BadCylinder = refl
-end-asks BadLba = refl
-end-asks Unreadable = refl
-end-asks WriteFault = refl
-end-asks BadGeometry = refl
-end-asks NoSuchCommand = refl
+pub end-drq : (e : End) → eqb (endStatus e) 0x58 ≡ false
+end-drq Good = refl
+end-drq BadHeadOrSector = refl
+end-drq BadCylinder = refl
+end-drq BadLba = refl
+end-drq Unreadable = refl
+end-drq WriteFault = refl
+end-drq BadGeometry = refl
+end-drq NoSuchCommand = refl
 
 -- the command is over, and the mark is set
 abbrev Over : State → Type 0
-Over n = (n .interrupt ≡ true) × (asks n ≡ false)
+Over n = (n .interrupt ≡ true) × (drqSet n ≡ false)
 
 verified : (n : ℕ) (s : State) (marks : List ℕ) → Over (verifyFrom n s marks .state)
-verified n s marks = verify-elim (λ (x : State). Unit {0}) (λ (k : Core). Over (k .state)) (λ n s u. tt) (λ e s u. (refl, end-asks e)) n s marks tt
+verified n s marks = verify-elim (λ (x : State). Unit {0}) (λ (k : Core). Over (k .state)) (λ n s u. tt) (λ e s u. (refl, end-drq e)) n s marks tt
 
 erases : (n : ℕ) (s : State) (store marks : List ℕ) → Over (eraseFrom n s store marks .result .state)
 erases n s store marks =
-    erase-elim (λ (x : State) (st mk : List ℕ). Unit {0}) (λ (k : Left Core). Over (k .result .state)) (λ s st mk u. tt) (λ n s st mk u. tt) (λ e s st mk u. (refl, end-asks e)) n s store marks tt
+    erase-elim (λ (x : State) (st mk : List ℕ). Unit {0}) (λ (k : Left Core). Over (k .result .state)) (λ s st mk u. tt) (λ n s st mk u. tt) (λ e s st mk u. (refl, end-drq e)) n s store marks tt
 
 reshaped-ended : (r : Reshaped) (s : State) → Over (reshapedEnded r s .state)
 reshaped-ended (Reshaped.Taken g) s = (refl, refl)
@@ -62,11 +62,11 @@ done c s n o = over c s n (o .0) (o .1)
 
 read-first : (t : Tested) (left : ℕ) (s : State) (m : Machine) → MarkRule (CommandWrite Read) s (readTested t left m .state)
 read-first (Passes spot) left s m = ready Read s (readTested (Passes spot) left m .state) refl refl refl
-read-first (Fails e) left s m = over Read s (readTested (Fails e) left m .state) refl (end-asks e)
+read-first (Fails e) left s m = over Read s (readTested (Fails e) left m .state) refl (end-drq e)
 
 ask-first : (t : Tested) (left : ℕ) (s n : State) → n .interrupt ≡ false → MarkRule (CommandWrite Write) s (askTested t left First n .state)
 ask-first (Passes spot) left s n e = asked Write s (askTested (Passes spot) left First n .state) refl e refl
-ask-first (Fails f) left s n e = over Write s (askTested (Fails f) left First n .state) refl (end-asks f)
+ask-first (Fails f) left s n e = over Write s (askTested (Fails f) left First n .state) refl (end-drq f)
 
 -- s is the state before the Command write, n the state that the command starts with
 obeys : (c : Command) (s n : State) (m : Machine) → n .interrupt ≡ false → MarkRule (CommandWrite c) s (obeyed c n m .state)
@@ -81,7 +81,7 @@ obeys WriteBuffer s n m e = asked WriteBuffer s (obeyed WriteBuffer n m .state) 
 obeys SetGeometry s n m e = done SetGeometry s _ (reshaped-ended (reshaped (n .registers .count) (n .registers .address .head) (totalIn n)) n)
 obeys Diagnose s n m e = over Diagnose s (obeyed Diagnose n m .state) refl refl
 obeys Recalibrate s n m e = over Recalibrate s (obeyed Recalibrate n m .state) refl refl
-obeys Seek s n m e = over Seek s (obeyed Seek n m .state) refl (end-asks (soughtEnd (seek (n .registers .address) (n .current) (totalIn n))))
+obeys Seek s n m e = over Seek s (obeyed Seek n m .state) refl (end-drq (soughtEnd (seek (n .registers .address) (n .current) (totalIn n))))
 obeys Sense s n m e = over Sense s (obeyed Sense n m .state) refl refl
 obeys Other s n m e = over Other s (obeyed Other n m .state) refl refl
 

@@ -8,7 +8,7 @@ use Rattle.registers.specs.declared.State.{State}
 use Rattle.commands.specs.declared.Command.{Command}
 use Rattle.transfers.specs.declared.Way.{Way}
 use Rattle.transfers.specs.declared.Way.the-variants.{In, Out}
-use Rattle.laws.specs.Mark.{asks, another, readsRow, sets, clears, MarkRule}
+use Rattle.laws.specs.Mark.{drqSet, another, readsRow, sets, clears, MarkRule}
 use Rattle.laws.specs.Acts.{Act, CommandWrite, DataRead, DataWrite, NoMatter}
 
 left : (a b s c : Bool) → s ≡ false → c ≡ false → a ≡ b → a ≡ (s || (b && not c))
@@ -37,17 +37,17 @@ no-matter s n e = mark-left NoMatter s n refl refl e
 -- ---- a Command write
 
 -- the command is over
-pub over : (c : Command) (s n : State) → n .interrupt ≡ true → asks n ≡ false → MarkRule (CommandWrite c) s n
+pub over : (c : Command) (s n : State) → n .interrupt ≡ true → drqSet n ≡ false → MarkRule (CommandWrite c) s n
 unfolding sets
 over c s n m e = mark-up (CommandWrite c) s n (rw e) m
 
 -- a sector or the buffer is ready
-pub ready : (c : Command) (s n : State) → readsRow c ≡ true → n .interrupt ≡ true → asks n ≡ true → MarkRule (CommandWrite c) s n
+pub ready : (c : Command) (s n : State) → readsRow c ≡ true → n .interrupt ≡ true → drqSet n ≡ true → MarkRule (CommandWrite c) s n
 unfolding sets
 ready c s n r m e = mark-up (CommandWrite c) s n (rw (e, r)) m
 
 -- the first sector or the buffer is asked for
-pub asked : (c : Command) (s n : State) → readsRow c ≡ false → n .interrupt ≡ false → asks n ≡ true → MarkRule (CommandWrite c) s n
+pub asked : (c : Command) (s n : State) → readsRow c ≡ false → n .interrupt ≡ false → drqSet n ≡ true → MarkRule (CommandWrite c) s n
 unfolding sets clears
 asked c s n r m e = mark-gone (CommandWrite c) s n (rw (e, r)) refl m
 
@@ -73,26 +73,26 @@ no-end false b e = refl
 pub still : (w : Way) (s n : State) → n .registers .status ≡ s .registers .status → n .registers .count ≡ s .registers .count → n .interrupt ≡ s .interrupt → MarkRule (dataAct w) s n
 unfolding sets clears
 still In s n p q r =
-    mark-left DataRead s n (rw (no-turn (asks s) (asks n) (another s n) (same-count _ _ (sym q)), no-end (asks s) (asks n) (ap (λ (x : ℕ). eqb x 0x58) p))) refl r
+    mark-left DataRead s n (rw (no-turn (drqSet s) (drqSet n) (another s n) (same-count _ _ (sym q)), no-end (drqSet s) (drqSet n) (ap (λ (x : ℕ). eqb x 0x58) p))) refl r
 still Out s n p q r =
-    mark-left DataWrite s n (rw (no-turn (asks s) (asks n) (another s n) (same-count _ _ (sym q)), no-end (asks s) (asks n) (ap (λ (x : ℕ). eqb x 0x58) p))) refl r
+    mark-left DataWrite s n (rw (no-turn (drqSet s) (drqSet n) (another s n) (same-count _ _ (sym q)), no-end (drqSet s) (drqSet n) (ap (λ (x : ℕ). eqb x 0x58) p))) refl r
 
 -- the next sector is ready, or asked for
-pub turned : (w : Way) (s n : State) → asks s ≡ true → asks n ≡ true → another s n ≡ true → n .interrupt ≡ true → MarkRule (dataAct w) s n
+pub turned : (w : Way) (s n : State) → drqSet s ≡ true → drqSet n ≡ true → another s n ≡ true → n .interrupt ≡ true → MarkRule (dataAct w) s n
 unfolding sets
 turned In s n p q r m = mark-up DataRead s n (rw (p, q, r)) m
 turned Out s n p q r m = mark-up DataWrite s n (rw (p, q, r)) m
 
 -- writing ends, well or in error
-pub written-end : (s n : State) → asks s ≡ true → asks n ≡ false → n .interrupt ≡ true → MarkRule DataWrite s n
+pub written-end : (s n : State) → drqSet s ≡ true → drqSet n ≡ false → n .interrupt ≡ true → MarkRule DataWrite s n
 unfolding sets
 written-end s n p q m = mark-up DataWrite s n (rw (p, q)) m
 
 -- reading ends in error, or well
-pub read-failed : (s n : State) → asks s ≡ true → asks n ≡ false → eqb (n .registers .status) 0x50 ≡ false → n .interrupt ≡ true → MarkRule DataRead s n
+pub read-failed : (s n : State) → drqSet s ≡ true → drqSet n ≡ false → eqb (n .registers .status) 0x50 ≡ false → n .interrupt ≡ true → MarkRule DataRead s n
 unfolding sets
 read-failed s n p q r m = mark-up DataRead s n (rw (p, q, r)) m
 
-pub read-well : (s n : State) → asks s ≡ true → asks n ≡ false → eqb (n .registers .status) 0x50 ≡ true → n .interrupt ≡ s .interrupt → MarkRule DataRead s n
+pub read-well : (s n : State) → drqSet s ≡ true → drqSet n ≡ false → eqb (n .registers .status) 0x50 ≡ true → n .interrupt ≡ s .interrupt → MarkRule DataRead s n
 unfolding sets clears
 read-well s n p q r m = mark-left DataRead s n (rw (p, q, r)) refl m

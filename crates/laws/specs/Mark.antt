@@ -12,8 +12,8 @@ use Rattle.laws.specs.Turns.{bitSeven, bitTwo}
 -- ---- what a host sees
 
 -- Status 58H: a sector or the buffer is ready, or asked for
-abbrev pub asks : State → Bool
-asks s = eqb (s .registers .status) 0x58
+abbrev pub drqSet : State → Bool
+drqSet s = eqb (s .registers .status) 0x58
 
 -- another sector's turn: Sector Count holds the sectors left, the present one included
 abbrev pub another : State → State → Bool
@@ -39,10 +39,10 @@ readsRow Other = false
 
 abbrev pub becomesReady : Act → State → State → Bool
 becomesReady StatusRead s n = false
-becomesReady (CommandWrite c) s n = asks n && readsRow c
+becomesReady (CommandWrite c) s n = drqSet n && readsRow c
 becomesReady (ControlWrite v) s n = false
 becomesReady (OptionWrite v) s n = false
-becomesReady DataRead s n = asks s && (asks n && another s n)
+becomesReady DataRead s n = drqSet s && (drqSet n && another s n)
 becomesReady DataWrite s n = false
 becomesReady NoMatter s n = false
 
@@ -53,17 +53,17 @@ askedAgain (CommandWrite c) s n = false
 askedAgain (ControlWrite v) s n = false
 askedAgain (OptionWrite v) s n = false
 askedAgain DataRead s n = false
-askedAgain DataWrite s n = asks s && (asks n && another s n)
+askedAgain DataWrite s n = drqSet s && (drqSet n && another s n)
 askedAgain NoMatter s n = false
 
 -- "and at each command end": a Command write after which no data is asked for, or the data access after which none is any more
 abbrev pub commandEnds : Act → State → State → Bool
 commandEnds StatusRead s n = false
-commandEnds (CommandWrite c) s n = not (asks n)
+commandEnds (CommandWrite c) s n = not (drqSet n)
 commandEnds (ControlWrite v) s n = false
 commandEnds (OptionWrite v) s n = false
-commandEnds DataRead s n = asks s && not (asks n)
-commandEnds DataWrite s n = asks s && not (asks n)
+commandEnds DataRead s n = drqSet s && not (drqSet n)
+commandEnds DataWrite s n = drqSet s && not (drqSet n)
 commandEnds NoMatter s n = false
 
 -- "except a good end of reading data": Status 50H after a data read

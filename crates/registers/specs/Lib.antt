@@ -1,3 +1,4 @@
+pub mod Status
 pub mod Machine
 pub mod State
 pub mod WellMade

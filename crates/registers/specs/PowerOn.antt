@@ -3,12 +3,14 @@ use Prim.Native.Nat.{ℕ}
 use mathlib.Core.Bool.{false}
 use mathlib.Core.List.{List}
 use lib.ListN.{replicate}
+use Rattle.ground.specs.Sizes.{sectorBytes}
 use Rattle.registers.specs.declared.Registers.{Registers}
 use Rattle.registers.specs.declared.Made.{Made}
 use Rattle.registers.specs.declared.State.{State}
+use Rattle.registers.specs.Status.{idleStatus}
 
 abbrev pub powerRegisters : Registers
-powerRegisters = record { status = 0x50; error = 0x01; count = 1; address = record { sector = 1; low = 0; high = 0; head = 0 } }
+powerRegisters = record { status = idleStatus; error = 0x01; count = 1; address = record { sector = 1; low = 0; high = 0; head = 0 } }
 
 -- with a map setting, since a cleared SRESET "is power-on with the index just written"
 abbrev pub powerOn : Made → ℕ → State
@@ -24,4 +26,4 @@ powerOn made option = record {
 
 -- "buffer zeros"
 unfoldable pub zeros : List ℕ
-zeros = replicate 512 0
+zeros = replicate sectorBytes 0

@@ -10,6 +10,7 @@ use Rattle.registers.specs.declared.Core.{Core}
 use Rattle.registers.specs.declared.resets.Turn.{Turn}
 use Rattle.registers.specs.declared.resets.Turn.the-variants.{Enter, Leave, Stay}
 use Rattle.registers.specs.State.{withStatus, withInterrupt, withOption, withControl, sresetIn}
+use Rattle.registers.specs.Status.{idleStatus}
 use Rattle.registers.specs.Machine.{core}
 use Rattle.registers.specs.PowerOn.{powerOn, zeros}
 
@@ -23,8 +24,8 @@ turnOf true true = Stay
 -- "A reset that ends one leaves Status 50H."
 abbrev pub restStatus : Phase → ℕ → ℕ
 restStatus Idle status = status
-restStatus (DataIn t) status = 0x50
-restStatus (DataOut t) status = 0x50
+restStatus (DataIn t) status = idleStatus
+restStatus (DataOut t) status = idleStatus
 
 -- a reset is entered: the transfer ends, and the interrupt mark is "cleared by entering or leaving a reset"
 abbrev pub entered : Phase → State → State

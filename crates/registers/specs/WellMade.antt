@@ -13,6 +13,7 @@ use Rattle.registers.specs.declared.Load.the-variants.{Sectors, Buffer}
 use Rattle.registers.specs.declared.Phase.{Phase}
 use Rattle.registers.specs.declared.Phase.the-variants.{Idle, DataIn, DataOut}
 use Rattle.registers.specs.declared.State.{State}
+use Rattle.registers.specs.Status.{idleStatus, dataStatus, errorStatus, faultStatus}
 use Rattle.registers.specs.State.{sresetIn, indexIn, totalIn, locatedIn}
 
 -- the map index is 0..3
@@ -26,12 +27,12 @@ sresetFits TrueIde option = not (sresetIn option)
 
 -- Status is 58H exactly while a transfer runs, else 50H, 51H or 71H
 unfoldable pub atRest : ℕ → Bool
-atRest status = pick (eqb status 0x50) true (pick (eqb status 0x51) true (eqb status 0x71))
+atRest status = pick (eqb status idleStatus) true (pick (eqb status errorStatus) true (eqb status faultStatus))
 
 unfoldable pub statusFits : Phase → ℕ → Bool
 statusFits Idle status = atRest status
-statusFits (DataIn t) status = eqb status 0x58
-statusFits (DataOut t) status = eqb status 0x58
+statusFits (DataIn t) status = eqb status dataStatus
+statusFits (DataOut t) status = eqb status dataStatus
 
 -- no transfer runs in a held reset
 unfoldable pub heldIn : State → Bool

@@ -12,6 +12,22 @@ ghost use Rattle.geometry.specs.Address.{found};
 pub mod resets;
 pub mod values;
 
+// 01, "Registers": the values of Status.
+pub const IDLE_STATUS: u8 = 0x50;
+
+pub const DATA_STATUS: u8 = 0x58;
+
+pub const ERROR_STATUS: u8 = 0x51;
+
+pub const FAULT_STATUS: u8 = 0x71;
+
+// The bits of Error.
+pub const UNC: u8 = 0x40;
+
+pub const IDNF: u8 = 0x10;
+
+pub const ABRT: u8 = 0x04;
+
 // 01, "Data": within a word nothing, the low half or the high half has moved.
 pub enum Half {
     Nothing,
@@ -110,13 +126,13 @@ fn sreset_fits(mode: Mode, option: u8) -> bool
 fn at_rest(status: u8) -> bool
     ensures { λ r. ⌜ r ≡ atRest status ⌝ }
 {
-    if status == 0x50 {
+    if status == IDLE_STATUS {
         return true;
     }
-    if status == 0x51 {
+    if status == ERROR_STATUS {
         return true;
     }
-    status == 0x71
+    status == FAULT_STATUS
 }
 
 fn status_fits(phase: Phase, status: u8) -> bool
@@ -124,8 +140,8 @@ fn status_fits(phase: Phase, status: u8) -> bool
 {
     match phase {
         Phase::Idle => at_rest(status),
-        Phase::DataIn(_) => status == 0x58,
-        Phase::DataOut(_) => status == 0x58,
+        Phase::DataIn(_) => status == DATA_STATUS,
+        Phase::DataOut(_) => status == DATA_STATUS,
     }
 }
 

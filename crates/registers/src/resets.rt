@@ -40,8 +40,8 @@ impl Phase {
     {
         match self {
             Phase::Idle => status,
-            Phase::DataIn(_) => 0x50,
-            Phase::DataOut(_) => 0x50,
+            Phase::DataIn(_) => super::IDLE_STATUS,
+            Phase::DataOut(_) => super::IDLE_STATUS,
         }
     }
 }
@@ -56,7 +56,7 @@ impl Made {
             made: self,
             current: default,
             registers: Registers {
-                status: 0x50,
+                status: super::IDLE_STATUS,
                 error: 0x01,
                 count: 1,
                 address: Address {

@@ -4,18 +4,19 @@ use mathlib.Core.List.{List, _++_}
 use lib.Dec.{ltb}
 use lib.ListN.{length, set, take, drop}
 use Rattle.ground.specs.Choice.{pick}
+use Rattle.ground.specs.Sizes.{sectorBytes}
 
 -- the bytes of sector i
 unfoldable pub sectorOf : List ℕ → ℕ → List ℕ
-sectorOf store i = take 512 (drop (512 * i) store)
+sectorOf store i = take sectorBytes (drop (sectorBytes * i) store)
 
 -- the store with sector i replaced
 unfoldable pub withSector : List ℕ → ℕ → List ℕ → List ℕ
-withSector store i bytes = take (512 * i) store ++ (bytes ++ drop (512 * i + 512) store)
+withSector store i bytes = take (sectorBytes * i) store ++ (bytes ++ drop (sectorBytes * i + sectorBytes) store)
 
 -- the buffer once sector i was read into it
 unfoldable pub bufferRead : List ℕ → ℕ → List ℕ → List ℕ
-bufferRead store i buffer = pick (ltb i (length store / 512)) (sectorOf store i) buffer
+bufferRead store i buffer = pick (ltb i (length store / sectorBytes)) (sectorOf store i) buffer
 
 -- a store and its marks
 pub record StoreMarks : Type 0 where
@@ -28,6 +29,6 @@ storeMarks s m = record { store = s; marks = m }
 -- 01, "Commands": a sector is stored, and its mark set to 0
 unfoldable pub stored : List ℕ → List ℕ → ℕ → List ℕ → StoreMarks
 stored store marks i bytes =
-    pick (ltb i (length store / 512))
+    pick (ltb i (length store / sectorBytes))
     (pick (ltb i (length marks)) (storeMarks (withSector store i bytes) (set marks i 0)) (storeMarks store marks))
     (storeMarks store marks)

@@ -4,32 +4,33 @@ use mathlib.Core.Bool.{true}
 use Rattle.registers.specs.declared.Phase.the-variants.{Idle}
 use Rattle.registers.specs.declared.State.{State}
 use Rattle.registers.specs.declared.Core.{Core}
+use Rattle.registers.specs.Status.{idleStatus, errorStatus, faultStatus, UNC, IDNF, ABRT}
 use Rattle.registers.specs.State.{withStatus, withError, withCode, withInterrupt}
 use Rattle.registers.specs.Machine.{core}
 use Rattle.transfers.specs.declared.End.{End}
 use Rattle.transfers.specs.declared.End.the-variants.{Good, BadHeadOrSector, BadCylinder, BadLba, Unreadable, WriteFault, BadGeometry, NoSuchCommand}
 
--- "Status: 80H BSY, 40H RDY, 20H DWF, 10H DSC, 08H DRQ, 01H ERR. Idle 50H, data 58H, error 51H, write fault 71H."
+-- Status: idle, write fault where a mark forbids writing ("ABRT and DWF"), else error
 abbrev pub endStatus : End → ℕ
-endStatus Good = 0x50
-endStatus BadHeadOrSector = 0x51
-endStatus BadCylinder = 0x51
-endStatus BadLba = 0x51
-endStatus Unreadable = 0x51
-endStatus WriteFault = 0x71
-endStatus BadGeometry = 0x51
-endStatus NoSuchCommand = 0x51
+endStatus Good = idleStatus
+endStatus BadHeadOrSector = errorStatus
+endStatus BadCylinder = errorStatus
+endStatus BadLba = errorStatus
+endStatus Unreadable = errorStatus
+endStatus WriteFault = faultStatus
+endStatus BadGeometry = errorStatus
+endStatus NoSuchCommand = errorStatus
 
--- "Error: 40H UNC, 10H IDNF, 04H ABRT"; at a good end Error is as the command set it
+-- at a good end Error is as the command set it
 abbrev pub endError : End → ℕ → ℕ
 endError Good error = error
-endError BadHeadOrSector error = 0x10
-endError BadCylinder error = 0x10
-endError BadLba error = 0x10
-endError Unreadable error = 0x40
-endError WriteFault error = 0x04
-endError BadGeometry error = 0x04
-endError NoSuchCommand error = 0x04
+endError BadHeadOrSector error = IDNF
+endError BadCylinder error = IDNF
+endError BadLba error = IDNF
+endError Unreadable error = UNC
+endError WriteFault error = ABRT
+endError BadGeometry error = ABRT
+endError NoSuchCommand error = ABRT
 
 -- "Bad head or sector: code 21H. Otherwise bad cylinder or LBA: 2FH. Both are IDNF." Mark 1: 11H; mark 2: 03H; 91H: 21H; others: 20H
 abbrev pub endCode : End → ℕ → ℕ
@@ -48,4 +49,4 @@ ended e s = core Idle (withInterrupt true (withCode (endCode e (s .code)) (withE
 
 -- "… except a good end of reading data", which leaves the interrupt mark
 abbrev pub readingEnded : State → Core
-readingEnded s = core Idle (withStatus (endStatus Good) s)
+readingEnded s = core Idle (withStatus idleStatus s)

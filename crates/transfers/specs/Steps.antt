@@ -14,6 +14,7 @@ use Rattle.registers.specs.declared.Transfer.{Transfer}
 use Rattle.registers.specs.declared.Phase.the-variants.{Idle, DataIn, DataOut}
 use Rattle.registers.specs.declared.State.{State}
 use Rattle.registers.specs.declared.Core.{Core}
+use Rattle.registers.specs.Status.{dataStatus}
 use Rattle.registers.specs.State.{withStatus, withInterrupt, withCount, withAddress}
 use Rattle.registers.specs.Machine.{Machine, machine, core, withCore}
 use Rattle.transfers.specs.declared.End.the-variants.{Good}
@@ -42,7 +43,7 @@ newTransfer load = record { load = load; half = Nothing; words = 0 }
 
 -- "Interrupt mark: set when a read sector or buffer becomes ready, …"
 abbrev pub ready : Load → State → Core
-ready load s = core (DataIn (newTransfer load)) (withInterrupt true (withStatus 0x58 s))
+ready load s = core (DataIn (newTransfer load)) (withInterrupt true (withStatus dataStatus s))
 
 -- "… when a second or later write sector is asked for"
 abbrev pub interruptAsked : Order → Bool → Bool
@@ -50,7 +51,7 @@ interruptAsked First interrupt = interrupt
 interruptAsked Later interrupt = true
 
 abbrev pub askedFor : Load → Order → State → Core
-askedFor load order s = core (DataOut (newTransfer load)) (withInterrupt (interruptAsked order (s .interrupt)) (withStatus 0x58 s))
+askedFor load order s = core (DataOut (newTransfer load)) (withInterrupt (interruptAsked order (s .interrupt)) (withStatus dataStatus s))
 
 -- a sector is done: Count holds those left, and the address goes on where one is left. So "on an error the registers name the failing sector and
 -- Count holds the sectors not done, modulo 256; those before it stay done. At a good end of a sector command Count is 0 and the address is the
