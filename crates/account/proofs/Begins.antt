@@ -6,6 +6,7 @@ use mathlib.Core.List.{List}
 use native.Mathlib.Omega.{arith}
 use lib.ListN.{length}
 use borrow.Author.Tests.{lt-ltb, ne-eqb}
+use Rattle.geometry.specs.Address.{goodAt}
 use Rattle.geometry.specs.declared.Located.{Located}
 use Rattle.geometry.proofs.Kept.{Bytes}
 use Rattle.registers.specs.declared.State.{State}
@@ -42,10 +43,10 @@ asked-elim P (suc k) h f = rw (ne-eqb (suc k) 0 (omega arith)) (f k (omega arith
 abbrev pub Eight : State → Type 0
 Eight s = (s .registers .count < 256) × Bytes (s .registers .address)
 
-seated : (n : ℕ) (i : ℕ) (s : State) → Bytes (s .registers .address) → s .registers .count ≡ suc n % 256 → locatedIn s ≡ Located.Good (record { index = i }) → Seated (courseIn s) i (suc n) s
+seated : (n : ℕ) (i : ℕ) (s : State) → Bytes (s .registers .address) → s .registers .count ≡ suc n % 256 → locatedIn s ≡ goodAt i → Seated (courseIn s) i (suc n) s
 seated n i s b c e = (c, seat-address s i b e, refl)
 
-where-first : (i : ℕ) (s : State) → Shaped (s .made) (s .current) → locatedIn s ≡ Located.Good (record { index = i }) → Where (courseIn s) i s
+where-first : (i : ℕ) (s : State) → Shaped (s .made) (s .current) → locatedIn s ≡ goodAt i → Where (courseIn s) i s
 where-first i s h e = e ∙ (rw (lt-ltb i (courseIn s .room) (seat-room s i h e)))
 
 module _ (n : ℕ) (m : Machine) (b : Bytes (m .state .registers .address)) (c : m .state .registers .count ≡ suc n % 256) where

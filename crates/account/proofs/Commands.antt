@@ -6,8 +6,8 @@ use mathlib.Core.List.{List}
 use lib.Dec.{ltb, eqb}
 use lib.ListN.{length}
 use Rattle.ground.specs.Choice.{pick}
+use Rattle.geometry.specs.Address.{goodAt}
 use Rattle.geometry.specs.declared.Geometry.{Geometry}
-use Rattle.geometry.specs.declared.Located.{Located}
 use Rattle.geometry.specs.declared.Reshaped.{Reshaped}
 use Rattle.geometry.specs.Limits.{totalOf, currentFor}
 use Rattle.geometry.specs.Shape.{reshaped, currentAfter}
@@ -65,7 +65,7 @@ settled-ground way s k b t x y z w h g l q = rw (h .1, h .2, h .3, h .4) (g .0, 
 pub first-is : (m : Machine) → Shaped (m .state .made) (m .state .current) → first (plainOf m) ≡ asPlace (locatedIn (m .state))
 first-is m h = rw (h .1) (place-is (m .state .registers .address) (m .state .current) (sectorsOf (m .state .made .default)))
 
-pub first-at : (m : Machine) (i : ℕ) → Shaped (m .state .made) (m .state .current) → first (plainOf m) ≡ At i → locatedIn (m .state) ≡ Located.Good (record { index = i })
+pub first-at : (m : Machine) (i : ℕ) → Shaped (m .state .made) (m .state .current) → first (plainOf m) ≡ At i → locatedIn (m .state) ≡ goodAt i
 first-at m i h e = good-at (locatedIn (m .state)) i (sym (first-is m h) ∙ e)
 
 count-is : (s : State) → countOf s ≡ asked (s .registers .count)

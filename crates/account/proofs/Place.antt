@@ -11,7 +11,7 @@ use Rattle.ground.proofs.Picks.{both-of}
 use Rattle.geometry.specs.declared.Geometry.{Geometry}
 use Rattle.geometry.specs.declared.Address.{Address}
 use Rattle.geometry.specs.declared.Located.{Located}
-use Rattle.geometry.specs.Address.{byLba, headOf, cylinderOf, lbaOf, chsIndex, locateLba, locateChs, locate}
+use Rattle.geometry.specs.Address.{byLba, headOf, cylinderOf, lbaOf, chsIndex, locateLba, locateChs, locate, goodAt}
 use Rattle.account.specs.Place.{Place, At, Bad, selectsLba, cylinderNumber, lbaNumber, judged, placeOf}
 
 -- a decision of `geometry` in the account's words
@@ -29,8 +29,8 @@ abbrev indexAt : Place → ℕ
 indexAt (At i) = i
 indexAt (Bad code) = 0
 
-pub good-at : (l : Located) (i : ℕ) → asPlace l ≡ At i → l ≡ Located.Good (record { index = i })
-good-at (Located.Good spot) i e = ap (λ (x : Place). Located.Good (record { index = indexAt x })) e
+pub good-at : (l : Located) (i : ℕ) → asPlace l ≡ At i → l ≡ goodAt i
+good-at (Located.Good spot) i e = ap (λ (x : Place). goodAt (indexAt x)) e
 good-at Located.BadHeadOrSector i e = absurd (false≢true (ap isAt e))
 good-at Located.BadCylinder i e = absurd (false≢true (ap isAt e))
 good-at Located.BadLba i e = absurd (false≢true (ap isAt e))
@@ -67,7 +67,7 @@ not-within s n = go (leb 1 s) (leb s n) refl refl
 
 place-by : (l t u v w : Bool) (i j k : ℕ) → (v ≡ true → j ≡ k) →
     pick l (judged false (not t) Bad (At i)) (judged (not u || not v) (not w) Bad (At j))
-    ≡ asPlace (pick l (pick t (Located.Good (record { index = i })) Located.BadLba) (pick (pick u v false) (pick w (Located.Good (record { index = k })) Located.BadCylinder) Located.BadHeadOrSector))
+    ≡ asPlace (pick l (pick t (goodAt i) Located.BadLba) (pick (pick u v false) (pick w (goodAt k) Located.BadCylinder) Located.BadHeadOrSector))
 place-by true true u v w i j k h = refl
 place-by true false u v w i j k h = refl
 place-by false t true true true i j k h = ap At (h refl)

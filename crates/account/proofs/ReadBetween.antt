@@ -10,7 +10,7 @@ use lib.ListN.{length, take, drop}
 use lib.Seq.{getD-drop}
 use borrow.Author.Tests.{ltb-true, ne-eqb}
 use Rattle.ground.specs.Choice.{pick}
-use Rattle.geometry.specs.declared.Located.{Located}
+use Rattle.geometry.specs.Address.{goodAt}
 use Rattle.geometry.specs.Limits.{totalOf}
 use Rattle.registers.specs.declared.Load.{Load}
 use Rattle.registers.specs.declared.Load.the-variants.{Sectors, Buffer}
@@ -63,7 +63,7 @@ read-between n c i m g q w =
     (g, (omega arith, sector-length (m .store) i y, sector-bytes i (m .store) (g .2), tt, loaded-of c i n (m .state) q (where-good c i (m .state) w r))))
     (λ f z. (g, refl))
 
-next-between : (n : ℕ) (c : Course) (i : ℕ) (m : Machine) → Ground In m → Seated c i (suc n) (m .state) → locatedIn (m .state) ≡ Located.Good (record { index = i }) → Between In (nextRead n m) None
+next-between : (n : ℕ) (c : Course) (i : ℕ) (m : Machine) → Ground In m → Seated c i (suc n) (m .state) → locatedIn (m .state) ≡ goodAt i → Between In (nextRead n m) None
 unfolding nextRead
 next-between zero c i m g q e = unfold sectorDone in (g, refl)
 next-between (suc n) c i m g q e =

@@ -10,7 +10,7 @@ use lib.ListN.{length, drop, getD, drop-of-length-le}
 use Rattle.ground.proofs.Lists.{drop-two}
 use borrow.Author.Tests.{ltb-true, ltb-false, lt-ltb, ne-eqb}
 use Rattle.ground.specs.Choice.{pick}
-use Rattle.geometry.specs.declared.Located.{Located}
+use Rattle.geometry.specs.Address.{goodAt}
 use Rattle.geometry.specs.Limits.{totalOf}
 use Rattle.sectors.specs.Sectors.{sectorOf, bufferRead}
 use Rattle.registers.specs.declared.Load.{Load}
@@ -57,7 +57,7 @@ read-rest n c i m d h l q w =
 
 -- the last byte of sector i has gone
 next-rest : (n : ℕ) (c : Course) (i : ℕ) (m : Machine) (d : List ℕ) → Shaped (m .state .made) (m .state .current) → LentFor (totalOf (m .state .made .default)) (m .store) (m .marks) →
-    Seated c i (suc n) (m .state) → locatedIn (m .state) ≡ Located.Good (record { index = i }) → rest (nextRead n m) d ≡ readSectors c (i + 1) n (plainOf m)
+    Seated c i (suc n) (m .state) → locatedIn (m .state) ≡ goodAt i → rest (nextRead n m) d ≡ readSectors c (i + 1) n (plainOf m)
 unfolding nextRead
 next-rest zero c i m d h l q e = unfold sectorDone restAt readSectors runFrom sectorsFrom lastSector in rw (seated-last c i 1 (m .state) q)
 next-rest (suc n) c i m d h l q e =

@@ -6,7 +6,7 @@ use mathlib.Core.List.{List, [], _∷_, _++_, append-assoc}
 use native.Mathlib.Omega.{arith}
 use lib.ListN.{length, take, drop, set, getD}
 use Rattle.geometry.specs.declared.Located.{Located}
-use Rattle.geometry.specs.Address.{indexOf, locate}
+use Rattle.geometry.specs.Address.{indexOf, locate, goodAt}
 use Rattle.geometry.specs.Limits.{totalOf}
 use Rattle.registers.specs.declared.Half.{Half}
 use Rattle.registers.specs.declared.Load.{Load}
@@ -90,7 +90,7 @@ bare p = withBuffer [] (withStore [] [] p)
 abbrev pub Loaded : Load → Plain → Type 0
 Loaded Buffer p = Unit {0}
 Loaded (Sectors left) p =
-    (located p ≡ Located.Good (record { index = indexOf (located p) })) × (1 ≤ left) × (p .registers .count ≡ left % 256) × (p .registers .address ≡ named (courseOf p) (indexOf (located p)))
+    (located p ≡ goodAt (indexOf (located p))) × (1 ≤ left) × (p .registers .count ≡ left % 256) × (p .registers .address ≡ named (courseOf p) (indexOf (located p)))
 
 -- the geometries, what is lent, and no reset
 abbrev pub Ground : Way → Machine → Type 0
@@ -133,7 +133,7 @@ run-status c r v p = ends-status (r .ending) v _
 abbrev pub Between : Way → Machine → Waiting → Type 0
 Between way m q = Ground way m × Waits way (m .phase) (plainOf m) q
 
-pub loaded-of : (c : Course) (i n : ℕ) (s : State) → Seated c i (suc n) s → locatedIn s ≡ Located.Good (record { index = i }) → Loaded (Sectors (suc n)) (plainIn s [] [] [])
+pub loaded-of : (c : Course) (i n : ℕ) (s : State) → Seated c i (suc n) s → locatedIn s ≡ goodAt i → Loaded (Sectors (suc n)) (plainIn s [] [] [])
 loaded-of c i n s q e = (rw e refl, omega arith, q .0, rw (q .2, e) (q .1))
 
 abbrev pub notes : List ℕ → Waiting → Notes

@@ -10,7 +10,7 @@ use Rattle.ground.specs.Choice.{pick}
 use Rattle.geometry.specs.declared.Geometry.{Geometry}
 use Rattle.geometry.specs.declared.Located.{Located}
 use Rattle.geometry.specs.Limits.{totalOf, currentFor}
-use Rattle.geometry.specs.Address.{byLba, roomOf}
+use Rattle.geometry.specs.Address.{byLba, roomOf, spotAt, goodAt}
 use Rattle.geometry.specs.Next.{nextOf}
 use Rattle.geometry.proofs.Limits.{current-room}
 use Rattle.geometry.proofs.Inside.{inside-room}
@@ -43,19 +43,19 @@ abbrev pub pastEnd : Course → Located
 pastEnd c = pick (c .lba) Located.BadLba Located.BadCylinder
 
 abbrev pub Where : Course → ℕ → State → Type 0
-Where c i s = locatedIn s ≡ pick (ltb i (c .room)) (Located.Good (record { index = i })) (pastEnd c)
+Where c i s = locatedIn s ≡ pick (ltb i (c .room)) (goodAt i) (pastEnd c)
 
 room-is : (s : State) → Shaped (s .made) (s .current) → roomOf (s .registers .address) (s .current) (totalOf (s .made .default)) ≡ courseIn s .room
 unfolding roomOf
 room-is s h = rw (selects-is (s .registers .address)) (ap (λ (n : ℕ). pick (byLba (s .registers .address)) n (sectorsOf (s .current))) (h .1))
 
 -- the first sector of a run
-pub seat-room : (s : State) (i : ℕ) → Shaped (s .made) (s .current) → locatedIn s ≡ Located.Good (record { index = i }) → i < courseIn s .room
-seat-room s i h e = subst (λ (n : ℕ). i < n) (room-is s h) (inside-room (s .registers .address) (s .current) (totalOf (s .made .default)) (record { index = i }) (h .0) e .0)
+pub seat-room : (s : State) (i : ℕ) → Shaped (s .made) (s .current) → locatedIn s ≡ goodAt i → i < courseIn s .room
+seat-room s i h e = subst (λ (n : ℕ). i < n) (room-is s h) (inside-room (s .registers .address) (s .current) (totalOf (s .made .default)) (spotAt i) (h .0) e .0)
 
-pub seat-address : (s : State) (i : ℕ) → Bytes (s .registers .address) → locatedIn s ≡ Located.Good (record { index = i }) → s .registers .address ≡ named (courseIn s) i
+pub seat-address : (s : State) (i : ℕ) → Bytes (s .registers .address) → locatedIn s ≡ goodAt i → s .registers .address ≡ named (courseIn s) i
 unfolding named
-seat-address s i b e = rw (selects-is (s .registers .address)) (sym (named-self (s .registers .address) (s .current) (totalOf (s .made .default)) (record { index = i }) b e))
+seat-address s i b e = rw (selects-is (s .registers .address)) (sym (named-self (s .registers .address) (s .current) (totalOf (s .made .default)) (spotAt i) b e))
 
 -- the next one: `sectorDone` moves the registers on
 abbrev pub onward : ℕ → State → State
@@ -68,17 +68,17 @@ done-on n s = rw (ne-eqb (suc n) 0 (omega arith))
 course-kept : (n : ℕ) (s : State) → courseIn (onward n s) ≡ courseIn s
 course-kept n s = let k = next-kept (s .registers .address) (s .current) in rw (selects-is (nextOf (s .registers .address) (s .current)), selects-is (s .registers .address), k .0, k .1)
 
-address-next : (n i : ℕ) (s : State) → Shaped (s .made) (s .current) → locatedIn s ≡ Located.Good (record { index = i }) → onward n s .registers .address ≡ named (courseIn s) (i + 1)
+address-next : (n i : ℕ) (s : State) → Shaped (s .made) (s .current) → locatedIn s ≡ goodAt i → onward n s .registers .address ≡ named (courseIn s) (i + 1)
 unfolding named
-address-next n i s h e = rw (selects-is (s .registers .address)) (next-named (s .registers .address) (s .current) (totalOf (s .made .default)) (record { index = i }) (h .0) (h .2) e)
+address-next n i s h e = rw (selects-is (s .registers .address)) (next-named (s .registers .address) (s .current) (totalOf (s .made .default)) (spotAt i) (h .0) (h .2) e)
 
-where-next : (n i : ℕ) (s : State) → Shaped (s .made) (s .current) → locatedIn s ≡ Located.Good (record { index = i }) → Where (courseIn s) (i + 1) (onward n s)
+where-next : (n i : ℕ) (s : State) → Shaped (s .made) (s .current) → locatedIn s ≡ goodAt i → Where (courseIn s) (i + 1) (onward n s)
 where-next n i s h e =
-    subst (λ (r : ℕ). locatedIn (onward n s) ≡ pick (ltb (i + 1) r) (Located.Good (record { index = i + 1 })) (pastEnd (courseIn s)))
+    subst (λ (r : ℕ). locatedIn (onward n s) ≡ pick (ltb (i + 1) r) (goodAt (i + 1)) (pastEnd (courseIn s)))
     (room-is s h)
-    (rw (selects-is (s .registers .address)) (next-law (s .registers .address) (s .current) (totalOf (s .made .default)) (record { index = i }) (h .0) (h .2) e))
+    (rw (selects-is (s .registers .address)) (next-law (s .registers .address) (s .current) (totalOf (s .made .default)) (spotAt i) (h .0) (h .2) e))
 
-pub seat-next : (c : Course) (n i : ℕ) (s : State) → Shaped (s .made) (s .current) → locatedIn s ≡ Located.Good (record { index = i }) → courseIn s ≡ c →
+pub seat-next : (c : Course) (n i : ℕ) (s : State) → Shaped (s .made) (s .current) → locatedIn s ≡ goodAt i → courseIn s ≡ c →
     Seated c (i + 1) n (onward n s) × Where c (i + 1) (onward n s)
 seat-next c n i s h e q =
     subst (λ (d : Course). Seated d (i + 1) n (onward n s) × Where d (i + 1) (onward n s)) q

@@ -7,6 +7,7 @@ use lib.Dec.{ltb, eqb}
 use lib.ListN.{getD}
 use borrow.Author.Tests.{ltb-true}
 use Rattle.ground.specs.Choice.{pick}
+use Rattle.geometry.specs.Address.{spotAt, goodAt}
 use Rattle.geometry.specs.declared.Located.{Located}
 use Rattle.sectors.specs.Marks.{readable, writable}
 use Rattle.registers.specs.declared.State.{State}
@@ -79,8 +80,8 @@ past-marked : (l : Bool) (allows : ℕ → Bool) (e : End) (marks : List ℕ) �
 past-marked true allows e marks = refl
 past-marked false allows e marks = refl
 
-marked : (u v : Bool) (i : ℕ) (e : End) (P : Tested → Ending → Type 0) → bad e ≡ true → v ≡ not u → P (Passes (record { index = i })) Well → ((f : End) → bad f ≡ true → P (Fails f) (endingOf f)) →
-    P (pick u (Passes (record { index = i })) (Fails e)) (pick v (endingOf e) Well)
+marked : (u v : Bool) (i : ℕ) (e : End) (P : Tested → Ending → Type 0) → bad e ≡ true → v ≡ not u → P (Passes (spotAt i)) Well → ((f : End) → bad f ≡ true → P (Fails f) (endingOf f)) →
+    P (pick u (Passes (spotAt i)) (Fails e)) (pick v (endingOf e) Well)
 marked true true i e P h q x f = absurd (true≢false q)
 marked true false i e P h q x f = x
 marked false true i e P h q x f = f e h
@@ -88,13 +89,13 @@ marked false false i e P h q x f = absurd (false≢true q)
 
 module _ (allows forbids : ℕ → Bool) (e : End) (h : bad e ≡ true) (opposite : (m : ℕ) → forbids m ≡ not (allows m)) where
   placed : (b : Bool) (c : Course) (i : ℕ) (marks : List ℕ) (P : Tested → Ending → Type 0) → ltb i (c .room) ≡ b →
-      (i < c .room → P (Passes (record { index = i })) Well) → ((f : End) → bad f ≡ true → P (Fails f) (endingOf f)) →
-      P (markTested allows e (testedOf (pick b (Located.Good (record { index = i })) (pastEnd c))) marks) (pick b (pick (forbids (getD marks i 0)) (endingOf e) Well) (NotFound 0x2F))
+      (i < c .room → P (Passes (spotAt i)) Well) → ((f : End) → bad f ≡ true → P (Fails f) (endingOf f)) →
+      P (markTested allows e (testedOf (pick b (goodAt i) (pastEnd c))) marks) (pick b (pick (forbids (getD marks i 0)) (endingOf e) Well) (NotFound 0x2F))
   placed true c i marks P q x f = marked (allows (getD marks i 0)) (forbids (getD marks i 0)) i e P h (opposite (getD marks i 0)) (x (ltb-true i (c .room) q)) f
   placed false c i marks P q x f = rw (past-marked (c .lba) allows e marks) (past-end (c .lba) P f)
 
   tested : (c : Course) (i : ℕ) (s : State) (marks : List ℕ) (P : Tested → Ending → Type 0) → Where c i s →
-      (i < c .room → P (Passes (record { index = i })) Well) → ((f : End) → bad f ≡ true → P (Fails f) (endingOf f)) →
+      (i < c .room → P (Passes (spotAt i)) Well) → ((f : End) → bad f ≡ true → P (Fails f) (endingOf f)) →
       P (markTested allows e (addressTest s) marks) (tests forbids (endingOf e) c marks i)
   unfolding addressTest tests
   tested c i s marks P w x f =
@@ -118,14 +119,14 @@ unwrite-opposite m = go (eqb m 2)
 
 -- what holds of a sound sector and of each failed test, holds of a sector to be read
 pub read-tested : (c : Course) (i : ℕ) (s : State) (marks : List ℕ) (P : Tested → Ending → Type 0) → Where c i s →
-    (i < c .room → P (Passes (record { index = i })) Well) → ((f : End) → bad f ≡ true → P (Fails f) (endingOf f)) →
+    (i < c .room → P (Passes (spotAt i)) Well) → ((f : End) → bad f ≡ true → P (Fails f) (endingOf f)) →
     P (sectorTest In s marks) (tests unreadable Unreadable c marks i)
 unfolding sectorTest
 read-tested c i s marks P w x f = tested readable unreadable End.Unreadable refl unread-opposite c i s marks P w x f
 
 -- and of a sector to be stored
 pub store-tested : (c : Course) (i : ℕ) (s : State) (marks : List ℕ) (P : Tested → Ending → Type 0) → Where c i s →
-    (i < c .room → P (Passes (record { index = i })) Well) → ((f : End) → bad f ≡ true → P (Fails f) (endingOf f)) →
+    (i < c .room → P (Passes (spotAt i)) Well) → ((f : End) → bad f ≡ true → P (Fails f) (endingOf f)) →
     P (sectorTest Out s marks) (tests unwritable WriteFault c marks i)
 unfolding sectorTest
 store-tested c i s marks P w x f = tested writable unwritable End.WriteFault refl unwrite-opposite c i s marks P w x f

@@ -5,7 +5,7 @@ use mathlib.Core.Path.{_≡_, _∙_}
 use mathlib.Core.List.{List}
 use native.Mathlib.Omega.{arith}
 use borrow.Author.Tests.{lt-ltb}
-use Rattle.geometry.specs.declared.Located.{Located}
+use Rattle.geometry.specs.Address.{goodAt}
 use Rattle.registers.specs.declared.State.{State}
 use Rattle.registers.specs.State.{locatedIn}
 use Rattle.transfers.specs.declared.Tested.{Tested}
@@ -19,7 +19,7 @@ use Rattle.account.proofs.Seats.{Shaped, Seated, Where, onward, done-on
 use Rattle.account.proofs.Tried.{stops-run, stops-ends, read-tested}
 
 -- where the registers point at sector i
-pub where-good : (c : Course) (i : ℕ) (s : State) → Where c i s → i < c .room → locatedIn s ≡ Located.Good (record { index = i })
+pub where-good : (c : Course) (i : ℕ) (s : State) → Where c i s → i < c .room → locatedIn s ≡ goodAt i
 where-good c i s w h = w ∙ (rw (lt-ltb i (c .room) h))
 
 -- a good end: Count is 0 and the address is the last sector's

@@ -10,7 +10,7 @@ use lib.ListN.{length, take, set, getD, length-set}
 use lib.Seq.{take-all, take-suc-set, take-suc, take-set-le, getD-set-same, getD-set-other}
 use borrow.Author.Tests.{ltb-true, ltb-false}
 use Rattle.ground.specs.Choice.{pick}
-use Rattle.geometry.specs.declared.Located.{Located}
+use Rattle.geometry.specs.Address.{spotAt, goodAt}
 use Rattle.geometry.specs.Limits.{totalOf}
 use Rattle.sectors.specs.Marks.{writable}
 use Rattle.registers.specs.declared.Load.{Load}
@@ -37,13 +37,13 @@ use Rattle.account.proofs.Rest.{bare, here, doneOut, restAt, rest, Load
 use Rattle.account.proofs.Writing.{done-over, marked-rest}
 
 -- the tests at the last byte, of a valid address
-pub sector-test : (i : ℕ) (s : State) (marks : List ℕ) → locatedIn s ≡ Located.Good (record { index = i }) →
-    sectorTest Out s marks ≡ pick (writable (getD marks i 0)) (Passes (record { index = i })) (Fails End.WriteFault)
+pub sector-test : (i : ℕ) (s : State) (marks : List ℕ) → locatedIn s ≡ goodAt i →
+    sectorTest Out s marks ≡ pick (writable (getD marks i 0)) (Passes (spotAt i)) (Fails End.WriteFault)
 unfolding sectorTest addressTest
 sector-test i s marks e = rw e
 
 -- a valid address lies in the store
-pub here-inside : (s : State) → Shaped (s .made) (s .current) → locatedIn s ≡ Located.Good (record { index = here s }) → here s < totalOf (s .made .default)
+pub here-inside : (s : State) → Shaped (s .made) (s .current) → locatedIn s ≡ goodAt (here s) → here s < totalOf (s .made .default)
 here-inside s h e =
     let x = seat-room s (here s) h e in
     let y = room-total (courseIn s) s h refl in

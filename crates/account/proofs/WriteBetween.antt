@@ -9,6 +9,7 @@ use lib.Dec.{ltb}
 use lib.ListN.{length, set, getD}
 use borrow.Author.Tests.{ltb-true, ne-eqb}
 use Rattle.ground.specs.Choice.{pick}
+use Rattle.geometry.specs.Address.{spotAt, goodAt}
 use Rattle.geometry.specs.declared.Located.{Located}
 use Rattle.geometry.specs.Limits.{totalOf}
 use Rattle.sectors.specs.Marks.{writable}
@@ -43,8 +44,8 @@ past-between true n order s b t k g = (g, refl)
 past-between false n order s b t k g = (g, refl)
 
 ask-by : (v : Bool) (n : ℕ) (order : Order) (c : Course) (i : ℕ) (s : State) (b t k : List ℕ) → length b ≡ 512 → Ground Out (idle s b t k) → Seated c i (suc n) s →
-    locatedIn s ≡ pick v (Located.Good (record { index = i })) (pastEnd c) →
-    Between Out (machine (askTested (testedOf (pick v (Located.Good (record { index = i })) (pastEnd c))) (suc n) order s) b t k) None
+    locatedIn s ≡ pick v (goodAt i) (pastEnd c) →
+    Between Out (machine (askTested (testedOf (pick v (goodAt i) (pastEnd c))) (suc n) order s) b t k) None
 ask-by true n order c i s b t k e g q w = (g, (omega arith, e, tt, tt, loaded-of c i n s q w))
 ask-by false n order c i s b t k e g q w = past-between (c .lba) (suc n) order s b t k g
 
@@ -54,7 +55,7 @@ unfolding askSector addressTest
 ask-between n order c i s b t k e g q w =
     subst (λ (l : Located). Between Out (machine (askTested (testedOf l) (suc n) order s) b t k) None) (sym w) (ask-by (ltb i (c .room)) n order c i s b t k e g q w)
 
-asked-between : (n : ℕ) (c : Course) (i : ℕ) (s : State) (b t k : List ℕ) → length b ≡ 512 → Ground Out (idle s b t k) → Seated c i (suc n) s → locatedIn s ≡ Located.Good (record { index = i }) →
+asked-between : (n : ℕ) (c : Course) (i : ℕ) (s : State) (b t k : List ℕ) → length b ≡ 512 → Ground Out (idle s b t k) → Seated c i (suc n) s → locatedIn s ≡ goodAt i →
     Between Out (machine (nextAsked n s) b t k) None
 unfolding nextAsked
 asked-between zero c i s b t k f g q e = unfold sectorDone in (g, refl)
@@ -63,8 +64,8 @@ asked-between (suc n) c i s b t k f g q e =
     rw (done-on n s, ne-eqb (suc n) 0 (omega arith)) (ask-between n Later c (i + 1) (onward (suc n) s) b t k f g (z .0) (z .1))
 
 marked-between : (u : Bool) (n : ℕ) (c : Course) (i : ℕ) (m : Machine) → i < totalOf (m .state .made .default) → length (m .buffer) ≡ 512 → Ground Out m → Seated c i (suc n) (m .state) →
-    locatedIn (m .state) ≡ Located.Good (record { index = i }) →
-    Between Out (writtenBy (storedBy (pick u (Passes (record { index = i })) (Fails End.WriteFault)) (m .buffer) (m .store) (m .marks)) n m) None
+    locatedIn (m .state) ≡ goodAt i →
+    Between Out (writtenBy (storedBy (pick u (Passes (spotAt i)) (Fails End.WriteFault)) (m .buffer) (m .store) (m .marks)) n m) None
 marked-between true n c i m h f g q e =
     rw (stored-is (totalOf (m .state .made .default)) i (m .store) (m .marks) (m .buffer) h (g .1))
     (asked-between n c i (m .state) (m .buffer) (putSector i (m .buffer) (m .store)) (set (m .marks) i 0) f

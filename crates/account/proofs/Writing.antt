@@ -9,6 +9,7 @@ use lib.Dec.{ltb}
 use lib.ListN.{take, drop, set, getD}
 use borrow.Author.Tests.{ltb-true, lt-ltb, ne-eqb}
 use Rattle.ground.specs.Choice.{pick}
+use Rattle.geometry.specs.Address.{spotAt, goodAt}
 use Rattle.geometry.specs.declared.Located.{Located}
 use Rattle.geometry.specs.Limits.{totalOf}
 use Rattle.registers.specs.declared.Load.{Load}
@@ -85,8 +86,8 @@ past-rest true n order c i s b t k d q = rw (stops-ends End.BadLba refl c (suc n
 past-rest false n order c i s b t k d q = rw (stops-ends End.BadCylinder refl c (suc n) i s b t k q)
 
 ask-by : (v : Bool) (n : ℕ) (order : Order) (c : Course) (i : ℕ) (s : State) (b t k d : List ℕ) → ltb i (c .room) ≡ v → Seated c i (suc n) s →
-    locatedIn s ≡ pick v (Located.Good (record { index = i })) (pastEnd c) →
-    rest (machine (askTested (testedOf (pick v (Located.Good (record { index = i })) (pastEnd c))) (suc n) order s) b t k) d ≡ writeSectors c i (suc n) (plainIn s b t k) d
+    locatedIn s ≡ pick v (goodAt i) (pastEnd c) →
+    rest (machine (askTested (testedOf (pick v (goodAt i) (pastEnd c))) (suc n) order s) b t k) d ≡ writeSectors c i (suc n) (plainIn s b t k) d
 unfolding restAt doneOut
 ask-by true n order c i s b t k d e q w =
     let h = ltb-true i (c .room) e in
@@ -102,7 +103,7 @@ ask-rest n order c i s b t k d q w =
     (ask-by _ n order c i s b t k d refl q w)
 
 -- sector i is stored
-asked-rest : (n : ℕ) (c : Course) (i : ℕ) (s : State) (b t k d : List ℕ) → Shaped (s .made) (s .current) → Seated c i (suc n) s → locatedIn s ≡ Located.Good (record { index = i }) →
+asked-rest : (n : ℕ) (c : Course) (i : ℕ) (s : State) (b t k d : List ℕ) → Shaped (s .made) (s .current) → Seated c i (suc n) s → locatedIn s ≡ goodAt i →
     rest (machine (nextAsked n s) b t k) d ≡ writeSectors c (i + 1) n (plainIn s b t k) d
 unfolding nextAsked
 asked-rest zero c i s b t k d h q e = unfold sectorDone restAt writeSectors runFrom firstSectors lastSectors replaced cleared in rw (seated-last c i 1 s q)
@@ -112,8 +113,8 @@ asked-rest (suc n) c i s b t k d h q e =
 
 -- its mark first
 pub marked-rest : (u v : Bool) (n : ℕ) (c : Course) (i : ℕ) (m : Machine) (d : List ℕ) → v ≡ not u → i < totalOf (m .state .made .default) → Shaped (m .state .made) (m .state .current) →
-    LentFor (totalOf (m .state .made .default)) (m .store) (m .marks) → Seated c i (suc n) (m .state) → locatedIn (m .state) ≡ Located.Good (record { index = i }) →
-    rest (writtenBy (storedBy (pick u (Passes (record { index = i })) (Fails End.WriteFault)) (m .buffer) (m .store) (m .marks)) n m) d
+    LentFor (totalOf (m .state .made .default)) (m .store) (m .marks) → Seated c i (suc n) (m .state) → locatedIn (m .state) ≡ goodAt i →
+    rest (writtenBy (storedBy (pick u (Passes (spotAt i)) (Fails End.WriteFault)) (m .buffer) (m .store) (m .marks)) n m) d
     ≡ storedThen v (suc n) i c (plainOf m) (m .buffer) d
 unfolding storedThen
 marked-rest true true n c i m d e h g l q w = absurd (true≢false e)

@@ -13,7 +13,7 @@ use Rattle.geometry.specs.declared.Address.{Address}
 use Rattle.geometry.specs.declared.Spot.{Spot}
 use Rattle.geometry.specs.declared.Located.{Located}
 use Rattle.geometry.specs.Limits.{capacityOf, currentFor}
-use Rattle.geometry.specs.Address.{byLba, headOf, cylinderOf, lbaOf, chsIndex, locateLba, locateChs, locate, roomOf, found, indexOf}
+use Rattle.geometry.specs.Address.{byLba, headOf, cylinderOf, lbaOf, chsIndex, locateLba, locateChs, locate, roomOf, found, indexOf, goodAt}
 use Rattle.ground.proofs.Every.{each}
 use Rattle.geometry.proofs.Limits.{current-room}
 
@@ -32,11 +32,11 @@ chs-less c h s g f =
     omega arith
 
 -- such an address is good, and a good one is such.
-pub chs-good : (c h s : ℕ) (g : Geometry) → Chs c h s g → locateChs c h s g ≡ Located.Good (record { index = chsIndex c h s g })
+pub chs-good : (c h s : ℕ) (g : Geometry) → Chs c h s g → locateChs c h s g ≡ goodAt (chsIndex c h s g)
 unfolding locateChs every
 chs-good c h s g f = rw (lt-ltb _ _ (f .0), le-leb _ _ (f .1), le-leb _ _ (f .2), lt-ltb _ _ (f .3))
 
-chosen : (t u : Bool) (i : ℕ) (p : Spot) → pick t (pick u (Located.Good (record { index = i })) Located.BadCylinder) Located.BadHeadOrSector ≡ Located.Good p →
+chosen : (t u : Bool) (i : ℕ) (p : Spot) → pick t (pick u (goodAt i) Located.BadCylinder) Located.BadHeadOrSector ≡ Located.Good p →
     (t ≡ true) × (u ≡ true) × (p .index ≡ i)
 chosen true true i p e = (refl, refl, sym (ap indexOf e))
 chosen true false i p e = absurd (false≢true (ap found e))
@@ -49,11 +49,11 @@ chs-facts c h s g p e =
     let t = each (ltb h (g .heads) ∷ leb 1 s ∷ leb s (g .sectors) ∷ []) (k .0) in
     ((ltb-true _ _ (t 0), leb-true _ _ (t 1), leb-true _ _ (t 2), ltb-true _ _ (k .1)), k .2)
 
-pub lba-good : (i n : ℕ) → i < n → locateLba i n ≡ Located.Good (record { index = i })
+pub lba-good : (i n : ℕ) → i < n → locateLba i n ≡ goodAt i
 unfolding locateLba
 lba-good i n h = rw (lt-ltb i n h)
 
-below : (t : Bool) (i : ℕ) (p : Spot) → pick t (Located.Good (record { index = i })) Located.BadLba ≡ Located.Good p → (t ≡ true) × (p .index ≡ i)
+below : (t : Bool) (i : ℕ) (p : Spot) → pick t (goodAt i) Located.BadLba ≡ Located.Good p → (t ≡ true) × (p .index ≡ i)
 below true i p e = (refl, sym (ap indexOf e))
 below false i p e = absurd (false≢true (ap found e))
 

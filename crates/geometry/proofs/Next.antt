@@ -13,7 +13,7 @@ use Rattle.geometry.specs.declared.Address.{Address}
 use Rattle.geometry.specs.declared.Spot.{Spot}
 use Rattle.geometry.specs.declared.Located.{Located}
 use Rattle.geometry.specs.Limits.{capacityOf, currentFor}
-use Rattle.geometry.specs.Address.{byLba, headOf, cylinderOf, lbaOf, chsIndex, locateLba, locateChs, locate, roomOf}
+use Rattle.geometry.specs.Address.{byLba, headOf, cylinderOf, lbaOf, chsIndex, locateLba, locateChs, locate, roomOf, goodAt}
 use Rattle.geometry.specs.Next.{atLba, atChs, nextChs, nextOf}
 use Rattle.geometry.specs.Codes.{locatedCode}
 use Rattle.geometry.proofs.Limits.{Small, current-small}
@@ -39,9 +39,9 @@ at-lba-located a g n i b x =
 
 -- what comes after index i, with room for m sectors.
 abbrev After : ℕ → ℕ → Located → Located
-After i m bad = pick (ltb (i + 1) m) (Located.Good (record { index = i + 1 })) bad
+After i m bad = pick (ltb (i + 1) m) (goodAt (i + 1)) bad
 
-landed : (i j m : ℕ) (bad : Located) → i + 1 ≡ j → j < m → Located.Good (record { index = j }) ≡ After i m bad
+landed : (i j m : ℕ) (bad : Located) → i + 1 ≡ j → j < m → goodAt j ≡ After i m bad
 landed i j m bad e l = rw (e, lt-ltb j m l)
 
 past : (i m : ℕ) (bad : Located) → m ≤ i + 1 → bad ≡ After i m bad
@@ -126,7 +126,7 @@ pub next-law : (a : Address) (g : Geometry) (n : ℕ) (p : Spot) →
     n ≤ 65535 →
     locate a g n ≡ Located.Good p →
     locate (nextOf a g) g n
-    ≡ pick (ltb (p .index + 1) (roomOf a g n)) (Located.Good (record { index = p .index + 1 })) (pick (byLba a) Located.BadLba Located.BadCylinder)
+    ≡ pick (ltb (p .index + 1) (roomOf a g n)) (goodAt (p .index + 1)) (pick (byLba a) Located.BadLba Located.BadCylinder)
 unfolding locate nextOf roomOf
 next-law a g n p c m e = next-by (byLba a) a g n p refl c m e
 

@@ -6,6 +6,7 @@ use lib.Dec.{ltb, leb, eqb}
 use Rattle.ground.specs.Choice.{pick, every}
 use Rattle.geometry.specs.declared.Geometry.{Geometry}
 use Rattle.geometry.specs.declared.Address.{Address}
+use Rattle.geometry.specs.declared.Spot.{Spot}
 use Rattle.geometry.specs.declared.Located.{Located}
 use Rattle.geometry.specs.declared.Sought.{Sought}
 use Rattle.geometry.specs.Limits.{capacityOf}
@@ -30,15 +31,22 @@ lbaOf a = headOf a * 16777216 + cylinderOf a * 256 + a .sector
 abbrev pub chsIndex : ℕ → ℕ → ℕ → Geometry → ℕ
 chsIndex c h s g = (c * g .heads + h) * g .sectors + s - 1
 
+-- a good address, and where its sector stands
+abbrev pub spotAt : ℕ → Spot
+spotAt i = record { index = i }
+
+abbrev pub goodAt : ℕ → Located
+goodAt i = Located.Good (spotAt i)
+
 -- LBA "below N", else 2FH.
 unfoldable pub locateLba : ℕ → ℕ → Located
-locateLba i n = pick (ltb i n) (Located.Good (record { index = i })) Located.BadLba
+locateLba i n = pick (ltb i n) (goodAt i) Located.BadLba
 
 -- "with c<C, h<H, s 1..S, all current. … Bad head or sector: code 21H. Otherwise bad cylinder or LBA: 2FH."
 unfoldable pub locateChs : ℕ → ℕ → ℕ → Geometry → Located
 locateChs c h s g =
     pick (every (ltb h (g .heads) ∷ leb 1 s ∷ leb s (g .sectors) ∷ []))
-    (pick (ltb c (g .cylinders)) (Located.Good (record { index = chsIndex c h s g })) Located.BadCylinder)
+    (pick (ltb c (g .cylinders)) (goodAt (chsIndex c h s g)) Located.BadCylinder)
     Located.BadHeadOrSector
 
 unfoldable pub locate : Address → Geometry → ℕ → Located

@@ -10,7 +10,7 @@ use lib.ListN.{length, take, set, getD}
 use borrow.Author.Tests.{ltb-false, ne-eqb}
 use Rattle.ground.specs.Choice.{pick}
 use Rattle.geometry.specs.declared.Located.{Located}
-use Rattle.geometry.specs.Address.{indexOf}
+use Rattle.geometry.specs.Address.{indexOf, spotAt, goodAt}
 use Rattle.geometry.specs.Limits.{totalOf}
 use Rattle.sectors.specs.Marks.{writable}
 use Rattle.registers.specs.declared.Load.{Load}
@@ -45,8 +45,8 @@ module _ (i : ℕ) (p : Plain) where
   past-lies false n order s b t k q = tt
 
   ask-by : (v : Bool) (n : ℕ) (order : Order) (c : Course) (h : ℕ) (s : State) (b t k q : List ℕ) → Written i p h 0 b t k q →
-      locatedIn s ≡ pick v (Located.Good (record { index = h })) (pastEnd c) →
-      Lies (From i) p (machine (askTested (testedOf (pick v (Located.Good (record { index = h })) (pastEnd c))) (suc n) order s) b t k) q
+      locatedIn s ≡ pick v (goodAt h) (pastEnd c) →
+      Lies (From i) p (machine (askTested (testedOf (pick v (goodAt h) (pastEnd c))) (suc n) order s) b t k) q
   ask-by true n order c h s b t k q z e = subst (λ (x : Located). Written i p (indexOf x) 0 b t k q) (sym e) z
   ask-by false n order c h s b t k q z e = past-lies (c .lba) (suc n) order s b t k q
 
@@ -57,7 +57,7 @@ module _ (i : ℕ) (p : Plain) where
   ask-lies n order c h s b t k q z w =
       subst (λ (l : Located). Lies (From i) p (machine (askTested (testedOf l) (suc n) order s) b t k) q) (sym w) (ask-by (ltb h (c .room)) n order c h s b t k q z w)
 
-  asked-lies : (n : ℕ) (c : Course) (h : ℕ) (s : State) (b t k q : List ℕ) → Shaped (s .made) (s .current) → courseIn s ≡ c → locatedIn s ≡ Located.Good (record { index = h }) →
+  asked-lies : (n : ℕ) (c : Course) (h : ℕ) (s : State) (b t k q : List ℕ) → Shaped (s .made) (s .current) → courseIn s ≡ c → locatedIn s ≡ goodAt h →
       Written i p (h + 1) 0 b t k q → Lies (From i) p (machine (nextAsked n s) b t k) q
   unfolding nextAsked
   asked-lies zero c h s b t k q g x e z = tt
@@ -66,8 +66,8 @@ module _ (i : ℕ) (p : Plain) where
       rw (done-on n s, ne-eqb (suc n) 0 (omega arith)) (ask-lies n Later c (h + 1) (onward (suc n) s) b t k q z (y .1))
 
   marked-lies : (u : Bool) (n h : ℕ) (m : Machine) (l : List ℕ) → h < totalOf (m .state .made .default) → length (m .buffer) ≡ 512 → Ground Out m →
-      locatedIn (m .state) ≡ Located.Good (record { index = h }) → Written i p h 256 (m .buffer) (m .store) (m .marks) l →
-      Lies (From i) p (writtenBy (storedBy (pick u (Passes (record { index = h })) (Fails End.WriteFault)) (m .buffer) (m .store) (m .marks)) n m) l
+      locatedIn (m .state) ≡ goodAt h → Written i p h 256 (m .buffer) (m .store) (m .marks) l →
+      Lies (From i) p (writtenBy (storedBy (pick u (Passes (spotAt h)) (Fails End.WriteFault)) (m .buffer) (m .store) (m .marks)) n m) l
   marked-lies true n h m l x f g e z =
       rw (stored-is (totalOf (m .state .made .default)) h (m .store) (m .marks) (m .buffer) x (g .1))
       (asked-lies n (courseIn (m .state)) h (m .state) (m .buffer) (putSector h (m .buffer) (m .store)) (set (m .marks) h 0) l (g .0) refl e
