@@ -5,8 +5,7 @@ use mathlib.Core.List.{List, [], _∷_, _++_}
 use native.Mathlib.Omega.{arith}
 use lib.ListN.{getD, replicate}
 use Rattle.geometry.specs.Limits.{totalOf}
-use Rattle.identify.specs.Words.{firstWord, laterWord, identifyWord, identifyByte, identifyBytes}
-use Rattle.identify.specs.Words
+use Rattle.identify.specs.Words.{identifyWord, identifyByte, identifyBytes}
 use Rattle.registers.specs.declared.State.{State}
 use Rattle.commands.specs.Table.{factsOf}
 use Rattle.account.specs.Plain.{Plain, sectorsOf}
@@ -16,7 +15,7 @@ use Rattle.account.specs.Claim.{AllBytes}
 use Rattle.ground.specs.Lists.{listed}
 
 pub identify-is : (s : State) (b t k : List ℕ) → totalOf (s .made .default) ≡ sectorsOf (s .made .default) → identifyBytes (factsOf s) ≡ identifyData (plainIn s b t k)
-unfolding listed firstWord laterWord identifyWord identifyByte identifyBytes Rattle.identify.specs.Words.blankWord bytesOf identifyWords
+unfolding listed identifyWord identifyByte identifyBytes bytesOf identifyWords
 identify-is s b t k e = rw e
 
 -- words of 16 bits give bytes

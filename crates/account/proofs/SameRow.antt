@@ -9,7 +9,7 @@ use Rattle.ground.specs.Choice.{pick}
 use Rattle.ground.proofs.Every.{and-left, and-right}
 use Rattle.commands.specs.declared.Command.{Command}
 use Rattle.commands.specs.declared.Command.the-variants.{Read, Write, Verify, Erase, Identify, ReadBuffer, WriteBuffer, SetGeometry, Diagnose, Recalibrate, Seek, Sense, Other}
-use Rattle.commands.specs.Table.{sectorlessCommand, commandOf}
+use Rattle.commands.specs.Table.{commandOf}
 use Rattle.account.specs.Rows.{Row, Reads, Writes, Verifies, Erases, Identifies, ReadsBuffer, WritesBuffer, SetsGeometry, Diagnoses, Recalibrates, Seeks, Senses, Others, rows, rowIn, rowOf}
 
 -- a command of the machine in the account's words
@@ -80,7 +80,7 @@ sixteen n v k l r e = rw (has-sixteen n v) (chosen (eqb (v / 16) n) k l r e)
 
 -- whatever the code, it is in the same row
 pub same-row : (v : ℕ) → rowOf v ≡ rowFor (commandOf v)
-unfolding rows rowIn commandOf sectorlessCommand
+unfolding rows rowIn commandOf
 same-row v =
     two 0x20 v Read _ _
     (two 0x30 v Write _ _

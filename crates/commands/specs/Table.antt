@@ -1,9 +1,11 @@
 -- 01, "Commands": the table.
-use Prim.Native.Nat.{ℕ, _/_}
+use Prim.Native.Nat.{ℕ}
 use mathlib.Core.Bool.{false}
+use mathlib.Core.List.{List, [], _∷_}
 use lib.Dec.{eqb}
 use Rattle.ground.specs.Choice.{pick}
 use Rattle.ground.specs.Left.{Left}
+use Rattle.ground.specs.Tables.{Entry, At, Digit, lookup}
 use Rattle.geometry.specs.declared.Sought.{Sought}
 use Rattle.geometry.specs.declared.Reshaped.{Reshaped}
 use Rattle.geometry.specs.Address.{seek}
@@ -23,30 +25,34 @@ use Rattle.transfers.specs.Ends.{ended}
 use Rattle.transfers.specs.Steps.{idleWith, ready, askedFor, readSector, askSector}
 use Rattle.commands.specs.Runs.{verifyFrom, eraseFrom}
 
--- the rows that name no sectors
-unfoldable pub sectorlessCommand : ℕ → Command
-sectorlessCommand opcode =
-    pick (eqb opcode 0xEC) Identify
-    (pick (eqb opcode 0xE4) ReadBuffer
-    (pick (eqb opcode 0xE8) WriteBuffer
-    (pick (eqb opcode 0x91) SetGeometry
-    (pick (eqb opcode 0x90) Diagnose
-    (pick (eqb (opcode / 16) 1) Recalibrate
-    (pick (eqb (opcode / 16) 7) Seek
-    (pick (eqb opcode 0x03) Sense
-    Other)))))))
+-- the rows that move sectors
+abbrev pub sectorRows : List (Entry Command)
+sectorRows =
+    At 0x20 Read
+    ∷ At 0x21 Read
+    ∷ At 0x30 Write
+    ∷ At 0x31 Write
+    ∷ At 0x40 Verify
+    ∷ At 0x41 Verify
+    ∷ At 0xC0 Erase
+    ∷ []
+
+-- the rows that move none
+abbrev pub sectorlessRows : List (Entry Command)
+sectorlessRows =
+    At 0xEC Identify
+    ∷ At 0xE4 ReadBuffer
+    ∷ At 0xE8 WriteBuffer
+    ∷ At 0x91 SetGeometry
+    ∷ At 0x90 Diagnose
+    ∷ Digit 1 Recalibrate
+    ∷ Digit 7 Seek
+    ∷ At 0x03 Sense
+    ∷ []
 
 -- the row of an opcode
 unfoldable pub commandOf : ℕ → Command
-commandOf opcode =
-    pick (eqb opcode 0x20) Read
-    (pick (eqb opcode 0x21) Read
-    (pick (eqb opcode 0x30) Write
-    (pick (eqb opcode 0x31) Write
-    (pick (eqb opcode 0x40) Verify
-    (pick (eqb opcode 0x41) Verify
-    (pick (eqb opcode 0xC0) Erase
-    (sectorlessCommand opcode)))))))
+commandOf opcode = lookup sectorRows opcode (lookup sectorlessRows opcode Other)
 
 -- "Every command but 03H starts with Error and code 0."
 abbrev pub started : State → State

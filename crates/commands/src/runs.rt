@@ -15,17 +15,17 @@ pub(crate) fn verify(state: State, count: u16, marks: &[u8]) -> Core
     let mut s = state;
     let mut n = count;
     while 0 < n {
-        match transfers::sector_test(s, Way::In, marks) {
+        match transfers::before::sector_test(s, Way::In, marks) {
             Tested::Passes(_) => {
                 n -= 1;
-                s = transfers::sector_done(s, n);
+                s = transfers::steps::sector_done(s, n);
             }
             Tested::Fails(end) => {
-                return transfers::ended(s, end);
+                return transfers::ends::ended(s, end);
             }
         }
     }
-    transfers::ended(s, End::Good)
+    transfers::ends::ended(s, End::Good)
 }
 
 // C0H.
@@ -36,15 +36,15 @@ pub(crate) fn erase(state: State, count: u16, store: &mut [u8], marks: &mut [u8]
     let mut s = state;
     let mut n = count;
     while 0 < n {
-        match transfers::sector_stored(s, &bytes, store, marks) {
+        match transfers::before::sector_stored(s, &bytes, store, marks) {
             Tested::Passes(_) => {
                 n -= 1;
-                s = transfers::sector_done(s, n);
+                s = transfers::steps::sector_done(s, n);
             }
             Tested::Fails(end) => {
-                return transfers::ended(s, end);
+                return transfers::ends::ended(s, end);
             }
         }
     }
-    transfers::ended(s, End::Good)
+    transfers::ends::ended(s, End::Good)
 }

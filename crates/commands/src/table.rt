@@ -10,14 +10,16 @@ use registers::State;
 use transfers::End;
 use transfers::Order;
 ghost use mathlib.Core.Path.{_≡_};
+ghost use Rattle.ground.specs.Tables.{lookup};
 ghost use Rattle.identify.specs.Words.{identifyBytes};
 ghost use Rattle.registers.specs.Machine.{machine};
 ghost use Rattle.transfers.specs.Steps.{idle};
-ghost use Rattle.commands.specs.Table.{sectorlessCommand, commandOf, started, countOf, factsOf, geometryEnded, diagnosed, soughtEnd, seekEnded, senseEnded, obeyed, commandGiven};
+ghost use Rattle.commands.specs.declared.Command.the-variants.{Other};
+ghost use Rattle.commands.specs.Table.{sectorlessRows, commandOf, started, countOf, factsOf, geometryEnded, diagnosed, soughtEnd, seekEnded, senseEnded, obeyed, commandGiven};
 
-// The rows that name no sectors.
+// The rows that move no sectors.
 fn sectorless_command(opcode: u8) -> Command
-    ensures { λ r. ⌜ r ≡ sectorlessCommand opcode ⌝ }
+    ensures { λ r. ⌜ r ≡ lookup sectorlessRows opcode Other ⌝ }
 {
     if opcode == 0xEC {
         return Command::Identify;
@@ -120,9 +122,9 @@ fn set_geometry(state: State) -> Core
         Reshaped::Taken(geometry) => {
             let mut s = state;
             s.current = geometry;
-            transfers::ended(s, End::Good)
+            transfers::ends::ended(s, End::Good)
         }
-        Reshaped::Refused => transfers::ended(state, End::BadGeometry),
+        Reshaped::Refused => transfers::ends::ended(state, End::BadGeometry),
     }
 }
 
@@ -163,7 +165,7 @@ fn seek(state: State) -> Core
     let registers = state.registers;
     let address = registers.address;
     let sought = address.seek(state.current, state.total());
-    transfers::ended(state, sought_end(sought))
+    transfers::ends::ended(state, sought_end(sought))
 }
 
 // 03H: Error is the last code, which stays.
@@ -173,7 +175,7 @@ fn sense(state: State) -> Core
     let mut s = state;
     let code = state.code;
     s.registers.error = code;
-    transfers::ended(s, End::Good)
+    transfers::ends::ended(s, End::Good)
 }
 
 // What a command does.
@@ -188,22 +190,28 @@ fn obey(
 {
     let fresh = started(state);
     match command {
-        Command::Read => transfers::read_sector(fresh, count_of(fresh), buffer, store, marks),
-        Command::Write => transfers::ask_sector(fresh, count_of(fresh), Order::First),
+        Command::Read => transfers::steps::read_sector(
+            fresh,
+            count_of(fresh),
+            buffer,
+            store,
+            marks,
+        ),
+        Command::Write => transfers::steps::ask_sector(fresh, count_of(fresh), Order::First),
         Command::Verify => super::runs::verify(fresh, count_of(fresh), marks),
         Command::Erase => super::runs::erase(fresh, count_of(fresh), store, marks),
         Command::Identify => {
             identify(fresh, buffer);
-            transfers::ready(fresh, Load::Buffer)
+            transfers::steps::ready(fresh, Load::Buffer)
         }
-        Command::ReadBuffer => transfers::ready(fresh, Load::Buffer),
-        Command::WriteBuffer => transfers::asked_for(fresh, Load::Buffer, Order::First),
+        Command::ReadBuffer => transfers::steps::ready(fresh, Load::Buffer),
+        Command::WriteBuffer => transfers::steps::asked_for(fresh, Load::Buffer, Order::First),
         Command::SetGeometry => set_geometry(fresh),
-        Command::Diagnose => transfers::ended(diagnosed(fresh), End::Good),
-        Command::Recalibrate => transfers::ended(fresh, End::Good),
+        Command::Diagnose => transfers::ends::ended(diagnosed(fresh), End::Good),
+        Command::Recalibrate => transfers::ends::ended(fresh, End::Good),
         Command::Seek => seek(fresh),
         Command::Sense => sense(state),
-        Command::Other => transfers::ended(fresh, End::NoSuchCommand),
+        Command::Other => transfers::ends::ended(fresh, End::NoSuchCommand),
     }
 }
 

@@ -24,7 +24,7 @@ use Rattle.transfers.specs.Before.{addressTest, sectorTest, sectorStored}
 use Rattle.transfers.specs.Steps.{sectorDone, readSector, nextRead, askSector, nextAsked}
 use Rattle.port.specs.Halves.{takeOf}
 use Rattle.port.specs.Data.{wordRead, dataRead, wordWritten, dataWritten}
-use Rattle.commands.specs.Table.{sectorlessCommand, commandOf, countOf, commandGiven}
+use Rattle.commands.specs.Table.{commandOf, countOf, commandGiven}
 use Rattle.card.specs.Access.{Access, heldAway, decided, verdictOf, meaning}
 use Rattle.card.specs.Perform.{optionWritten, plainCore, registerWritten, perform}
 use Rattle.card.specs.Step.{step, play}
@@ -76,7 +76,7 @@ computed :
     × (getD bufferAfter 1 0 ≡ 0x22)
     × (getD bufferAfter 510 0 ≡ 0x33)
     × (getD bufferAfter 511 0 ≡ 0x44)
-unfolding moves typed bytes twoSectors card writeAccess times commandE8 two-maps bufferAfter play step meaning verdictOf decided heldAway answersAt cardAnswers standsAt attributeAt optionAt aboveThree tupleAt byteAt misfits registerAt placeAt portAt namedAt evenData offsetAt memoryAt ioAt windowAt within wellMade runFits loadFits sectorsFit wordsFit holdFits heldIn statusFits atRest sresetFits indexFits every fits totalOf currentFor locate locateChs locateLba byLba nextOf nextChs perform optionWritten registerWritten plainCore valueRead afterRead registerSet turnOf optionTurned bufferTurned controlTurned dataRead dataWritten wordRead wordWritten takeOf readSector nextRead askSector nextAsked sectorDone sectorTest addressTest sectorStored stored withSector sectorOf bufferRead readable writable marksFit countOf commandOf sectorlessCommand commandGiven opened zeros
+unfolding moves typed bytes twoSectors card writeAccess times commandE8 two-maps bufferAfter play step meaning verdictOf decided heldAway answersAt cardAnswers standsAt attributeAt optionAt aboveThree tupleAt byteAt misfits registerAt placeAt portAt namedAt evenData offsetAt memoryAt ioAt windowAt within wellMade runFits loadFits sectorsFit wordsFit holdFits heldIn statusFits atRest sresetFits indexFits every fits totalOf currentFor locate locateChs locateLba byLba nextOf nextChs perform optionWritten registerWritten plainCore valueRead afterRead registerSet turnOf optionTurned bufferTurned controlTurned dataRead dataWritten wordRead wordWritten takeOf readSector nextRead askSector nextAsked sectorDone sectorTest addressTest sectorStored stored withSector sectorOf bufferRead readable writable marksFit countOf commandOf commandGiven opened zeros
 computed = (refl, refl, refl, refl, refl, refl, refl, refl)
 
 pub two-maps-agree : Agrees (account (rowOf 0xE8) (plainOf card)) (hosted (wayOf (rowOf 0xE8)) (step card commandE8 .next) noNotes two-maps)
@@ -104,7 +104,7 @@ faulted :
     × (cardAfter .state .registers .count ≡ 1)
     × (getD (cardAfter .store) 511 0 ≡ 0x44)
     × (getD (cardAfter .store) 512 0 ≡ 0)
-unfolding moves typed bytes twoSectors card writeAccess play times cardAtLba0 command30 allWords cardAfter step meaning verdictOf decided heldAway answersAt cardAnswers standsAt attributeAt optionAt aboveThree tupleAt byteAt misfits registerAt placeAt portAt namedAt evenData offsetAt memoryAt ioAt windowAt within wellMade runFits loadFits sectorsFit wordsFit holdFits heldIn statusFits atRest sresetFits indexFits every fits totalOf currentFor locate locateChs locateLba byLba nextOf nextChs perform optionWritten registerWritten plainCore valueRead afterRead registerSet turnOf optionTurned bufferTurned controlTurned dataRead dataWritten wordRead wordWritten takeOf readSector nextRead askSector nextAsked sectorDone sectorTest addressTest sectorStored stored withSector sectorOf bufferRead readable writable marksFit countOf commandOf sectorlessCommand commandGiven opened zeros
+unfolding moves typed bytes twoSectors card writeAccess play times cardAtLba0 command30 allWords cardAfter step meaning verdictOf decided heldAway answersAt cardAnswers standsAt attributeAt optionAt aboveThree tupleAt byteAt misfits registerAt placeAt portAt namedAt evenData offsetAt memoryAt ioAt windowAt within wellMade runFits loadFits sectorsFit wordsFit holdFits heldIn statusFits atRest sresetFits indexFits every fits totalOf currentFor locate locateChs locateLba byLba nextOf nextChs perform optionWritten registerWritten plainCore valueRead afterRead registerSet turnOf optionTurned bufferTurned controlTurned dataRead dataWritten wordRead wordWritten takeOf readSector nextRead askSector nextAsked sectorDone sectorTest addressTest sectorStored stored withSector sectorOf bufferRead readable writable marksFit countOf commandOf commandGiven opened zeros
 faulted = (refl, refl, refl, refl, refl, refl, refl, refl)
 
 pub fault-agrees : Agrees (account (rowOf 0x30) (plainOf cardAtLba0)) (hosted (wayOf (rowOf 0x30)) (step cardAtLba0 command30 .next) noNotes allWords)

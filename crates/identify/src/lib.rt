@@ -1,8 +1,11 @@
 // Identify: 256 words from the default and the current geometry.
 use geometry::Geometry;
 ghost use mathlib.Core.Path.{_≡_};
+ghost use mathlib.Core.Bool.{_&&_};
+ghost use lib.Dec.{leb};
+ghost use Rattle.ground.specs.Tables.{lookup};
 ghost use Rattle.geometry.specs.Limits.{totalOf, capacityOf};
-ghost use Rattle.identify.specs.Words.{lowHalf, highHalf, blankWord, firstWord, laterWord, identifyWord, identifyByte, identifyBytes};
+ghost use Rattle.identify.specs.Words.{lowHalf, highHalf, blankWords, laterWords, identifyWord, identifyByte, identifyBytes};
 
 // What Identify tells.
 pub struct Facts {
@@ -22,19 +25,14 @@ fn high_half(n: usize) -> u16
     (n / 65536 % 65536) as u16
 }
 
-fn blank_word(n: usize) -> bool
-    ensures { λ r. ⌜ r ≡ blankWord n ⌝ }
+// Whether n is from first to last.
+fn within(n: usize, first: usize, last: usize) -> bool
+    ensures { λ r. ⌜ r ≡ (leb first n && leb n last) ⌝ }
 {
-    if n < 10 {
+    if n < first {
         return false;
     }
-    if n <= 19 {
-        return true;
-    }
-    if n < 23 {
-        return false;
-    }
-    n <= 46
+    n <= last
 }
 
 impl Facts {
@@ -54,38 +52,9 @@ impl Facts {
         current.capacity()
     }
 
-    // Words 0 to 48.
-    fn first_word(self, n: usize) -> u16
-        ensures { λ r. ⌜ r ≡ firstWord self n ⌝ }
-    {
-        let default = self.default;
-        if n == 0 {
-            return 0x848A;
-        }
-        if n == 1 {
-            return default.cylinders;
-        }
-        if n == 3 {
-            return default.heads;
-        }
-        if n == 6 {
-            return default.sectors;
-        }
-        if n == 7 {
-            return high_half(self.total());
-        }
-        if n == 8 {
-            return low_half(self.total());
-        }
-        if blank_word(n) {
-            return 0x2020;
-        }
-        0
-    }
-
     // The words from 49 on.
     fn later_word(self, n: usize) -> u16
-        ensures { λ r. ⌜ r ≡ laterWord self n ⌝ }
+        ensures { λ r. ⌜ r ≡ lookup (laterWords self) n 0 ⌝ }
     {
         let current = self.current;
         if n == 49 {
@@ -118,14 +87,46 @@ impl Facts {
         0
     }
 
+    // The words from 10 on.
+    fn blank_word(self, n: usize) -> u16
+        ensures { λ r. ⌜ r ≡ lookup blankWords n (lookup (laterWords self) n 0) ⌝ }
+    {
+        if within(n, 10, 19) {
+            return 0x2020;
+        }
+        if within(n, 23, 26) {
+            return 0x2020;
+        }
+        if within(n, 27, 46) {
+            return 0x2020;
+        }
+        self.later_word(n)
+    }
+
     // Word n.
     fn word(self, n: usize) -> u16
         ensures { λ r. ⌜ r ≡ identifyWord self n ⌝ }
     {
-        if n < 49 {
-            return self.first_word(n);
+        let default = self.default;
+        if n == 0 {
+            return 0x848A;
         }
-        self.later_word(n)
+        if n == 1 {
+            return default.cylinders;
+        }
+        if n == 3 {
+            return default.heads;
+        }
+        if n == 6 {
+            return default.sectors;
+        }
+        if n == 7 {
+            return high_half(self.total());
+        }
+        if n == 8 {
+            return low_half(self.total());
+        }
+        self.blank_word(n)
     }
 
     // Byte i of the 512, low half first.

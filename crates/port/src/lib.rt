@@ -153,7 +153,7 @@ fn word_read(
         };
     }
     let load = transfer.load;
-    transfers::load_read(state, load, buffer, store, marks)
+    transfers::steps::load_read(state, load, buffer, store, marks)
 }
 
 // A part has gone: the word is whole, or begun.
@@ -277,7 +277,7 @@ fn word_written(
         };
     }
     let load = transfer.load;
-    transfers::load_written(state, load, buffer, store, marks)
+    transfers::steps::load_written(state, load, buffer, store, marks)
 }
 
 // A part has come: the word is whole, or begun.

@@ -10,7 +10,7 @@ use Rattle.maps.specs.Places.{misfits, byteAt, tupleAt, aboveThree, optionAt, a
 use Rattle.maps.specs.Maps.{standsAt}
 use Rattle.sectors.specs.Marks.{readable, writable, marksFit}
 use Rattle.sectors.specs.Sectors.{sectorOf, withSector, bufferRead, stored}
-use Rattle.identify.specs.Words.{blankWord, firstWord, laterWord, identifyWord, identifyByte, identifyBytes}
+use Rattle.identify.specs.Words.{identifyWord, identifyByte, identifyBytes}
 use Rattle.registers.specs.WellMade.{indexFits, sresetFits, atRest, statusFits, heldIn, holdFits, wordsFit, sectorsFit, loadFits, runFits, wellMade}
 use Rattle.registers.specs.Resets.{turnOf, optionTurned, bufferTurned, controlTurned}
 use Rattle.registers.specs.Values.{valueRead, afterRead, registerSet}
@@ -19,7 +19,7 @@ use Rattle.transfers.specs.Steps.{sectorDone, readSector, nextRead, askSector, 
 use Rattle.commands.specs.Runs.{verifyFrom, eraseFrom, allFF}
 use Rattle.port.specs.Halves.{takeOf}
 use Rattle.port.specs.Data.{wordRead, dataRead, wordWritten, dataWritten}
-use Rattle.commands.specs.Table.{sectorlessCommand, commandOf, countOf, commandGiven}
+use Rattle.commands.specs.Table.{commandOf, countOf, commandGiven}
 use Rattle.card.specs.Access.{heldAway, decided, verdictOf, meaning}
 use Rattle.card.specs.Perform.{optionWritten, plainCore, registerWritten, perform}
 use Rattle.card.specs.Step.{step}
@@ -58,11 +58,11 @@ unfolding readSector nextRead askSector nextAsked sectorDone sectorTest addressT
 of-transfers = tt
 
 of-commands : Unit {0}
-unfolding countOf commandOf sectorlessCommand commandGiven verifyFrom eraseFrom allFF
+unfolding countOf commandOf commandGiven verifyFrom eraseFrom allFF
 of-commands = tt
 
 of-identify : Unit {0}
-unfolding identifyBytes identifyByte identifyWord firstWord laterWord blankWord
+unfolding identifyBytes identifyByte identifyWord
 of-identify = tt
 
 of-port : Unit {0}

@@ -1,42 +1,32 @@
 use Rattle.ground.proofs.Tests.{tests}
-use Rattle.commands.specs.Table.{sectorlessCommand}
 use Rattle.commands.proofs.table.sectorless_command.Statement.{statement}
 use Rattle.commands.proofs.table.sectorless_command.Tie as tie
 
 returns : tie.Need-returns
-unfolding sectorlessCommand
 returns c = search tests
 
 returns-2 : tie.Need-returns-2
-unfolding sectorlessCommand
 returns-2 c = search tests
 
 returns-3 : tie.Need-returns-3
-unfolding sectorlessCommand
 returns-3 c = search tests
 
 returns-4 : tie.Need-returns-4
-unfolding sectorlessCommand
 returns-4 c = search tests
 
 returns-5 : tie.Need-returns-5
-unfolding sectorlessCommand
 returns-5 c = search tests
 
 returns-6 : tie.Need-returns-6
-unfolding sectorlessCommand
 returns-6 c = search tests
 
 returns-7 : tie.Need-returns-7
-unfolding sectorlessCommand
 returns-7 c = search tests
 
 returns-8 : tie.Need-returns-8
-unfolding sectorlessCommand
 returns-8 c = search tests
 
 returns-9 : tie.Need-returns-9
-unfolding sectorlessCommand
 returns-9 c = search tests
 
 pub sectorless-command-spec : {M : Type 1} → statement M

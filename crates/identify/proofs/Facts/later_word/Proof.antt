@@ -1,27 +1,21 @@
 use Rattle.ground.proofs.Tests.{tests}
-use Rattle.identify.specs.Words.{laterWord}
 use borrow.Author.Needs.{needs}
 use Rattle.identify.proofs.Facts.later_word.Statement.{statement}
 use Rattle.identify.proofs.Facts.later_word.Tie as tie
 
 returns : tie.Need-returns
-unfolding laterWord
 returns c = search tests
 
 returns-2 : tie.Need-returns-2
-unfolding laterWord
 returns-2 c = search tests
 
 returns-3 : tie.Need-returns-3
-unfolding laterWord
 returns-3 c = search tests
 
 returns-4 : tie.Need-returns-4
-unfolding laterWord
 returns-4 c = search tests
 
 returns-5 : tie.Need-returns-5
-unfolding laterWord
 returns-5 c = search tests
 
 capacity-requires : tie.Need-capacity-requires
@@ -31,7 +25,6 @@ low-half-requires : tie.Need-low-half-requires
 low-half-requires c κs = search needs
 
 returns-6 : tie.Need-returns-6
-unfolding laterWord
 returns-6 c = search (tests, c .low-half .ensures, c .before .capacity .ensures)
 
 capacity-requires-2 : tie.Need-capacity-requires-2
@@ -41,7 +34,6 @@ high-half-requires : tie.Need-high-half-requires
 high-half-requires c κs = search needs
 
 returns-7 : tie.Need-returns-7
-unfolding laterWord
 returns-7 c = search (tests, c .high-half .ensures, c .before .capacity2 .ensures)
 
 total-requires : tie.Need-total-requires
@@ -51,7 +43,6 @@ low-half-requires-2 : tie.Need-low-half-requires-2
 low-half-requires-2 c κs = search needs
 
 returns-8 : tie.Need-returns-8
-unfolding laterWord
 returns-8 c = search (tests, c .low-half2 .ensures, c .before .total .ensures)
 
 total-requires-2 : tie.Need-total-requires-2
@@ -61,11 +52,9 @@ high-half-requires-2 : tie.Need-high-half-requires-2
 high-half-requires-2 c κs = search needs
 
 returns-9 : tie.Need-returns-9
-unfolding laterWord
 returns-9 c = search (tests, c .high-half2 .ensures, c .before .total2 .ensures)
 
 returns-10 : tie.Need-returns-10
-unfolding laterWord
 returns-10 c = search tests
 
 pub later-word-spec : {M : Type 1} → statement M

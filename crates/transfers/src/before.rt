@@ -1,0 +1,69 @@
+// The tests before a sector, and its storing.
+use super::End;
+use super::Tested;
+use super::Way;
+use geometry::Located;
+use registers::State;
+ghost use mathlib.Core.Path.{_≡_};
+ghost use Rattle.ground.specs.Left.{left};
+ghost use Rattle.transfers.specs.Before.{addressTest, allows, markEnd, sectorTest, sectorStored};
+
+pub(crate) fn address_test(state: State) -> Tested
+    ensures { λ r. ⌜ r ≡ addressTest state ⌝ }
+{
+    match state.located() {
+        Located::Good(spot) => Tested::Passes(spot),
+        Located::BadHeadOrSector => Tested::Fails(End::BadHeadOrSector),
+        Located::BadCylinder => Tested::Fails(End::BadCylinder),
+        Located::BadLba => Tested::Fails(End::BadLba),
+    }
+}
+
+// Whether the mark lets the sector be read or verified, or be stored.
+fn allows(way: Way, mark: u8) -> bool
+    ensures { λ r. ⌜ r ≡ allows way mark ⌝ }
+{
+    match way {
+        Way::In => sectors::readable(mark),
+        Way::Out => sectors::writable(mark),
+    }
+}
+
+fn mark_end(way: Way) -> End
+    ensures { λ r. ⌜ r ≡ markEnd way ⌝ }
+{
+    match way {
+        Way::In => End::Unreadable,
+        Way::Out => End::WriteFault,
+    }
+}
+
+// Of a sector to be read or verified, or to be stored.
+pub fn sector_test(state: State, way: Way, marks: &[u8]) -> Tested
+    ensures { λ r. ⌜ r ≡ sectorTest way state (now (marks .entry)) ⌝ }
+{
+    match address_test(state) {
+        Tested::Passes(spot) => {
+            let i = spot.index;
+            if allows(way, ground::byte_or_zero(marks, i)) {
+                return Tested::Passes(spot);
+            }
+            Tested::Fails(mark_end(way))
+        }
+        Tested::Fails(end) => Tested::Fails(end),
+    }
+}
+
+// The sector is stored and its mark cleared, unless a test fails: for a write and for Erase.
+pub fn sector_stored(state: State, bytes: &[u8; 512], store: &mut [u8], marks: &mut [u8]) -> Tested
+    ensures { λ r. ⌜ left r (now (store .exit)) (now (marks .exit)) ≡ sectorStored state (now (bytes .entry)) (now (store .entry)) (now (marks .entry)) ⌝ }
+{
+    match sector_test(state, Way::Out, marks) {
+        Tested::Passes(spot) => {
+            let i = spot.index;
+            sectors::store_sector(store, marks, i, bytes);
+            Tested::Passes(spot)
+        }
+        Tested::Fails(end) => Tested::Fails(end),
+    }
+}

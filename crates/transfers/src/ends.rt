@@ -1,0 +1,85 @@
+// How a command ends.
+use super::End;
+use registers::Core;
+use registers::Phase;
+use registers::State;
+ghost use mathlib.Core.Path.{_≡_};
+ghost use Rattle.transfers.specs.Ends.{endStatus, endError, endCode, ended, readingEnded};
+
+impl End {
+    fn status(self) -> u8
+        ensures { λ r. ⌜ r ≡ endStatus self ⌝ }
+    {
+        match self {
+            End::Good => registers::IDLE_STATUS,
+            End::BadHeadOrSector => registers::ERROR_STATUS,
+            End::BadCylinder => registers::ERROR_STATUS,
+            End::BadLba => registers::ERROR_STATUS,
+            End::Unreadable => registers::ERROR_STATUS,
+            End::WriteFault => registers::FAULT_STATUS,
+            End::BadGeometry => registers::ERROR_STATUS,
+            End::NoSuchCommand => registers::ERROR_STATUS,
+        }
+    }
+
+    fn error(self, error: u8) -> u8
+        ensures { λ r. ⌜ r ≡ endError self error ⌝ }
+    {
+        match self {
+            End::Good => error,
+            End::BadHeadOrSector => registers::IDNF,
+            End::BadCylinder => registers::IDNF,
+            End::BadLba => registers::IDNF,
+            End::Unreadable => registers::UNC,
+            End::WriteFault => registers::ABRT,
+            End::BadGeometry => registers::ABRT,
+            End::NoSuchCommand => registers::ABRT,
+        }
+    }
+
+    fn code(self, code: u8) -> u8
+        ensures { λ r. ⌜ r ≡ endCode self code ⌝ }
+    {
+        match self {
+            End::Good => code,
+            End::BadHeadOrSector => 0x21,
+            End::BadCylinder => 0x2F,
+            End::BadLba => 0x2F,
+            End::Unreadable => 0x11,
+            End::WriteFault => 0x03,
+            End::BadGeometry => 0x21,
+            End::NoSuchCommand => 0x20,
+        }
+    }
+}
+
+// A command ends, and the interrupt mark is set.
+pub fn ended(state: State, end: End) -> Core
+    ensures { λ r. ⌜ r ≡ ended end state ⌝ }
+{
+    let registers = state.registers;
+    let status = end.status();
+    let error = end.error(registers.error);
+    let code = end.code(state.code);
+    let mut s = state;
+    s.registers.status = status;
+    s.registers.error = error;
+    s.code = code;
+    s.interrupt = true;
+    Core {
+        phase: Phase::Idle,
+        state: s,
+    }
+}
+
+// A good end of reading data leaves the interrupt mark.
+pub(crate) fn reading_ended(state: State) -> Core
+    ensures { λ r. ⌜ r ≡ readingEnded state ⌝ }
+{
+    let mut s = state;
+    s.registers.status = registers::IDLE_STATUS;
+    Core {
+        phase: Phase::Idle,
+        state: s,
+    }
+}

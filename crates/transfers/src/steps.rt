@@ -1,0 +1,185 @@
+// A transfer's start, and what the last byte of a sector does.
+use super::End;
+use super::Order;
+use super::Tested;
+use super::Way;
+use registers::Core;
+use registers::Half;
+use registers::Load;
+use registers::Phase;
+use registers::State;
+use registers::Transfer;
+ghost use mathlib.Core.Path.{_≡_};
+ghost use Prim.Native.Nat.{_-_};
+ghost use Rattle.registers.specs.Machine.{machine};
+ghost use Rattle.transfers.specs.Steps.{idle, newTransfer, ready, interruptAsked, askedFor, sectorDone, readSector, nextRead, loadRead, askSector, nextAsked, loadWritten};
+
+// ---- a transfer's start, and the sector after this one
+
+fn new_transfer(load: Load) -> Transfer
+    ensures { λ r. ⌜ r ≡ newTransfer load ⌝ }
+{
+    Transfer {
+        load: load,
+        half: Half::Nothing,
+        words: 0,
+    }
+}
+
+// A sector or the buffer is ready to be read.
+pub fn ready(state: State, load: Load) -> Core
+    ensures { λ r. ⌜ r ≡ ready load state ⌝ }
+{
+    let transfer = new_transfer(load);
+    let mut s = state;
+    s.registers.status = registers::DATA_STATUS;
+    s.interrupt = true;
+    Core {
+        phase: Phase::DataIn(transfer),
+        state: s,
+    }
+}
+
+fn interrupt_asked(order: Order, interrupt: bool) -> bool
+    ensures { λ r. ⌜ r ≡ interruptAsked order interrupt ⌝ }
+{
+    match order {
+        Order::First => interrupt,
+        Order::Later => true,
+    }
+}
+
+// A sector or the buffer is asked for.
+pub fn asked_for(state: State, load: Load, order: Order) -> Core
+    ensures { λ r. ⌜ r ≡ askedFor load order state ⌝ }
+{
+    let transfer = new_transfer(load);
+    let interrupt = interrupt_asked(order, state.interrupt);
+    let mut s = state;
+    s.registers.status = registers::DATA_STATUS;
+    s.interrupt = interrupt;
+    Core {
+        phase: Phase::DataOut(transfer),
+        state: s,
+    }
+}
+
+// A sector is done, and `left` are still to do.
+pub fn sector_done(state: State, left: u16) -> State
+    ensures { λ r. ⌜ r ≡ sectorDone left state ⌝ }
+{
+    let mut registers = state.registers;
+    let mut s = state;
+    if left == 0 {
+        registers.count = 0;
+        s.registers = registers;
+        return s;
+    }
+    let address = registers.address;
+    let current = state.current;
+    let next = address.next(current);
+    let count = (left % 256) as u8;
+    registers.address = next;
+    registers.count = count;
+    s.registers = registers;
+    s
+}
+
+// 0 left, which no well-made card has, counts as none more (D132).
+fn less_one(left: u16) -> u16
+    ensures { λ r. ⌜ r ≡ left - 1 ⌝ }
+{
+    if left == 0 {
+        return 0;
+    }
+    left - 1
+}
+
+// ---- reading
+
+// A sector is to be read: its tests, then its bytes come into the buffer.
+pub fn read_sector(
+    state: State,
+    left: u16,
+    buffer: &mut [u8; 512],
+    store: &[u8],
+    marks: &[u8],
+) -> Core
+    ensures { λ r. ⌜ machine r (now (buffer .exit)) (now (store .entry)) (now (marks .entry)) ≡ readSector left (idle state (now (buffer .entry)) (now (store .entry)) (now (marks .entry))) ⌝ }
+{
+    match super::before::sector_test(state, Way::In, marks) {
+        Tested::Passes(spot) => {
+            let i = spot.index;
+            sectors::fetch_sector(store, i, buffer);
+            ready(state, Load::Sectors(left))
+        }
+        Tested::Fails(end) => super::ends::ended(state, end),
+    }
+}
+
+fn next_read(state: State, left: u16, buffer: &mut [u8; 512], store: &[u8], marks: &[u8]) -> Core
+    ensures { λ r. ⌜ machine r (now (buffer .exit)) (now (store .entry)) (now (marks .entry)) ≡ nextRead left (idle state (now (buffer .entry)) (now (store .entry)) (now (marks .entry))) ⌝ }
+{
+    let next = sector_done(state, left);
+    if left == 0 {
+        return super::ends::reading_ended(next);
+    }
+    read_sector(next, left, buffer, store, marks)
+}
+
+// The last byte of a sector or of the buffer has gone.
+pub fn load_read(
+    state: State,
+    load: Load,
+    buffer: &mut [u8; 512],
+    store: &[u8],
+    marks: &[u8],
+) -> Core
+    ensures { λ r. ⌜ machine r (now (buffer .exit)) (now (store .entry)) (now (marks .entry)) ≡ loadRead load (idle state (now (buffer .entry)) (now (store .entry)) (now (marks .entry))) ⌝ }
+{
+    match load {
+        Load::Buffer => super::ends::reading_ended(state),
+        Load::Sectors(left) => next_read(state, less_one(left), buffer, store, marks),
+    }
+}
+
+// ---- writing
+
+// A sector is asked for, or its address fails.
+pub fn ask_sector(state: State, left: u16, order: Order) -> Core
+    ensures { λ r. ⌜ r ≡ askSector left order state ⌝ }
+{
+    match super::before::address_test(state) {
+        Tested::Passes(_) => asked_for(state, Load::Sectors(left), order),
+        Tested::Fails(end) => super::ends::ended(state, end),
+    }
+}
+
+fn next_asked(state: State, left: u16) -> Core
+    ensures { λ r. ⌜ r ≡ nextAsked left state ⌝ }
+{
+    let next = sector_done(state, left);
+    if left == 0 {
+        return super::ends::ended(next, End::Good);
+    }
+    ask_sector(next, left, Order::Later)
+}
+
+// The last byte of a sector or of the buffer has come: the sector is stored, and the next is asked for.
+pub fn load_written(
+    state: State,
+    load: Load,
+    buffer: &[u8; 512],
+    store: &mut [u8],
+    marks: &mut [u8],
+) -> Core
+    ensures { λ r. ⌜ machine r (now (buffer .entry)) (now (store .exit)) (now (marks .exit)) ≡ loadWritten load (idle state (now (buffer .entry)) (now (store .entry)) (now (marks .entry))) ⌝ }
+{
+    match load {
+        Load::Buffer => super::ends::ended(state, End::Good),
+        Load::Sectors(left) => match super::before::sector_stored(state, buffer, store, marks) {
+            Tested::Passes(_) => next_asked(state, less_one(left)),
+            Tested::Fails(end) => super::ends::ended(state, end),
+        },
+    }
+}
