@@ -108,6 +108,9 @@ impl Facts {
         ensures { λ r. ⌜ r ≡ identifyWord self n ⌝ }
     {
         let default = self.default;
+        if 61 < n {
+            return 0;
+        }
         if n == 0 {
             return 0x848A;
         }

@@ -76,10 +76,8 @@ pub fn ended(state: State, end: End) -> Core
 pub(crate) fn reading_ended(state: State) -> Core
     ensures { λ r. ⌜ r ≡ readingEnded state ⌝ }
 {
-    let mut s = state;
-    s.registers.status = registers::IDLE_STATUS;
-    Core {
-        phase: Phase::Idle,
-        state: s,
-    }
+    let interrupt = state.interrupt;
+    let mut core = ended(state, End::Good);
+    core.state.interrupt = interrupt;
+    core
 }
