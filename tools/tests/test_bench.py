@@ -1,5 +1,4 @@
 """bench/: its sessions, its straight-line check, its plot; and its three calls: the tables, --write to another folder, --check."""
-import argparse
 import contextlib
 import importlib.machinery
 import importlib.util
@@ -14,8 +13,12 @@ import xml.etree.ElementTree
 from unittest import mock
 
 sys.path.append("bench")
+import limits  # noqa: E402
+import measuring  # noqa: E402
+import page as results  # noqa: E402
 import plot  # noqa: E402
 import sessions  # noqa: E402
+import tables  # noqa: E402
 from cardtools.records import LONGEST, records_of  # noqa: E402
 from faults import fault_of  # noqa: E402
 from made import program  # noqa: E402
@@ -44,18 +47,30 @@ def test_sessions_are_well_formed_and_equal_each_time():
 
 def test_the_line_is_straight_or_told():
     line = [(x, 5000 + 200 * x) for x in (1, 800, 1600, 2400, 3200)]
-    assert bench.straight("a", "b", line) == 0 and bench.per_access(line) == 200
+    limits.straight("a", "b", line)
+    assert limits.bend(line) == 0 and limits.per_access(line) == 200
     for bent in ([(x, x * x) for x, _ in line], [(x, 200 * x + (90000 if x > 1000 else 0)) for x, _ in line], [(x, 200 * x + x * x // 200) for x, _ in line]):
-        assert "no straight line" in str(fault_of(bench.Fault, bench.straight, "a", "b", bent))
+        assert "no straight line" in str(fault_of(limits.Fault, limits.straight, "a", "b", bent))
 
 
-def test_data_transfers_keep_to_their_bound():
-    class Counted:
-        counted = "instructions"
+def costing(cost, counted="instructions"):
+    """A bench at which each access costs this."""
+    return mock.Mock(counted=counted, line=lambda name, kind: [(0, 5000), (1000, 5000 + 1000 * cost)])
 
-    for kind, cost in (("words", 240), ("polling", 900)):
-        bench.bounded(Counted, kind, [(0, 5000), (1000, 5000 + 1000 * cost)])
-    assert "241.0" in str(fault_of(bench.Fault, bench.bounded, Counted, "bytes", [(0, 5000), (1000, 5000 + 1000 * 241)]))
+
+def test_each_session_keeps_to_its_bound():
+    assert list(limits.MOST) == list(sessions.KINDS)
+    for kind, most in limits.MOST.items():
+        limits.held(costing(900 if most is None else most), kind, ["cardrun"])
+        if most is not None:
+            fault = str(fault_of(limits.Fault, limits.held, costing(most + 1), kind, ["cardrun"]))
+            assert fault == f"{kind}: cardrun takes {most + 1}.0 instructions an access, and {most} is the most"
+            limits.held(costing(most + 1, "accesses answered"), kind, ["cardrun"])
+
+
+def test_the_help_names_the_bounds():
+    bounds = {str(most) for most in limits.MOST.values() if most is not None}
+    assert bounds <= set(re.findall(r"\d+", bench.__doc__)), bounds
 
 
 def test_counts_are_named_as_they_are():
@@ -65,9 +80,9 @@ def test_counts_are_named_as_they_are():
 
     with tempfile.TemporaryDirectory() as folder:
         emulator = program(folder, "emulator", "echo emulator 5")
-        assert bench.counter(Made(False, [emulator])) == "the trace of emulator 5"
-        assert bench.counter(Made(False, False)) == "no counter: accesses answered"
-        assert bench.counter(Made(program(folder, "valgrind", "echo valgrind-4"), False)) == "valgrind-4"
+        assert tables.counter(Made(False, [emulator])) == "the trace of emulator 5"
+        assert tables.counter(Made(False, False)) == "no counter: accesses answered"
+        assert tables.counter(Made(program(folder, "valgrind", "echo valgrind-4"), False)) == "valgrind-4"
 
 
 def test_the_check_fails_where_nothing_counts():
@@ -82,8 +97,8 @@ def test_the_check_fails_where_nothing_counts():
 
 def test_both_programs_are_built_each_time():
     names = []
-    with mock.patch.object(bench, "build", names.append):
-        bench.programs(argparse.Namespace(cardrun=None))
+    with mock.patch.object(measuring, "build", names.append):
+        measuring.programs(None)
     assert names == ["oracle", "cardrun"], names
 
 
@@ -94,18 +109,18 @@ def test_wrong_calls_are_told():
 
 
 def test_a_program_is_looked_for_as_a_shell_does():
-    assert bench.run_once(["sh", "-c", "exit 0"], "README.md") > 0
+    assert measuring.run_once(["sh", "-c", "exit 0"], "README.md") > 0
 
 
 def test_what_stands_by_hand_on_the_page_is_kept():
     page = text_of("bench/RESULTS.md")
     by_hand = page[page.index("## Kept by hand"):]
-    for before in (page, bench.page_of("other numbers", page)):
-        after = bench.page_of("new numbers", before)
+    for before in (page, results.page_of("other numbers", page)):
+        after = results.page_of("new numbers", before)
         assert after.startswith("# Results") and "new numbers\n" in after and "other numbers" not in after
         assert after.endswith(f"\n\n{by_hand}") and after.count("## Kept by hand") == 1
-    assert bench.page_of("numbers", "").endswith("(cost.svg)\n")
-    assert all(part in page for part in bench.page_of("", "").split("\n\n")), "the page has another head or foot than --write gives it"
+    assert results.page_of("numbers", "").endswith("(cost.svg)\n")
+    assert all(part in page for part in results.page_of("", "").split("\n\n")), "the page has another head or foot than --write gives it"
 
 
 def test_the_plot_is_svg():
@@ -120,7 +135,7 @@ def test_times_of_both_programs_are_in_the_table():
         def path(self, kind, blocks):
             return "README.md"
 
-    head, _, *rows = bench.time_table(Quick(), 1).splitlines()
+    head, _, *rows = tables.time_table(Quick(), 1).splitlines()
     assert head == "| session | cardrun | independent | cardrun / independent |", head
     assert [row.split(" | ")[0] for row in rows] == [f"| {kind}" for kind in sessions.KINDS] and all(row.count("|") == 5 for row in rows), rows
 
@@ -142,7 +157,7 @@ def well_reported(text, rounds, native):
 def test_the_tables():
     done = subprocess.run(["bench/run"], capture_output=True, text=True, check=False)
     assert done.returncode == 0, done
-    well_reported(done.stdout, 500, bench.native())
+    well_reported(done.stdout, 500, measuring.native())
     assert subprocess.run(["bench/run", "--help"], capture_output=True, text=True, check=True).stdout.startswith("Measures cardrun")
 
 
@@ -159,9 +174,9 @@ def test_results_are_written():
             assert bench.main(["--write", "--rounds", "2"], folder) == 0
         assert sorted(os.listdir(folder)) == ["RESULTS.md", "cost.svg"]
         after, svg = (text_of(os.path.join(folder, name)) for name in ("RESULTS.md", "cost.svg"))
-    well_reported(printed.getvalue(), 2, bench.native())
-    assert after == bench.page_of(printed.getvalue().rstrip("\n"), before) and after.endswith(before[before.index("\n## Kept by hand\n"):]), after
-    names = [f"{kind}, {name}" for kind in sessions.KINDS for name in (["cardrun", "independent"] if bench.native() else ["cardrun"])]
+    well_reported(printed.getvalue(), 2, measuring.native())
+    assert after == results.page_of(printed.getvalue().rstrip("\n"), before) and after.endswith(before[before.index("\n## Kept by hand\n"):]), after
+    names = [f"{kind}, {name}" for kind in sessions.KINDS for name in (["cardrun", "independent"] if measuring.native() else ["cardrun"])]
     assert xml.etree.ElementTree.fromstring(svg).tag.endswith("svg") and svg.count("<polyline") == len(names)
     assert all(f">{name}</text>" in svg for name in names) and ">instructions</text>" in svg, svg
 
