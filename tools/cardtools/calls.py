@@ -30,6 +30,12 @@ def words_of(name, option, command):
         return fail(name, f"{option} {command}: {fault}")
 
 
+def shortened(word, most=20):
+    """A word as a message shows it: not too long, and what can't be printed as its number."""
+    shown = "".join(letter if letter.isprintable() else letter.encode("unicode_escape").decode() for letter in word[:most])
+    return shown if len(word) <= most else shown + ".."
+
+
 def table(head, rows):
     lines = ["| " + " | ".join(row) + " |" for row in (head, *rows)]
     return "\n".join([lines[0], "|---" * len(head) + "|", *lines[1:]])

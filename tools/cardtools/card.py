@@ -26,6 +26,8 @@ REGISTERS = {
     0xE: ("Alternate Status", "Device Control"),
     0xF: ("Drive Address", "Drive Address"),
 }
+COMMAND, CONTROL = 0x7, 0xE  # Status and Alternate Status when read, Command and Device Control when written
+OPTION = 0x200  # the address of Configuration Option in attribute memory
 WORDS, ODD = (0x0, 0x8), (0x9,)  # the data register by its even and its odd address
 DATA = WORDS + ODD
 NOT_WITH_DRQ = (1, 2, 3, 4, 5, 6, 0xD)  # written without effect while DRQ is set

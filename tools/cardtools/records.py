@@ -7,7 +7,6 @@ LONGEST = 32768
 MOST_SECTORS = 32
 LENGTHS = {1: 12, 2: 10, 3: 8}
 KINDS = {1: "an opening", 2: "a write", 3: "a read"}
-SPACES = ("attribute", "memory", "io", "ide")
 
 
 class Opening(NamedTuple):
@@ -40,12 +39,6 @@ class Break(NamedTuple):
 
 class Broken(Exception):
     """Why a record is broken."""
-
-
-def shortened(word, most=20):
-    """A word as a message shows it: not too long, and what can't be printed as its number."""
-    shown = "".join(letter if letter.isprintable() else letter.encode("unicode_escape").decode() for letter in word[:most])
-    return shown if len(word) <= most else shown + ".."
 
 
 def is_text(file):

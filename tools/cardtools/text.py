@@ -2,14 +2,16 @@
 import re
 from itertools import groupby
 
-from .card import access_words, opening_words
-from .explain import Follower
-from .records import LONGEST, SPACES, Access, Opening, file_of, records_of, shortened, size_of
+from .calls import shortened
+from .card import COMMAND, access_words, command_name, opening_words
+from .follower import Follower
+from .records import LONGEST, Access, Opening, file_of, records_of, size_of
 
 MOST_REPEATED = 32 * LONGEST  # bytes that one line's repeat may make where the length is not looked at
 MODE_WORDS = {"pc-card": 0, "true-ide": 1}
 MODE_NAMES = {number: word for word, number in MODE_WORDS.items()}
 WIDTHS = {"byte": 1, "word": 2}
+SPACES = ("attribute", "memory", "io", "ide")
 SPACE_WORDS = {word: number for number, word in enumerate(SPACES)}
 
 
@@ -192,10 +194,15 @@ def file_from(text):
 
 # ---- to text
 
+def note_of(access, follower):
+    """The name of what stands there, in the map in force; of a Command write the command too."""
+    commands = access.write and follower.row(access) is None and follower.offset(access) == COMMAND
+    return f"Command: {command_name(access.value)}" if commands else follower.name(access)
+
+
 def noted_accesses(accesses, follower):
-    """Each access with the name of what stands there, in the map in force."""
     for access in accesses:
-        yield access._replace(value=0), follower.note(access), access.value
+        yield access._replace(value=0), note_of(access, follower), access.value
         follower.follow(access)
 
 

@@ -6,7 +6,7 @@ import sys
 import tracemalloc
 
 import made
-from cardtools.explain import Mismatch, annotated
+from cardtools.annotate import Mismatch, annotated
 from cardtools.records import Access, Opening, file_of, records_of
 from cardtools.text import Bad, decoded, file_from, text_of
 from faults import fault_of
