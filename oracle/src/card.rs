@@ -3,6 +3,7 @@
 use crate::cover;
 use crate::maps::{self, Mode, Place};
 use crate::mutants::on;
+use crate::points::BadForm;
 
 #[derive(Clone, Copy, PartialEq, Eq, Debug)]
 pub struct Geometry {
@@ -29,7 +30,7 @@ impl Geometry {
     }
 }
 
-#[derive(Clone, Copy, PartialEq, Eq, Debug)]
+#[derive(Clone, Copy, PartialEq, Eq, Hash, Debug)]
 pub enum Phase {
     Idle,
     In,
@@ -37,7 +38,7 @@ pub enum Phase {
 }
 
 /// What of the present word has moved.
-#[derive(Clone, Copy, PartialEq, Eq, Debug)]
+#[derive(Clone, Copy, PartialEq, Eq, Hash, Debug)]
 pub enum Half {
     Nothing,
     Low,
@@ -45,7 +46,7 @@ pub enum Half {
 }
 
 /// How the data register is touched: a byte at 0 or 8, a byte at 9, a word.
-#[derive(Clone, Copy, PartialEq, Eq, Debug)]
+#[derive(Clone, Copy, PartialEq, Eq, Hash, Debug)]
 pub enum Touch {
     Even,
     Odd,
@@ -262,33 +263,69 @@ fn wrong_length(geometry: Geometry, lent: &Lent) -> u8 {
 
 // ---------------------------------------------------------------- well made
 
-/// 01's list, one condition each; `true` where it holds.
-type Condition = fn(&Card) -> bool;
+/// 01's list of what makes a card well made.
+#[derive(Clone, Copy, PartialEq, Eq, Debug)]
+pub enum Condition {
+    /// The geometry fits the limits.
+    Default,
+    /// Current H is 1..16.
+    Heads,
+    /// Current S is 1..255.
+    Track,
+    /// Current C is N div (H·S), at least 1.
+    Cylinders,
+    /// The map index is 0..3.
+    Index,
+    /// SRESET is not set in mode 1.
+    Sreset,
+    /// Status is 58H exactly in a transfer.
+    Status,
+    /// No transfer in a held reset.
+    Held,
+    /// Words moved are 0..255.
+    Words,
+    /// A sector transfer's address and count.
+    Sectors,
+}
 
-pub const CONDITIONS: [(&str, Condition); 10] = [
-    ("geometry fits the limits", |k| k.default.fits()),
-    ("current H is 1..16", |k| (1..=16).contains(&k.current.h)),
-    ("current S is 1..255", |k| (1..=255).contains(&k.current.s)),
-    ("current C is N div (H·S), at least 1", Card::current_c_agrees),
-    ("map index is 0..3", |k| k.index() <= 3),
-    ("SRESET not set in mode 1", |k| !(k.sreset && k.mode == Mode::TrueIde)),
-    ("Status 58H exactly in a transfer", Card::status_agrees),
-    ("no transfer in a held reset", |k| !k.running() || !(k.sreset || k.hold)),
-    ("words moved are 0..255", |k| !k.running() || k.words <= 255),
-    ("a sector transfer's address and count", Card::sectors_agree),
+const CONDITIONS: [Condition; 10] = [
+    Condition::Default,
+    Condition::Heads,
+    Condition::Track,
+    Condition::Cylinders,
+    Condition::Index,
+    Condition::Sreset,
+    Condition::Status,
+    Condition::Held,
+    Condition::Words,
+    Condition::Sectors,
 ];
 
 impl Card {
+    fn holds(&self, condition: Condition) -> bool {
+        match condition {
+            Condition::Default => self.default.fits(),
+            Condition::Heads => (1..=16).contains(&self.current.h),
+            Condition::Track => (1..=255).contains(&self.current.s),
+            Condition::Cylinders => self.current_c_agrees(),
+            Condition::Index => self.index() <= 3,
+            Condition::Sreset => !(self.sreset && self.mode == Mode::TrueIde),
+            Condition::Status => self.status_agrees(),
+            Condition::Held => !self.running() || !(self.sreset || self.hold),
+            Condition::Words => !self.running() || self.words <= 255,
+            Condition::Sectors => self.sectors_agree(),
+        }
+    }
+
     pub fn well_made(&self) -> bool {
-        if CONDITIONS.iter().all(|(_, holds)| holds(self)) {
+        if CONDITIONS.into_iter().all(|c| self.holds(c)) {
             return true;
         }
-        let broken = CONDITIONS.iter().enumerate().filter(|(_, c)| !c.1(self));
-        let broken: Vec<usize> = broken.map(|(i, _)| i).collect();
+        let broken: Vec<Condition> = CONDITIONS.into_iter().filter(|&c| !self.holds(c)).collect();
         if let [only] = broken[..] {
             cover::condition(only, self);
         }
-        broken == [6] && on(6) || broken == [9] && on(7)
+        broken == [Condition::Status] && on(6) || broken == [Condition::Sectors] && on(7)
     }
 
     fn current_c_agrees(&self) -> bool {
@@ -354,13 +391,13 @@ impl Card {
     fn form(&self, place: Place, a: &Access) -> Result<(), u8> {
         let data = matches!(place, Place::Register(0 | 8)) || on(8) && place == Place::Option;
         let fault = match a.width {
-            1 if a.write && a.value > 255 => 1,
+            1 if a.write && a.value > 255 => BadForm::ByteValue,
             1 => return Ok(()),
             2 if data => return Ok(()),
-            2 => 2,
-            _ => 0,
+            2 => BadForm::Word,
+            _ => BadForm::Width,
         };
-        cover::form(fault);
+        cover::bad_form(fault);
         Err(9)
     }
 

@@ -9,7 +9,7 @@ pub const IDNF: u8 = 0x10;
 pub const UNC: u8 = 0x40;
 
 /// The rows of the command table.
-#[derive(Clone, Copy, PartialEq, Eq, Debug)]
+#[derive(Clone, Copy, PartialEq, Eq, Hash, Debug)]
 pub enum Row {
     Read,
     Write,
@@ -24,6 +24,13 @@ pub enum Row {
     Seek,
     Sense,
     Other,
+}
+
+impl Row {
+    /// Does the command look at the address registers?
+    pub fn addressed(self) -> bool {
+        matches!(self, Row::Read | Row::Write | Row::Verify | Row::Erase | Row::Seek)
+    }
 }
 
 pub fn row(opcode: u8) -> Row {

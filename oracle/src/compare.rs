@@ -8,7 +8,8 @@ use std::sync::Mutex;
 use std::thread;
 use std::time::Duration;
 
-use crate::cover;
+use crate::cover::{self, By};
+use crate::cover_table;
 use crate::gen::{self, Case};
 use crate::mutants::{switch, CHANGES};
 use crate::session;
@@ -29,17 +30,17 @@ struct Suite {
 
 impl Suite {
     fn sessions(seed: u64) -> Suite {
-        Suite::new(gen::sessions(seed), session::play, cover::SESSIONS)
+        Suite::new(gen::sessions(seed), session::play, By::Sessions)
     }
 
     fn trials(seed: u64) -> Suite {
-        Suite::new(trials::trials(seed), trial::play, cover::TRIALS)
+        Suite::new(trials::trials(seed), trial::play, By::Trials)
     }
 
-    fn new(cases: Vec<Case>, play: Player, column: usize) -> Suite {
-        cover::count_for(column);
+    fn new(cases: Vec<Case>, play: Player, by: By) -> Suite {
+        cover::count_for(Some(by));
         let texts = cases.iter().map(|c| play(&c.bytes)).collect();
-        cover::count_for(cover::OFF);
+        cover::count_for(None);
         Suite { cases, texts, play }
     }
 
@@ -63,7 +64,7 @@ pub fn compare(seed: u64, cardrun: Option<&str>, trial: Option<&str>) -> bool {
     if let Some(program) = trial {
         add("trials", Suite::trials(seed), program);
     }
-    let (reached, missed) = cover::table([cardrun.is_some(), trial.is_some()]);
+    let (reached, missed) = cover_table::print([cardrun.is_some(), trial.is_some()]);
     println!("coverage: {reached} rows reached, {missed} missed");
     println!("{} passed, {} failed", totals.0 + reached, totals.1 + missed);
     totals.1 + missed == 0
@@ -74,7 +75,7 @@ pub fn coverage(seed: u64) -> bool {
     for (name, suite) in [("sessions", Suite::sessions(seed)), ("trials", Suite::trials(seed))] {
         println!("{}: {}, {} accesses", name, suite.cases.len(), suite.accesses());
     }
-    let (reached, missed) = cover::table([true, true]);
+    let (reached, missed) = cover_table::print([true, true]);
     println!("{reached} passed, {missed} failed");
     missed == 0
 }

@@ -3,8 +3,9 @@
 use std::fmt::Write;
 
 use crate::card::{Access, Card, Geometry, Lent};
-use crate::cover::{self, Break};
+use crate::cover;
 use crate::mutants::on;
+use crate::points::Break;
 
 /// Bytes of a file that is run.
 pub const LONGEST: usize = 32_768;
@@ -106,10 +107,10 @@ pub fn record(rest: &[u8], first: bool) -> Result<(Record, usize), Break> {
         return Err(Break::HeadCut);
     }
     let (length, kind) = (word(rest, 0) as usize, word(rest, 2));
-    let right = match kind {
-        1 => 12,
-        2 => 10,
-        3 => 8,
+    let (right, wrong_length, cut) = match kind {
+        1 => (12, Break::OpeningLength, Break::OpeningCut),
+        2 => (10, Break::WriteLength, Break::WriteCut),
+        3 => (8, Break::ReadLength, Break::ReadCut),
         _ => return Err(Break::Kind),
     };
     match (first, kind) {
@@ -118,10 +119,10 @@ pub fn record(rest: &[u8], first: bool) -> Result<(Record, usize), Break> {
         _ => {}
     }
     if length != right {
-        return Err(Break::length(kind));
+        return Err(wrong_length);
     }
     if rest.len() < length {
-        return Err(Break::cut(kind));
+        return Err(cut);
     }
     let body = &rest[4..length];
     let record = match kind {
@@ -135,10 +136,10 @@ fn access(body: &[u8], write: bool) -> Result<Access, Break> {
     let (space, width, address) = (body[0], body[1], word(body, 2));
     let value = if write { word(body, 4) } else { 0 };
     if space > 3 {
-        return Err(Break::space(write));
+        return Err(if write { Break::WriteSpace } else { Break::ReadSpace });
     }
     if !(1..=2).contains(&width) {
-        return Err(Break::width(write));
+        return Err(if write { Break::WriteWidth } else { Break::ReadWidth });
     }
     if width == 1 && value > 255 && !on(52) {
         return Err(Break::ByteValue);

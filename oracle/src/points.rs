@@ -1,0 +1,330 @@
+//! The points that an input can reach, by name, and what the coverage table says of each.
+
+use crate::card::{Half, Phase, Touch};
+use crate::commands::Row;
+
+/// One point. Each group of the table has its own sort.
+#[derive(Clone, Copy, PartialEq, Eq, Hash, Debug)]
+pub enum Point {
+    /// A Command write with this opcode.
+    Opcode(u8),
+    /// A command while a transfer of this phase runs.
+    Drop(Row, Phase),
+    /// A command's end; in LBA, if it has an address.
+    End(Row, Ending, bool),
+    /// This code told by 03H.
+    Sense(u8),
+    Identify,
+    /// A register reached, by its offset.
+    Register {
+        map: Map,
+        offset: u8,
+        write: bool,
+        word: bool,
+    },
+    /// An access to attribute memory at this index.
+    Attribute(Attribute, u8),
+    /// Data that moves, or is refused, after this half of the word has moved.
+    Half {
+        write: bool,
+        moved: Half,
+        touch: Touch,
+    },
+    /// A data access with no transfer that way: none runs, or one runs the other way.
+    Against {
+        write: bool,
+        running: bool,
+        touch: Touch,
+    },
+    /// An answer's number.
+    Answer(u8),
+    Silent(Silent),
+    Hole(Hole),
+    /// An address without a register.
+    NoRegister(Map),
+    BadForm(BadForm),
+    Control(Control),
+    Setting(Setting),
+    /// A register reached in a Device Control hold.
+    Held {
+        offset: u8,
+        write: bool,
+    },
+    /// A register written in a transfer of this phase.
+    Busy {
+        offset: u8,
+        phase: Phase,
+    },
+    Break(Break),
+    Limit(Limit),
+    Unmade(Unmade),
+    Line(Line),
+    /// A mark met by a sector command.
+    Mark(Row, Mark),
+    Carry(Carry),
+    Tuples(Tuples),
+    Chain(Chain),
+    Entry(Listed),
+}
+
+/// A register map: that of an index, or True IDE's.
+#[derive(Clone, Copy, PartialEq, Eq, Hash, Debug)]
+pub enum Map {
+    Index(u8),
+    TrueIde,
+}
+
+pub const MAPS: [Map; 5] =
+    [Map::Index(0), Map::Index(1), Map::Index(2), Map::Index(3), Map::TrueIde];
+
+/// The commands as the table says them.
+pub const COMMANDS: [(Row, &str); 13] = [
+    (Row::Read, "read"),
+    (Row::Write, "write"),
+    (Row::Verify, "verify"),
+    (Row::Erase, "erase"),
+    (Row::Identify, "identify"),
+    (Row::ReadBuffer, "E4H"),
+    (Row::WriteBuffer, "E8H"),
+    (Row::Parameters, "91H"),
+    (Row::Diagnose, "90H"),
+    (Row::Recalibrate, "1XH"),
+    (Row::Seek, "7XH"),
+    (Row::Sense, "03H"),
+    (Row::Other, "others"),
+];
+
+/// The codes that 01 gives.
+pub const CODES: [u8; 6] = [0x00, 0x20, 0x21, 0x2F, 0x03, 0x11];
+
+/// An enum of points, and the table of what is said of each.
+macro_rules! named {
+    ($(#[$about:meta])* $group:ident { $($point:ident: $says:literal),* $(,)? }) => {
+        $(#[$about])*
+        #[derive(Clone, Copy, PartialEq, Eq, Hash, Debug)]
+        pub enum $group {
+            $($point),*
+        }
+
+        impl $group {
+            pub const TABLE: &'static [($group, &'static str)] = &[$(($group::$point, $says)),*];
+        }
+    };
+}
+
+named! {
+    /// How a command ends: the bit of Error or Status, and the code.
+    Ending {
+        Good: "good",
+        Idnf21: "IDNF 21",
+        Idnf2F: "IDNF 2F",
+        Unc: "UNC 11",
+        Dwf: "DWF 03",
+        Abrt20: "ABRT 20",
+        Abrt21: "ABRT 21",
+    }
+}
+
+named! {
+    /// An access that attribute memory takes.
+    Attribute {
+        TupleRead: "tuple read",
+        OptionRead: "option read",
+        OptionWrite: "option write",
+    }
+}
+
+named! {
+    /// Refusal 7: the space that does not answer.
+    Silent {
+        AttributeInIde: "attribute in mode 1",
+        MemoryInIde: "memory in mode 1",
+        IoInIde: "I/O in mode 1",
+        MemoryByIndex: "memory at index 1..3",
+        IoByIndex: "I/O at index 0",
+        IdeInPcCard: "True IDE in mode 0",
+        NoSpace: "another space",
+    }
+}
+
+named! {
+    /// Refusal 6 in attribute memory.
+    Hole {
+        OddAttribute: "odd attribute",
+        AboveAttribute: "attribute above 200H",
+        TupleWrite: "tuple write",
+    }
+}
+
+named! {
+    /// Refusal 9: what is wrong with the access.
+    BadForm {
+        Width: "width",
+        ByteValue: "byte value",
+        Word: "word",
+    }
+}
+
+named! {
+    /// A Device Control write, by the hold before and after it.
+    Control {
+        HoldIdle: "hold idle",
+        HoldInDataIn: "hold in data in",
+        HoldInDataOut: "hold in data out",
+        HoldAgain: "hold again",
+        Leave: "leave",
+        MaskIdle: "mask idle",
+        MaskInDataIn: "mask in data in",
+        MaskInDataOut: "mask in data out",
+    }
+}
+
+named! {
+    /// A Configuration Option write, by SRESET before and after it.
+    Setting {
+        SresetIdle: "SRESET idle",
+        SresetInDataIn: "SRESET in data in",
+        SresetInDataOut: "SRESET in data out",
+        SresetInHold: "SRESET in a hold",
+        SresetAgain: "SRESET again",
+        Leave: "leave",
+        LeaveInHold: "leave in a hold",
+        MapIdle: "map idle",
+        MapInDataIn: "map in data in",
+        MapInDataOut: "map in data out",
+        MapInHold: "map in a hold",
+    }
+}
+
+named! {
+    /// How a session file can be broken.
+    Break {
+        Empty: "empty",
+        TooLong: "too long",
+        HeadCut: "head cut",
+        Kind: "kind",
+        OpeningMissing: "opening missing",
+        SecondOpening: "second opening",
+        OpeningLength: "opening's length",
+        WriteLength: "write's length",
+        ReadLength: "read's length",
+        OpeningCut: "opening cut",
+        WriteCut: "write cut",
+        ReadCut: "read cut",
+        WriteSpace: "write's space",
+        ReadSpace: "read's space",
+        WriteWidth: "write's width",
+        ReadWidth: "read's width",
+        ByteValue: "byte value",
+    }
+}
+
+named! {
+    /// A limit that an opening of a session breaks.
+    Limit {
+        NoCylinder: "C 0",
+        NoHead: "H 0",
+        ManyHeads: "H above 16",
+        NoSector: "S 0",
+        LongTrack: "S above 255",
+        Mode: "mode",
+        TooLarge: "N above 65535",
+        TooLargeForSession: "N above 32",
+    }
+}
+
+named! {
+    /// The only condition of the well-made list that a card breaks, and how.
+    Unmade {
+        DefaultHeads: "default H above 16",
+        DefaultTrack: "default S above 255",
+        DefaultTotal: "N above 65535",
+        NoHead: "current H 0",
+        ManyHeads: "current H above 16",
+        NoSector: "current S 0",
+        LongTrack: "current S above 255",
+        Cylinders: "current C disagrees",
+        NoCylinder: "current C 0",
+        Index: "index above 3",
+        SresetInIde: "SRESET in mode 1",
+        TransferWithout58: "transfer without 58H",
+        IdleWith58: "58H without transfer",
+        OtherStatus: "another Status",
+        TransferInSreset: "transfer in SRESET",
+        TransferInHold: "transfer in a hold",
+        Words: "words above 255",
+        BadChs: "bad CHS in a transfer",
+        BadLba: "bad LBA in a transfer",
+        NoneLeft: "0 sectors left",
+        ManyLeft: "257 or more left",
+        LeftUnlikeCount: "left unlike Count",
+    }
+}
+
+named! {
+    /// The interrupt line in an answer; masked is down with the mark set.
+    Line {
+        Down: "down",
+        Up: "up",
+        Masked: "masked",
+    }
+}
+
+named! {
+    /// A sector's mark.
+    Mark {
+        Zero: "0",
+        One: "1",
+        Two: "2",
+        Above: "above 2",
+    }
+}
+
+named! {
+    /// A carry of the next address.
+    Carry {
+        LbaByte: "out of the low LBA byte",
+        CylinderHigh: "into Cylinder High",
+    }
+}
+
+named! {
+    /// What the tuple reader and writer answer.
+    Tuples {
+        Read: "read",
+        ReadLength: "read 5",
+        ReadPlaces: "read 16",
+        ReadBadChain: "read 13",
+        Written: "written",
+        WriteLength: "write 5",
+        WriteBadEntry: "write 15",
+        WriteTooLong: "write 14",
+    }
+}
+
+named! {
+    /// What a chain's reader meets.
+    Chain {
+        Null: "null tuple",
+        NoByteLeft: "no byte is left",
+        End: "end mark",
+        EndAtLast: "end mark at byte 255",
+        CodeAtLast: "code at byte 255",
+        BodyToLast: "body to byte 255",
+        BodyPastLast: "body past byte 255",
+        PlacesLeftOver: "places left over",
+        MostEntries: "127 entries",
+    }
+}
+
+named! {
+    /// An entry that is to be written.
+    Listed {
+        Good: "good",
+        Code00: "code 00H",
+        CodeFF: "code FFH",
+        BodyOutside: "body outside",
+        BodyTooLong: "longer than 255",
+        EndTooLarge: "end above 65535",
+    }
+}
