@@ -10,11 +10,12 @@ use std::time::Duration;
 
 use crate::cover::{self, By};
 use crate::cover_table;
-use crate::gen::{self, Case};
+use crate::inputs::Case;
 use crate::mutants::{switch, CHANGES};
-use crate::session;
-use crate::trial;
-use crate::trials;
+use crate::session_inputs;
+use crate::session_player;
+use crate::trial_inputs;
+use crate::trial_player;
 
 const PATIENCE: Duration = Duration::from_secs(60);
 const SHOWN: usize = 10;
@@ -30,11 +31,11 @@ struct Suite {
 
 impl Suite {
     fn sessions(seed: u64) -> Suite {
-        Suite::new(gen::sessions(seed), session::play, By::Sessions)
+        Suite::new(session_inputs::sessions(seed), session_player::play, By::Sessions)
     }
 
     fn trials(seed: u64) -> Suite {
-        Suite::new(trials::trials(seed), trial::play, By::Trials)
+        Suite::new(trial_inputs::trials(seed), trial_player::play, By::Trials)
     }
 
     fn new(cases: Vec<Case>, play: Player, by: By) -> Suite {
@@ -196,7 +197,7 @@ fn session_records(bytes: &[u8], line: usize) -> String {
 /// The records up to the one that prints a line.
 fn trial_records(bytes: &[u8], line: usize) -> String {
     let records = bytes.len() / 16;
-    let printed = |k: usize| trial::play(&bytes[..16 * k]).lines().count() - 2;
+    let printed = |k: usize| trial_player::play(&bytes[..16 * k]).lines().count() - 2;
     let (mut low, mut high) = (0, records);
     while low < high {
         let middle = (low + high) / 2;
@@ -204,7 +205,7 @@ fn trial_records(bytes: &[u8], line: usize) -> String {
     }
     let near = low.saturating_sub(3)..low.min(records);
     let told = near.map(|k| {
-        let words = trial::words(&bytes[16 * k..16 * k + 16]).map(|w| format!("{w:04X}"));
+        let words = trial_player::words(&bytes[16 * k..16 * k + 16]).map(|w| format!("{w:04X}"));
         format!("\n    record {k}: {}", words.join(" "))
     });
     told.collect()
@@ -214,9 +215,11 @@ fn trial_records(bytes: &[u8], line: usize) -> String {
 fn record_at(bytes: &[u8], number: usize) -> Option<String> {
     let mut place = 12;
     for _ in 0..number {
-        place += session::record(bytes.get(place..)?, false).ok()?.1;
+        place += session_player::record(bytes.get(place..)?, false).ok()?.1;
     }
-    let session::Record::Access(a) = session::record(bytes.get(place..)?, false).ok()?.0 else {
+    let session_player::Record::Access(a) =
+        session_player::record(bytes.get(place..)?, false).ok()?.0
+    else {
         return None;
     };
     let space = ["attribute", "memory", "I/O", "True IDE"][a.space as usize];

@@ -4,8 +4,8 @@
 use crate::card::{Access, Answer, Card, Geometry, Half, Lent, Phase};
 use crate::maps::{Mode, ATTRIBUTE, IO, MEMORY, TRUE_IDE};
 use crate::rng::Rng;
-use crate::session;
-use crate::trial;
+use crate::session_player;
+use crate::trial_player;
 
 #[derive(Clone, Copy, PartialEq, Eq, Debug)]
 pub enum Form {
@@ -85,7 +85,7 @@ impl Host {
     }
 
     pub fn session(seed: u64, g: Geometry, mode: u16) -> Host {
-        Host::new(Form::Session, seed, g, mode, session::LONGEST)
+        Host::new(Form::Session, seed, g, mode, session_player::LONGEST)
     }
 
     pub fn trial(seed: u64, g: Geometry, mode: u16) -> Host {
@@ -145,7 +145,7 @@ impl Host {
     /// Sets a field of the card value (trials only).
     pub fn set_field(&mut self, field: u16, value: u16) {
         self.record(&[4, field, value]);
-        trial::set_field(&mut self.card, field, value);
+        trial_player::set_field(&mut self.card, field, value);
     }
 
     /// Sets bytes of a row, eight with each record of the kind that sets them (trials only).
@@ -162,7 +162,7 @@ impl Host {
     /// Sets bytes of the card's buffer (trials only).
     pub fn set_buffer(&mut self, place: usize, bytes: &[u8]) {
         self.bytes_record(13, place, bytes);
-        trial::put_all(&mut self.card.buffer, place, bytes);
+        trial_player::put_all(&mut self.card.buffer, place, bytes);
     }
 
     /// Writes down an access and does it.
@@ -215,7 +215,7 @@ impl Host {
                 last.step %= 256;
             }
         }
-        let value = trial::next_value(&last.access, last.step);
+        let value = trial_player::next_value(&last.access, last.step);
         let next = Access { value: if a.write { value } else { a.value }, ..last.access };
         if next != *a || last.times == 256 {
             return false;

@@ -1,24 +1,28 @@
 //! An independent program for the card of document 01: it plays sessions and trials, makes inputs from
 //! a seed, and compares other programs with itself.
 
-mod broken;
+mod broken_inputs;
 mod card;
 mod commands;
 mod compare;
 mod cover;
 mod cover_table;
-mod gen;
+mod field_inputs;
 mod host;
+mod inputs;
 mod maps;
 mod mutants;
 mod points;
 mod registers;
 mod rng;
 mod selftest;
-mod session;
+mod session_inputs;
+mod session_player;
 mod story;
-mod trial;
-mod trials;
+mod stray;
+mod trial_inputs;
+mod trial_player;
+mod tuple_inputs;
 mod tuples;
 
 use std::io::{Read, Write};
@@ -52,8 +56,8 @@ fn main() -> ExitCode {
 /// Whether a call ended well, or why it can't be made.
 fn good(words: &[&str]) -> Result<bool, String> {
     Ok(match *words {
-        ["play"] => played(session::play)?,
-        ["trial"] => played(trial::play)?,
+        ["play"] => played(session_player::play)?,
+        ["trial"] => played(trial_player::play)?,
         ["gen", seed, dir] => write_files(seed.parse().map_err(|_| USAGE)?, dir),
         ["compare", cardrun] => compare::compare(seed()?, Some(cardrun), None),
         ["compare", "-", trial] => compare::compare(seed()?, None, Some(trial)),

@@ -2,8 +2,8 @@
 
 use crate::card::Access;
 use crate::host::{push_access, push_opening};
-use crate::session;
-use crate::trial;
+use crate::session_player;
+use crate::trial_player;
 use crate::tuples::{self, Entry};
 
 /// A session being written down together with the text it should give.
@@ -72,7 +72,7 @@ impl Talk {
     }
 
     fn check(&self, name: &str) -> bool {
-        let got = session::play(&self.file);
+        let got = session_player::play(&self.file);
         told(name, got == self.text)
     }
 }
@@ -123,11 +123,11 @@ fn ends() -> bool {
     let opening = Talk::new(3).file;
     let mut refused = opening.clone();
     refused[4] = 5;
-    let good = session::play(&[]) == format!("{head}bad 0\n")
-        && session::play(&[0; 40_000]) == format!("{head}bad 32768\n")
-        && session::play(&refused) == format!("{head}open 1\n")
-        && session::play(&opening) == head
-        && session::play(&[opening, vec![8]].concat()) == format!("{head}bad 12\n");
+    let good = session_player::play(&[]) == format!("{head}bad 0\n")
+        && session_player::play(&[0; 40_000]) == format!("{head}bad 32768\n")
+        && session_player::play(&refused) == format!("{head}open 1\n")
+        && session_player::play(&opening) == head
+        && session_player::play(&[opening, vec![8]].concat()) == format!("{head}bad 12\n");
     told("files without accesses", good)
 }
 
@@ -299,7 +299,7 @@ fn alternate_status() -> bool {
         record([3, 3, 1, 0, 0x16, 0, 1, 0]),
         record([3, 3, 1, 0, 7, 0, 1, 0]),
     ];
-    let text = trial::play(&input.concat());
+    let text = trial_player::play(&input.concat());
     let lines: Vec<&str> = text.lines().map(|l| &l[..l.len().min(11)]).collect();
     let good = lines[..4] == ["A 00 0000 0", "A 00 0000 1", "A 00 0050 1", "A 00 0050 0"];
     told("Alternate Status leaves the mark", good)

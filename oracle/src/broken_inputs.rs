@@ -1,10 +1,10 @@
 //! Session files that are broken or refused, of every kind.
 
 use crate::card::{Access, Geometry};
-use crate::gen::{sub_seed, Case};
 use crate::host::{push_access, push_opening, Host};
+use crate::inputs::{sub_seed, Case};
 use crate::rng::Rng;
-use crate::session::LONGEST;
+use crate::session_player::LONGEST;
 
 pub fn files(seed: u64, all: &mut Vec<Case>) {
     cuts(all);

@@ -1,23 +1,13 @@
 //! The sessions of the comparison, from a seed.
 
-use crate::broken;
-use crate::card::{Access, Geometry, Half, Phase};
+use crate::broken_inputs;
+use crate::card::{Access, Geometry};
 use crate::host::{Host, Style, STYLES};
-use crate::story::EDGES;
-
-pub struct Case {
-    pub name: String,
-    pub bytes: Vec<u8>,
-}
-
-impl Case {
-    pub fn new(name: String, bytes: Vec<u8>) -> Case {
-        Case { name, bytes }
-    }
-}
+use crate::inputs::{bring, geometry, sub_seed, Case, State};
+use crate::stray::EDGES;
 
 /// Geometries of at most 32 sectors.
-pub const SMALL: [(u16, u16, u16); 12] = [
+const SMALL: [(u16, u16, u16); 12] = [
     (4, 2, 4),
     (1, 1, 1),
     (32, 1, 1),
@@ -32,10 +22,6 @@ pub const SMALL: [(u16, u16, u16); 12] = [
     (1, 4, 8),
 ];
 
-pub fn geometry(g: (u16, u16, u16)) -> Geometry {
-    Geometry::new(g.0, g.1, g.2)
-}
-
 const LONG: usize = 600;
 const SHORT: usize = 300;
 
@@ -48,13 +34,8 @@ pub fn sessions(seed: u64) -> Vec<Case> {
     addresses(seed, &mut all);
     parameters(seed, &mut all);
     wanderings(seed, &mut all);
-    broken::files(seed, &mut all);
+    broken_inputs::files(seed, &mut all);
     all
-}
-
-/// A seed of its own for each session of a group.
-pub fn sub_seed(seed: u64, group: u64, number: usize) -> u64 {
-    seed.wrapping_mul(1_000_003) ^ group << 40 ^ (number as u64) << 4
 }
 
 fn finish(name: String, host: Host, all: &mut Vec<Case>) {
@@ -66,98 +47,6 @@ fn host_in(map: u8, g: Geometry, seed: u64) -> Host {
     let mut host = Host::session(seed, g, (map == 4) as u16);
     host.go_to(map);
     host
-}
-
-// ---------------------------------------------------------------- states
-
-/// What the card is kept in while something is tried on it.
-#[derive(Clone, Copy, PartialEq, Eq, Debug)]
-pub enum State {
-    Idle,
-    In,
-    Out,
-    InLow,
-    InHigh,
-    OutLow,
-    OutHigh,
-    Hold,
-    Sreset,
-}
-
-pub const STATES: [State; 9] = [
-    State::Idle,
-    State::In,
-    State::Out,
-    State::InLow,
-    State::InHigh,
-    State::OutLow,
-    State::OutHigh,
-    State::Hold,
-    State::Sreset,
-];
-
-fn in_state(host: &Host, state: State) -> bool {
-    let k = &host.card;
-    let transfer = (k.phase, k.half);
-    let free = !k.hold && !k.sreset;
-    match state {
-        State::Idle => free && !k.running(),
-        State::In => transfer == (Phase::In, Half::Nothing),
-        State::Out => transfer == (Phase::Out, Half::Nothing),
-        State::InLow => transfer == (Phase::In, Half::Low),
-        State::InHigh => transfer == (Phase::In, Half::High),
-        State::OutLow => transfer == (Phase::Out, Half::Low),
-        State::OutHigh => transfer == (Phase::Out, Half::High),
-        State::Hold => k.hold && !k.sreset,
-        State::Sreset => k.sreset,
-    }
-}
-
-/// Brings the card into a map and a state, if it isn't there.
-pub fn bring(host: &mut Host, map: u8, state: State) {
-    if state == State::Sreset {
-        if !host.card.sreset {
-            host.option(0x80 | map & 3);
-        }
-        return;
-    }
-    if map < 4 && host.card.option() != map {
-        host.option(map);
-    }
-    if in_state(host, state) {
-        return;
-    }
-    if host.card.hold {
-        host.put(0xE, 0);
-    }
-    match state {
-        State::Hold => drop(host.put(0xE, 4)),
-        State::Idle => drop(host.put(7, 0x10)),
-        _ => begin(host, state),
-    }
-}
-
-/// Begins a transfer and moves half a word if the state wants it.
-fn begin(host: &mut Host, state: State) {
-    let writing = matches!(state, State::Out | State::OutLow | State::OutHigh);
-    let opcode =
-        if writing { host.rng.pick(&[0x30, 0xE8]) } else { host.rng.pick(&[0x20, 0xEC, 0xE4]) };
-    host.put(7, 0x90);
-    host.put(7, opcode);
-    match state {
-        State::InLow | State::OutLow => host.data_byte(0),
-        State::InHigh | State::OutHigh if host.wide_map() => host.data_byte(9),
-        _ => {}
-    }
-}
-
-/// Can the state be reached in the map?
-fn possible(map: u8, state: State) -> bool {
-    match state {
-        State::InHigh | State::OutHigh => map < 2,
-        State::Sreset => map < 4,
-        _ => true,
-    }
 }
 
 // ---------------------------------------------------------------- groups
@@ -190,6 +79,27 @@ fn one_opcode(host: &mut Host, map: u8, state: State, opcode: u8) {
     }
     host.transfer(3, Style::Mixed);
     host.sense();
+}
+
+const STATES: [State; 9] = [
+    State::Idle,
+    State::In,
+    State::Out,
+    State::InLow,
+    State::InHigh,
+    State::OutLow,
+    State::OutHigh,
+    State::Hold,
+    State::Sreset,
+];
+
+/// Can the state be reached in the map?
+fn possible(map: u8, state: State) -> bool {
+    match state {
+        State::InHigh | State::OutHigh => map < 2,
+        State::Sreset => map < 4,
+        _ => true,
+    }
 }
 
 /// Every edge address of every space in every map and state.
