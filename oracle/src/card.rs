@@ -2,7 +2,7 @@
 
 use crate::cover;
 use crate::maps::{self, Mode, Place};
-use crate::mutants::on;
+use crate::mutants::{on, Change};
 use crate::points::BadForm;
 
 #[derive(Clone, Copy, PartialEq, Eq, Debug)]
@@ -197,7 +197,7 @@ impl Card {
         self.sectors = false;
         self.left = 0;
         self.words = 0;
-        if !on(56) {
+        if !on(Change::HalfOutlives) {
             self.half = Half::Nothing;
         }
     }
@@ -207,7 +207,7 @@ impl Card {
     }
 
     pub fn index(&self) -> u8 {
-        self.setting & if on(53) { 0x7F } else { 0x3F }
+        self.setting & if on(Change::IndexOfSevenBits) { 0x7F } else { 0x3F }
     }
 
     pub fn lba(&self) -> bool {
@@ -216,7 +216,7 @@ impl Card {
 
     /// The line is up: mark set, bit 1 clear.
     pub fn line(&self) -> bool {
-        self.mark && (!self.mask || on(4))
+        self.mark && (!self.mask || on(Change::MaskedLineUp))
     }
 
     /// One access.
@@ -227,7 +227,7 @@ impl Card {
             Ok(place) if a.write => self.write(place, a, lent),
             Ok(place) => answer.value = self.read(place, a, lent),
         }
-        answer.line = self.line() && (answer.number == 0 || !on(55));
+        answer.line = self.line() && (answer.number == 0 || !on(Change::RefusedLineDown));
         cover::answer(answer.number, answer.line, self.mark && self.mask);
         answer
     }
@@ -252,7 +252,7 @@ fn wrong_length(geometry: Geometry, lent: &Lent) -> u8 {
     let n = geometry.sectors() as usize;
     if lent.store.len() != 512 * n {
         2
-    } else if lent.marks.len() != n && !on(5) {
+    } else if lent.marks.len() != n && !on(Change::MarksLengthIgnored) {
         3
     } else if lent.tuples.len() != 256 {
         5
@@ -325,7 +325,8 @@ impl Card {
         if let [only] = broken[..] {
             cover::condition(only, self);
         }
-        broken == [Condition::Status] && on(6) || broken == [Condition::Sectors] && on(7)
+        broken == [Condition::Status] && on(Change::StatusIgnored)
+            || broken == [Condition::Sectors] && on(Change::SectorsIgnored)
     }
 
     fn current_c_agrees(&self) -> bool {
@@ -364,7 +365,8 @@ impl Card {
         if wrong != 0 {
             return Err(wrong);
         }
-        let spared = a.space == maps::ATTRIBUTE && (a.address == 0x200 || on(54));
+        let spared =
+            a.space == maps::ATTRIBUTE && (a.address == 0x200 || on(Change::SresetSparesAttribute));
         if self.sreset && !spared {
             return Err(8);
         }
@@ -389,7 +391,8 @@ impl Card {
 
     /// Refusal 9: the width, a misplaced word, a byte write above 255.
     fn form(&self, place: Place, a: &Access) -> Result<(), u8> {
-        let data = matches!(place, Place::Register(0 | 8)) || on(8) && place == Place::Option;
+        let data = matches!(place, Place::Register(0 | 8))
+            || on(Change::WordAtOption) && place == Place::Option;
         let fault = match a.width {
             1 if a.write && a.value > 255 => BadForm::ByteValue,
             1 => return Ok(()),
@@ -439,10 +442,10 @@ pub fn moves(half: Half, touch: Touch) -> Option<Moves> {
         (Half::Nothing, Touch::Even) => Some(Moves::Low),
         (Half::Nothing, Touch::Odd) => Some(Moves::High),
         (Half::Nothing, Touch::Word) => Some(Moves::Both),
-        (Half::Low, Touch::Odd) if on(9) => None,
+        (Half::Low, Touch::Odd) if on(Change::OddAfterLowRefused) => None,
         (Half::Low, Touch::Even | Touch::Odd) => Some(Moves::High),
         (Half::High, Touch::Even) => Some(Moves::Low),
-        (_, Touch::Word) if on(10) => Some(Moves::Both),
+        (_, Touch::Word) if on(Change::WordAfterHalf) => Some(Moves::Both),
         (Half::High, Touch::Odd) | (_, Touch::Word) => None,
     }
 }

@@ -2,7 +2,7 @@
 
 use crate::card::{Card, Geometry, Lent, Phase, DATA, FAILED, FAULT, IDLE};
 use crate::cover;
-use crate::mutants::on;
+use crate::mutants::{on, Change};
 
 pub const ABRT: u8 = 0x04;
 pub const IDNF: u8 = 0x10;
@@ -56,7 +56,7 @@ impl Card {
     pub fn command(&mut self, opcode: u8, lent: &mut Lent) {
         let row = row(opcode);
         cover::command(self, opcode, row);
-        if on(22) && self.phase == Phase::Out && self.sectors {
+        if on(Change::DropStores) && self.phase == Phase::Out && self.sectors {
             self.store_buffer(lent);
         }
         self.mark = false;
@@ -64,7 +64,7 @@ impl Card {
         if row == Row::Sense {
             return self.sense();
         }
-        if row != Row::Recalibrate || !on(23) {
+        if row != Row::Recalibrate || !on(Change::RecalibrateLeavesError) {
             self.error = 0;
         }
         self.code = 0;
@@ -120,12 +120,12 @@ impl Card {
     fn sense(&mut self) {
         self.error = self.code;
         cover::sense(self.code);
-        if on(24) {
+        if on(Change::SenseClearsCode) {
             self.code = 0;
         }
         let status = self.status;
         self.stop_transfer();
-        self.status = if on(25) { status } else { IDLE };
+        self.status = if on(Change::SenseLeavesStatus) { status } else { IDLE };
         self.mark = true;
         cover::end(Row::Sense, false, 0, 0);
     }
@@ -135,8 +135,8 @@ impl Card {
         self.sector = 1;
         self.cyl_low = 0;
         self.cyl_high = 0;
-        self.head &= if on(26) { 0x40 } else { 0 };
-        if on(57) {
+        self.head &= if on(Change::DiagnoseLeavesLba) { 0x40 } else { 0 };
+        if on(Change::DiagnoseForgetsGeometry) {
             self.current = self.default;
         }
         self.good(Row::Diagnose);
@@ -147,7 +147,7 @@ impl Card {
         let s = self.count as u16;
         let h = (self.head & 0x0F) as u16 + 1;
         let track = (h * s) as u64;
-        let all = if on(58) { self.current } else { self.default };
+        let all = if on(Change::ParametersByCurrent) { self.current } else { self.default };
         if s == 0 || track > all.sectors() {
             return self.fail(Row::Parameters, FAILED, ABRT, 0x21);
         }
@@ -166,7 +166,7 @@ impl Card {
 
     /// Seek's test in CHS: head and cylinder only.
     fn track(&self) -> Result<(), u8> {
-        if on(27) {
+        if on(Change::SeekBySector) {
             return self.locate().map(|_| ());
         }
         if (self.head & 0x0F) as u16 >= self.current.h {
@@ -197,13 +197,13 @@ impl Card {
     /// The sector that the registers name, or the code of the address error.
     pub fn locate(&self) -> Result<usize, u8> {
         if self.lba() {
-            let of = if on(28) { self.current } else { self.default };
+            let of = if on(Change::LbaByCurrent) { self.current } else { self.default };
             let lba = self.lba_number();
             return if (lba as u64) < of.sectors() { Ok(lba as usize) } else { Err(0x2F) };
         }
-        let g = if on(29) { self.default } else { self.current };
+        let g = if on(Change::ChsByDefault) { self.default } else { self.current };
         let (c, h, s) = (self.cylinder(), (self.head & 0x0F) as u16, self.sector as u16);
-        if on(30) && c >= g.c {
+        if on(Change::CylinderFirst) && c >= g.c {
             return Err(0x2F);
         }
         if h >= g.h || s < 1 || s > g.s {
@@ -222,7 +222,7 @@ impl Card {
             cover::lba_carry(next);
             let [sector, low, high, head] = next.to_le_bytes();
             self.sector = sector;
-            if !on(31) {
+            if !on(Change::NoLbaCarry) {
                 (self.cyl_low, self.cyl_high) = (low, high);
             }
             self.head = self.head & 0xF0 | head & 0x0F;
@@ -242,11 +242,11 @@ impl Card {
             self.head += 1;
             return;
         }
-        self.head &= if on(59) { 0xE0 } else { 0xF0 };
+        self.head &= if on(Change::CylinderClearsDrive) { 0xE0 } else { 0xF0 };
         let high = self.cyl_high;
         self.set_cylinder(self.cylinder().wrapping_add(1));
         cover::cylinder_carry(high, self.cyl_high);
-        if on(32) {
+        if on(Change::NoCylinderCarry) {
             self.cyl_high = high;
         }
     }
@@ -257,7 +257,7 @@ impl Card {
 impl Card {
     fn sector_command(&mut self, row: Row, lent: &mut Lent) {
         self.left = match self.count {
-            0 if on(33) => 1,
+            0 if on(Change::CountZeroIsOne) => 1,
             0 => 256,
             n => n as u16,
         };
@@ -306,7 +306,7 @@ impl Card {
                 return false;
             }
         };
-        if on(34) {
+        if on(Change::EraseByBuffer) {
             self.buffer = [0xFF; 512];
         }
         self.put_sector(Row::Erase, at, &[0xFF; 512], lent)
@@ -320,9 +320,9 @@ impl Card {
                 cover::mark(row, lent.marks[at]);
                 let bad = match lent.marks[at] {
                     0 => false,
-                    2 => on(35),
+                    2 => on(Change::MarkTwoUnreadable),
                     1 => true,
-                    _ => !on(36),
+                    _ => !on(Change::MarkAboveSound),
                 };
                 if !bad {
                     return Some(at);
@@ -334,7 +334,7 @@ impl Card {
     }
 
     fn unreadable(&mut self, row: Row) {
-        if on(37) {
+        if on(Change::FailedReadClears) {
             self.buffer = [0; 512];
         }
         self.fail(row, FAILED, UNC, 0x11);
@@ -348,7 +348,7 @@ impl Card {
             return false;
         }
         lent.store[512 * at..512 * at + 512].copy_from_slice(bytes);
-        if !on(38) {
+        if !on(Change::WriteLeavesMark) {
             lent.marks[at] = 0;
         }
         true
@@ -368,10 +368,12 @@ impl Card {
     }
 
     fn good_sectors(&mut self, row: Row) {
-        if on(39) {
+        if on(Change::EndNamesNext) {
             self.advance();
         }
-        if row == Row::Read && !on(40) || row == Row::Verify && on(60) {
+        if row == Row::Read && !on(Change::ReadEndMarks)
+            || row == Row::Verify && on(Change::VerifyEndUnmarked)
+        {
             self.good_read(row);
         } else {
             self.good(row);
@@ -410,7 +412,7 @@ impl Card {
         if self.store_buffer(lent) && !self.one_done(Row::Write) {
             self.ask_sector();
             // A second or later sector is asked for; an error end sets the mark as well.
-            self.mark |= !on(41);
+            self.mark |= !on(Change::SecondSectorUnmarked);
         }
     }
 
@@ -444,14 +446,18 @@ impl Card {
         let low = |x: u32| x as u16;
         w[0] = 0x848A;
         (w[1], w[3], w[6]) = (all.c, all.h, all.s);
-        (w[7], w[8]) = if on(42) { (low(n), high(n)) } else { (high(n), low(n)) };
+        (w[7], w[8]) = if on(Change::TotalSwapped) { (low(n), high(n)) } else { (high(n), low(n)) };
         for blank in (10..=19).chain(23..=46) {
             w[blank] = 0x2020;
         }
         w[49] = 0x0200;
         w[53] = 1;
         (w[54], w[55], w[56]) = (now.c, now.h, now.s);
-        (w[57], w[58]) = if on(43) { (low(n), high(n)) } else { (low(capacity), high(capacity)) };
+        (w[57], w[58]) = if on(Change::CapacityIsTotal) {
+            (low(n), high(n))
+        } else {
+            (low(capacity), high(capacity))
+        };
         (w[60], w[61]) = (low(n), high(n));
         w
     }

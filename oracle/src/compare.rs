@@ -11,7 +11,7 @@ use std::time::Duration;
 use crate::cover::{self, By};
 use crate::cover_table;
 use crate::inputs::Case;
-use crate::mutants::{switch, CHANGES};
+use crate::mutants::{switch, Change};
 use crate::session_inputs;
 use crate::session_player;
 use crate::trial_inputs;
@@ -239,26 +239,26 @@ pub fn mutants(seed: u64) -> bool {
         let halves = [0, 1].map(|odd| {
             let suites = &suites;
             scope.spawn(move || {
-                let numbers = (1..=CHANGES.len()).filter(|n| n % 2 == odd);
-                numbers.map(|n| (n, find(n, suites))).collect::<Vec<_>>()
+                let places = (0..Change::TABLE.len()).filter(|i| i % 2 == odd);
+                places.map(|i| (i, find(Change::TABLE[i].0, suites))).collect::<Vec<_>>()
             })
         });
         let mut all: Vec<_> = halves.into_iter().flat_map(|h| h.join().unwrap()).collect();
         all.sort();
         all.into_iter().map(|(_, f)| f).collect()
     });
-    for (i, f) in found.iter().enumerate() {
+    for (i, (f, (_, says))) in found.iter().zip(Change::TABLE).enumerate() {
         let by = f.as_deref().unwrap_or("NOT FOUND");
-        println!("{:2} {}: {by}", i + 1, CHANGES[i]);
+        println!("{:2} {says}: {by}", i + 1);
     }
     let passed = found.iter().flatten().count();
     println!("{passed} passed, {} failed", found.len() - passed);
     passed == found.len()
 }
 
-/// The inputs that tell a mutant from this program.
-fn find(number: usize, suites: &[Suite]) -> Option<String> {
-    switch(number);
+/// The first input that tells a changed program from this one.
+fn find(change: Change, suites: &[Suite]) -> Option<String> {
+    switch(Some(change));
     let mut first = None;
     for suite in suites {
         let by =
@@ -268,7 +268,7 @@ fn find(number: usize, suites: &[Suite]) -> Option<String> {
             break;
         }
     }
-    switch(0);
+    switch(None);
     first
 }
 

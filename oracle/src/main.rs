@@ -12,6 +12,7 @@ mod host;
 mod inputs;
 mod maps;
 mod mutants;
+mod names;
 mod points;
 mod registers;
 mod rng;
@@ -27,6 +28,8 @@ mod tuples;
 
 use std::io::{Read, Write};
 use std::process::ExitCode;
+
+use mutants::Change;
 
 const USAGE: &str = "usage: oracle play < SESSION
        oracle trial < TRIAL
@@ -86,7 +89,8 @@ fn number(name: &str, usual: u64, most: u64) -> Result<u64, String> {
 
 /// Standard input through a player, with one of the small changes if the environment names one.
 fn played(play: fn(&[u8]) -> String) -> Result<bool, String> {
-    mutants::switch(number("ORACLE_MUTANT", 0, mutants::CHANGES.len() as u64)? as usize);
+    let number = number("ORACLE_MUTANT", 0, Change::TABLE.len() as u64)? as usize;
+    mutants::switch(number.checked_sub(1).map(|i| Change::TABLE[i].0));
     Ok(filter(play))
 }
 

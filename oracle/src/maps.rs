@@ -1,6 +1,6 @@
 //! The register maps of 01: which place an address of a space names.
 
-use crate::mutants::on;
+use crate::mutants::{on, Change};
 
 #[derive(Clone, Copy, PartialEq, Eq, Debug)]
 pub enum Mode {
@@ -40,7 +40,7 @@ pub fn find(mode: Mode, index: u8, space: u8, address: u16) -> Result<Place, u8>
 pub fn answers(mode: Mode, index: u8, space: u8) -> bool {
     let pc = mode == Mode::PcCard;
     match space {
-        ATTRIBUTE => pc || on(1),
+        ATTRIBUTE => pc || on(Change::AttributeInIde),
         MEMORY => pc && index == 0,
         IO => pc && (1..=3).contains(&index),
         TRUE_IDE => !pc,
@@ -59,7 +59,7 @@ fn attribute(address: u16) -> Option<Place> {
 fn memory(address: u16) -> Option<u8> {
     match address {
         0x000..=0x3FF => low_bits(address),
-        0x400..=0x7FF if on(2) => low_bits(address),
+        0x400..=0x7FF if on(Change::WindowByLowBits) => low_bits(address),
         0x400..=0x7FF => Some(8 + (address % 2) as u8),
         _ => None,
     }
@@ -68,7 +68,7 @@ fn memory(address: u16) -> Option<u8> {
 fn io(index: u8, address: u16) -> Option<u8> {
     match index {
         1 if address <= 0x7FF => low_bits(address),
-        2 if on(3) => pair(address & 0x3FF, 0x1F0, 0x3F6),
+        2 if on(Change::HighLinesIgnored) => pair(address & 0x3FF, 0x1F0, 0x3F6),
         2 => pair(address, 0x1F0, 0x3F6),
         3 => pair(address, 0x170, 0x376),
         _ => None,

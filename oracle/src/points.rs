@@ -2,6 +2,7 @@
 
 use crate::card::{Half, Phase, Touch};
 use crate::commands::Row;
+use crate::names::named;
 
 /// One point. Each group of the table has its own sort.
 #[derive(Clone, Copy, PartialEq, Eq, Hash, Debug)]
@@ -96,21 +97,6 @@ pub const COMMANDS: [(Row, &str); 13] = [
 
 /// The codes that 01 gives.
 pub const CODES: [u8; 6] = [0x00, 0x20, 0x21, 0x2F, 0x03, 0x11];
-
-/// An enum of points, and the table of what is said of each.
-macro_rules! named {
-    ($(#[$about:meta])* $group:ident { $($point:ident: $says:literal),* $(,)? }) => {
-        $(#[$about])*
-        #[derive(Clone, Copy, PartialEq, Eq, Hash, Debug)]
-        pub enum $group {
-            $($point),*
-        }
-
-        impl $group {
-            pub const TABLE: &'static [($group, &'static str)] = &[$(($group::$point, $says)),*];
-        }
-    };
-}
 
 named! {
     /// How a command ends: the bit of Error or Status, and the code.

@@ -3,7 +3,7 @@
 use crate::card::{moves, touch, Access, Card, Half, Lent, Moves, Phase, Touch, IDLE};
 use crate::cover;
 use crate::maps::Place;
-use crate::mutants::on;
+use crate::mutants::{on, Change};
 
 impl Card {
     pub fn read(&mut self, place: Place, a: &Access, lent: &mut Lent) -> u16 {
@@ -29,11 +29,11 @@ impl Card {
 
     fn read_register(&mut self, offset: u8, a: &Access, lent: &mut Lent) -> u16 {
         cover::register(self, offset, a);
-        if offset == 7 || offset == 0xE && on(11) {
+        if offset == 7 || offset == 0xE && on(Change::AlternateStatusClears) {
             self.mark = false;
         }
         if self.hold {
-            return if a.width == 2 && !on(12) { 0x8080 } else { 0x80 };
+            return if a.width == 2 && !on(Change::HeldWordByte) { 0x8080 } else { 0x80 };
         }
         if let Some(touch) = touch(offset, a.width) {
             return self.read_data(touch, lent);
@@ -55,7 +55,7 @@ impl Card {
     }
 
     fn drive_address(&self) -> u8 {
-        let writing = self.phase == Phase::Out && (self.sectors || !on(13));
+        let writing = self.phase == Phase::Out && (self.sectors || !on(Change::BufferWriteGate));
         let drive_1 = self.head & 0x10 != 0;
         let head = (!self.head & 0x0F) << 2;
         let drive = if drive_1 { 0x01 } else { 0x02 };
@@ -77,7 +77,9 @@ impl Card {
         }
         match offset {
             7 => self.command(value, lent),
-            2..=6 if !self.running() || on(14) => self.set_register(offset, value),
+            2..=6 if !self.running() || on(Change::WritesWithDrq) => {
+                self.set_register(offset, value)
+            }
             _ => {}
         }
     }
@@ -117,16 +119,16 @@ impl Card {
             (true, false) => self.leave_sreset(setting),
             _ => self.setting = setting,
         }
-        if on(17) && self.running() {
+        if on(Change::MapEndsTransfer) && self.running() {
             self.enter_reset();
         }
     }
 
     fn leave_sreset(&mut self, setting: u8) {
         let (hold, buffer) = (self.hold, self.buffer);
-        self.power_on(if on(15) { 0 } else { setting });
-        self.hold = hold && on(16);
-        if on(18) {
+        self.power_on(if on(Change::SresetForgetsIndex) { 0 } else { setting });
+        self.hold = hold && on(Change::SresetLeavesHold);
+        if on(Change::SresetLeavesBuffer) {
             self.buffer = buffer;
         }
     }
@@ -148,13 +150,13 @@ impl Card {
         let (code, current) = (self.code, self.current);
         self.power_on_registers();
         self.hold = false;
-        if on(19) {
+        if on(Change::HoldLeavesCode) {
             self.code = code;
         }
-        if on(20) {
+        if on(Change::HoldLeavesGeometry) {
             self.current = current;
         }
-        if on(21) {
+        if on(Change::HoldClearsBuffer) {
             self.buffer = [0; 512];
         }
     }

@@ -4,7 +4,7 @@ use std::fmt::Write;
 
 use crate::card::{Access, Card, Geometry, Lent};
 use crate::cover;
-use crate::mutants::on;
+use crate::mutants::{on, Change};
 use crate::points::Break;
 
 /// Bytes of a file that is run.
@@ -21,7 +21,7 @@ pub enum Record {
 pub fn play(file: &[u8]) -> String {
     let mut text = String::from("n op answer value\n");
     if file.len() > LONGEST {
-        bad(if on(47) { file.len() } else { LONGEST }, Break::TooLong, &mut text);
+        bad(if on(Change::LongAtLength) { file.len() } else { LONGEST }, Break::TooLong, &mut text);
     } else {
         run(file, &mut text);
     }
@@ -71,17 +71,19 @@ fn steps(file: &[u8], mut card: Card, lent: &mut Lent, text: &mut String) {
                 place += length;
                 continue;
             }
-            Err(why) => return bad(if on(48) { place + 2 } else { place }, why, text),
+            Err(why) => {
+                return bad(if on(Change::BrokenAtKind) { place + 2 } else { place }, why, text)
+            }
         };
         let answer = card.access(lent, &access);
-        if answer.number == 0 || !on(49) {
+        if answer.number == 0 || !on(Change::RefusedUncounted) {
             number += 1;
         }
         let value = match (answer.number, access.write) {
             (0, true) => access.value,
             (0, false) => answer.value,
             (_, write) => {
-                if write && on(50) {
+                if write && on(Change::RefusedValue) {
                     access.value
                 } else {
                     0
@@ -115,7 +117,7 @@ pub fn record(rest: &[u8], first: bool) -> Result<(Record, usize), Break> {
     };
     match (first, kind) {
         (true, 2 | 3) => return Err(Break::OpeningMissing),
-        (false, 1) if !on(51) => return Err(Break::SecondOpening),
+        (false, 1) if !on(Change::SecondOpeningPassed) => return Err(Break::SecondOpening),
         _ => {}
     }
     if length != right {
@@ -141,7 +143,7 @@ fn access(body: &[u8], write: bool) -> Result<Access, Break> {
     if !(1..=2).contains(&width) {
         return Err(if write { Break::WriteWidth } else { Break::ReadWidth });
     }
-    if width == 1 && value > 255 && !on(52) {
+    if width == 1 && value > 255 && !on(Change::LargeByteTaken) {
         return Err(Break::ByteValue);
     }
     Ok(Access { space, width, write, address, value })

@@ -1,7 +1,7 @@
 //! The tuple reader and writer of 01.
 
 use crate::cover;
-use crate::mutants::on;
+use crate::mutants::{on, Change};
 
 #[derive(Clone, Copy, PartialEq, Eq, Debug, Default)]
 pub struct Entry {
@@ -17,7 +17,7 @@ pub fn read(buffer: &[u8], list: &mut [Entry]) -> Result<u16, u8> {
     let entries = found?;
     cover::places(list.len(), entries.len());
     list[..entries.len()].copy_from_slice(&entries);
-    if on(61) {
+    if on(Change::ReaderClearsRest) {
         list[entries.len()..].fill(Entry::default());
     }
     Ok(entries.len() as u16)
@@ -29,7 +29,7 @@ fn check_read(buffer: &[u8], places: usize) -> Result<Vec<Entry>, u8> {
         return Err(5);
     }
     if places < 127 {
-        return Err(if on(44) && walk(buffer).is_none() { 13 } else { 16 });
+        return Err(if on(Change::ReaderChainFirst) && walk(buffer).is_none() { 13 } else { 16 });
     }
     walk(buffer).ok_or(13)
 }
@@ -60,7 +60,7 @@ pub fn write(list: &[Entry], bodies: &[u8], buffer: &mut [u8]) -> Result<(), u8>
     let checked = check_write(list, bodies, buffer.len());
     cover::tuples(true, checked.err());
     checked?;
-    if !on(62) {
+    if !on(Change::WriterLeavesRest) {
         buffer.fill(0xFF);
     }
     let mut at = 0;
@@ -80,13 +80,13 @@ fn check_write(list: &[Entry], bodies: &[u8], buffer: usize) -> Result<(), u8> {
         return Err(5);
     }
     let total: usize = list.iter().map(|e| 2 + e.length as usize).sum();
-    if on(45) && total > 255 {
+    if on(Change::WriterLengthFirst) && total > 255 {
         return Err(14);
     }
     if list.iter().any(|e| !can_be_written(e, bodies.len())) {
         return Err(15);
     }
-    if total > 255 && !(on(46) && total == 256) {
+    if total > 255 && !(on(Change::WriterFull) && total == 256) {
         return Err(14);
     }
     Ok(())
@@ -94,7 +94,7 @@ fn check_write(list: &[Entry], bodies: &[u8], buffer: usize) -> Result<(), u8> {
 
 fn can_be_written(e: &Entry, bodies: usize) -> bool {
     let end = e.start as usize + e.length as usize;
-    let inside = end <= bodies && !(on(63) && e.start as usize == bodies);
+    let inside = end <= bodies && !(on(Change::EmptyBodyRefused) && e.start as usize == bodies);
     cover::entry(e.code, e.length, end, inside);
     e.code != 0 && e.code != 0xFF && inside
 }
