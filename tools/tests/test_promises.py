@@ -1,13 +1,13 @@
 """docs/PROMISES.md: a line for every public function, with two wrong programs and the needs that refuse them, and a line for every must-fail edit.
 
-The functions stand in a chapter for each crate, in the order of crates.txt. In what refuses a program, a function after `of` is one of the crate, and
-a law stands where it says (named.py has the form).
+The functions stand in a chapter for each crate, in the order of crates.txt; the names in a function's line are definitions or the lemmas of OnlyOne.
+In what refuses a program, a function after `of` is one of the crate, and a law stands where it says (named.py has the form).
 """
 import glob
 import os
 import re
 
-from named import Told, in_code, read
+from named import Told, in_code, in_definitions, read
 
 PAGE = "docs/PROMISES.md"
 EDITS = "Where a must-fail edit is refused"
@@ -35,15 +35,20 @@ def chapters(page):
 
 
 def functions_told(lines):
-    """Each function's name with its wrong programs."""
+    """Each function's name with the names in its line, and its wrong programs."""
     told = []
     for line in lines:
-        found = re.match(r"- `([\w:]+)`: .", line)
+        found = re.match(r"- `([\w:]+)`: (.+)", line)
         if found:
-            told.append((found[1], []))
+            told.append((found[1], re.findall(r"`([A-Za-z][\w-]*)`", found[2]), []))
         elif re.match(r"  - .", line) and told:
-            told[-1][1].append(line)
+            told[-1][2].append(line)
     return told
+
+
+def defined(name):
+    """A definition of some crate, or a lemma of its OnlyOne."""
+    return any(in_definitions(read(path), name) for pattern in ("specs/*", "proofs/OnlyOne") for path in glob.glob(f"crates/*/{pattern}.antt"))
 
 
 def in_crate(crate, name):
@@ -66,12 +71,13 @@ def promised(promise):
 
 def crate_faults(crate, lines):
     told, wanted = functions_told(lines), public_functions(crate)
-    names = [name for name, _ in told]
+    names = [name for name, _, _ in told]
     faults = [f"{crate}: `{name}` has no ensures, or a requires" for name, promise in wanted.items() if not promised(promise)]
     faults += [f"{crate}: no line for `{name}`" for name in wanted if name not in names]
     faults += [f"{crate}: there is no public `{name}`" for name in names if name not in wanted]
     faults += [f"{crate}: two lines for `{name}`" for name in sorted(set(names)) if names.count(name) > 1]
-    for name, wrong in told:
+    for name, definitions, wrong in told:
+        faults += [f"{crate}: `{name}`: there is no definition `{word}`" for word in definitions if not defined(word)]
         faults += [] if len(wrong) == 2 else [f"{crate}: `{name}` has {len(wrong)} wrong programs"]
         for line in wrong:
             found = re.match(r"  - .+?: ([^:]*`.+)$", line)
@@ -110,6 +116,8 @@ def page_faults(page, order, there):
     for line in page.splitlines():
         if not re.match(r" *- ", line):
             told.look_up("text", line, placed=True)
+        if line.startswith("| `"):
+            faults += [f"text: there is no definition `{word}`" for word in re.findall(r"`(\w+)[^`]*`", line.split(" | ")[0]) if not defined(word)]
     return faults + told.faults + edit_faults(parts.get(EDITS, []), there)
 
 
@@ -122,8 +130,9 @@ def test_every_public_function_and_every_edit_has_its_line():
 
 
 RIGHT = """`A lemma`: ground/proofs/OnlyOne `only-one`
+| `answered r store marks` | a lemma |
 ## answers
-- `Refusal::number`: a number.
+- `Refusal::number`: `numberOf` (`only-both`).
   - another: `returns`
   - none: `returns-2` of `Refusal::number`
 - `Outcome::number`: a number.
@@ -138,6 +147,9 @@ RIGHT = """`A lemma`: ground/proofs/OnlyOne `only-one`
 """
 # What is changed in it, and what is to be told.
 WRONG = {
+    ("`answered r", "`questioned r"): "text: there is no definition `questioned`",
+    ("`numberOf`", "`numbersOf`"): "answers: `Refusal::number`: there is no definition `numbersOf`",
+    ("`only-both`", "`only-three`"): "answers: `Refusal::number`: there is no definition `only-three`",
     ("`only-one`", "`only-two`"): "text: no `only-two` in crates/ground/proofs/OnlyOne.antt",
     ("- `Outcome::value`: a value", "- `Outcome::worth`: a value"): "answers: no line for `Outcome::value`",
     ("- `Outcome::number`: a number", "- `Refusal::number`: a number"): "answers: two lines for `Refusal::number`",
