@@ -42,8 +42,14 @@ class Rows(Told):
         return number, letter
 
 
+def decisions_in(page):
+    """`**D1.** …`, or `**D2** (also D3, D4). …`, with anchors before it or none."""
+    heads = re.findall(r"^(?:<a [^>]*></a>)*\*\*(D\d+)(?:\.\*\*|\*\* \(also ([D\d, ]+)\)\.)", page, re.M)
+    return {number for head in heads for part in head for number in re.findall(r"D\d+", part)}
+
+
 def decisions():
-    return {number for page in DECISIONS if os.path.exists(page) for number in re.findall(r"^\*\*(D\d+)\.\*\*", read(page), re.M)}
+    return {number for page in DECISIONS if os.path.exists(page) for number in decisions_in(read(page))}
 
 
 def looked_up(page, known):
@@ -117,3 +123,8 @@ def test_what_is_wrong_in_rules_is_told():
     for (old, new), fault in WRONG.items():
         assert RIGHT.count(old) == 1, old
         assert fault in looked_up(RIGHT.replace(old, new), {"D1"}).faults, (new, looked_up(RIGHT.replace(old, new), {"D1"}).faults)
+
+
+def test_decisions_are_found_by_their_first_words():
+    page = '**D1.** One.\n<a id="d2"></a><a id="d3"></a>**D2** (also D3, D41). Two, as in D5.\n| D6 |\nSee **D7.**\n<a id="d8"></a>**D8.** Three.\n'
+    assert decisions_in(page) == {"D1", "D2", "D3", "D41", "D8"}, decisions_in(page)
