@@ -9,6 +9,8 @@ Up to the next `;`, a place holds for the names in backticks after it:
 A name is a definition, law, record, field or case that begins its own line there, in code a function (`T::f` in an `impl T`), enum, struct or
 variant. Words after it, as in `obeyed Sense`, stand in its text. A name with no place before it is a crate or a path from the root.
 """
+import functools
+import glob
 import os
 import re
 
@@ -56,15 +58,28 @@ def in_code(text, name):
     return None
 
 
+def stands_in(path, name):
+    return (in_code if path.endswith(".rt") else in_definitions)(read(path), name) if os.path.exists(path) else None
+
+
+@functools.lru_cache
+def elsewhere(crate, name):
+    """Where else the name stands: in files of the crate, or if in none, of any."""
+    for crates in (crate, "*"):
+        paths = [path for pattern in ("specs/*.antt", "proofs/*.antt", "src/*.rt") for path in sorted(glob.glob(f"crates/{crates}/{pattern}"))]
+        found = [path for path in paths if stands_in(path, name)]
+        if found:
+            return ", but in " + ", ".join(found)
+    return ""
+
+
 def name_fault(name, place):
     """What is wrong in a name at a place, or None."""
     path = path_of(place)
-    if not os.path.exists(path):
-        return None  # told once, of the place
     name, *words = name.split()
-    found = (in_code if path.endswith(".rt") else in_definitions)(read(path), name)
+    found = stands_in(path, name)
     if found is None:
-        return f"no `{name}` in {path}"
+        return f"no `{name}` in {path}{elsewhere(place.split('/')[0], name)}"
     for word in words:
         if not re.search(rf"(?<![\w-]){re.escape(word)}(?![\w-])", found):
             return f"no {word} in `{name}` of {path}"

@@ -95,11 +95,11 @@ What is refused: answers/Answers `refused`.
 """
 # What is changed in it, and what is to be told.
 WRONG = {
-    ("`refused`", "`accepted`"): "Answers: no `accepted` in crates/answers/specs/Answers.antt",
+    ("`refused`", "`refuted`"): "Answers: no `refuted` in crates/answers/specs/Answers.antt",
     ("`numberOf StoreLength`", "`numbersOf`"): "R1: no `numbersOf` in crates/answers/specs/Answers.antt",
     ("`numberOf StoreLength`", "`outcomeValue StoreLength`"): "R1: no StoreLength in `outcomeValue` of crates/answers/specs/Answers.antt",
     ("answers/Rows `FirstRow`", "answers/Columns `FirstRow`"): "R1: there is no crates/answers/specs/Columns.antt",
-    ("answers/Rows `FirstRow`", "answers/Answers `FirstRow`"): "R1: no `FirstRow` in crates/answers/specs/Answers.antt",
+    ("answers/Rows `FirstRow`", "answers/Answers `FirstRow`"): "R1: no `FirstRow` in crates/answers/specs/Answers.antt, but in crates/answers/specs/Rows.antt",
     ("`ground`", "`grounds`"): "R1: there is no grounds",
     ("`Refusal::number`", "`Refusal::value`"): "R1: no `Refusal::value` in crates/answers/src/lib.rt",
     ("`Accepted`", "`Excepted`"): "R2: no `Excepted` in crates/answers/src/lib.rt",
