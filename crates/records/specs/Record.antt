@@ -1,25 +1,34 @@
 -- 01, "Session file": "Records: total length (2 bytes), kind (2), body, all little-endian."
 use Prim.Native.Nat.{ℕ, _+_, _*_, _-_}
-use mathlib.Core.Bool.{Bool, true, false}
-use mathlib.Core.List.{List}
+use mathlib.Core.Bool.{Bool, false, _||_}
+use mathlib.Core.List.{List, [], _∷_, _++_}
 use lib.Dec.{eqb, leb, ltb}
 use lib.ListN.{length, getD}
 use Rattle.ground.specs.Choice.{pick}
+use Rattle.ground.specs.Rows.{Row, When, Unless, firstOf}
+use Rattle.maps.specs.declared.Access.{Access}
+use Rattle.records.specs.declared.Break.{Break}
 use Rattle.records.specs.declared.Break.the-variants.{DoesNotFit, Length, Kind, Misplaced, Space, Width, Value}
 use Rattle.records.specs.declared.Sizes.{Sizes}
-use Rattle.records.specs.declared.Asked.{Asked}
-use Rattle.records.specs.declared.Record.{Record}
-use Rattle.records.specs.declared.Record.the-variants.{Opening, Access, Broken}
 use Rattle.records.specs.declared.First.{First}
 use Rattle.records.specs.declared.After.{After}
 
 abbrev pub wordAt : List ℕ → ℕ → ℕ
 wordAt file at = getD file at 0 + 256 * getD file (at + 1) 0
 
--- "Kind 1 …: C, H, S, mode."
-abbrev pub sizesAt : List ℕ → ℕ → Sizes
-sizesAt file at =
-    record { cylinders = wordAt file (at + 4); heads = wordAt file (at + 6); sectors = wordAt file (at + 8); mode = wordAt file (at + 10) }
+abbrev pub kindAt : List ℕ → ℕ → ℕ
+kindAt file at = wordAt file (at + 2)
+
+-- length and kind
+abbrev pub headLength : ℕ
+headLength = 4
+
+-- "Kind 1, length 12 …: C, H, S, mode."
+abbrev pub openingLength : ℕ
+openingLength = 12
+
+abbrev pub sizesIn : List ℕ → Sizes
+sizesIn file = record { cylinders = wordAt file 4; heads = wordAt file 6; sectors = wordAt file 8; mode = wordAt file 10 }
 
 -- "Kind 2, length 10"; "Kind 3, length 8": the length of an access's record
 abbrev pub sizeOf : Bool → ℕ
@@ -29,56 +38,58 @@ sizeOf write = pick write 10 8
 abbrev pub valueAt : List ℕ → ℕ → Bool → ℕ
 valueAt file at write = pick write (wordAt file (at + 8)) 0
 
-abbrev pub askedAt : List ℕ → ℕ → Bool → Asked
-askedAt file at write = record { space = getD file (at + 4) 0; width = getD file (at + 5) 0; address = wordAt file (at + 6); value = valueAt file at write }
+abbrev pub accessIn : List ℕ → ℕ → Bool → Access
+accessIn file at write =
+    record { space = getD file (at + 4) 0; width = getD file (at + 5) 0; value = valueAt file at write; address = wordAt file (at + 6); write = write }
 
 -- "a byte value above 255"
 unfoldable pub valueAbove : ℕ → ℕ → Bool
 valueAbove width value = pick (eqb width 1) (ltb 255 value) false
 
--- "Broken: … any other … space or width, a byte value above 255"
-unfoldable pub fieldsTested : Bool → Asked → Record
-fieldsTested write a =
-    pick (leb (a .space) 3)
-    (pick (leb 1 (a .width))
-    (pick (leb (a .width) 2)
-    (pick (valueAbove (a .width) (a .value)) (Broken Value) (Access write a))
-    (Broken Width))
-    (Broken Width))
-    (Broken Space)
+-- ---- "Broken: …": the tests of a record, in their order
 
--- "Kind 1, length 12, first and once"
-unfoldable pub openingAt : List ℕ → ℕ → ℕ → Bool → Record
-openingAt file at size first = pick first (pick (eqb size 12) (Opening (sizesAt file at)) (Broken Length)) (Broken Misplaced)
+-- "or a record that doesn't fit": it has its length and its kind at least; a length below that leaves no place for a kind
+abbrev pub fitRows : ℕ → ℕ → List (Row Break)
+fitRows left size = When (ltb left headLength) DoesNotFit ∷ When (ltb left size) DoesNotFit ∷ When (ltb size headLength) Length ∷ []
 
--- an access, where no opening is due
-unfoldable pub accessAt : List ℕ → ℕ → ℕ → Bool → Bool → Record
-accessAt file at size write first =
-    pick first (Broken Misplaced) (pick (eqb size (sizeOf write)) (fieldsTested write (askedAt file at write)) (Broken Length))
+-- "any other … kind"
+abbrev pub kindRow : ℕ → Row Break
+kindRow kind = Unless (eqb kind 1 || eqb kind 2 || eqb kind 3) Kind
 
--- "Broken: … any other … kind"
-unfoldable pub kindAt : List ℕ → ℕ → ℕ → Bool → Record
-kindAt file at size first =
-    pick (eqb (wordAt file (at + 2)) 1) (openingAt file at size first)
-    (pick (eqb (wordAt file (at + 2)) 2) (accessAt file at size true first)
-    (pick (eqb (wordAt file (at + 2)) 3) (accessAt file at size false first)
-    (Broken Kind)))
+-- "an opening missing", "any other length": where an opening is due
+abbrev pub openingRows : ℕ → ℕ → List (Row Break)
+openingRows kind size = kindRow kind ∷ Unless (eqb kind 1) Misplaced ∷ Unless (eqb size openingLength) Length ∷ []
 
--- "or a record that doesn't fit": it has four bytes of length and kind at least; a length below 4 leaves no place for a kind
-unfoldable pub recordAt : List ℕ → ℕ → Bool → Record
-recordAt file at first =
-    pick (ltb (length file - at) 4) (Broken DoesNotFit)
-    (pick (ltb (length file - at) (wordAt file at)) (Broken DoesNotFit)
-    (pick (ltb (wordAt file at) 4) (Broken Length)
-    (kindAt file at (wordAt file at) first)))
+-- "or not first": where none is due
+abbrev pub afterRows : ℕ → List (Row Break)
+afterRows kind = kindRow kind ∷ When (eqb kind 1) Misplaced ∷ []
 
--- "an opening missing or not first"
-abbrev pub firstOf : Record → First
-firstOf (Opening s) = First.Opening s
-firstOf (Access write a) = First.Stop Misplaced
-firstOf (Broken b) = First.Stop b
+-- "any other length, … space or width, a byte value above 255"
+abbrev pub fieldRows : Access → List (Row Break)
+fieldRows a =
+    Unless (leb (a .space) 3) Space
+    ∷ Unless (leb 1 (a .width)) Width
+    ∷ Unless (leb (a .width) 2) Width
+    ∷ When (valueAbove (a .width) (a .value)) Value
+    ∷ []
 
-abbrev pub afterOf : Record → After
-afterOf (Opening s) = After.Stop Misplaced
-afterOf (Access write a) = After.Access write a
-afterOf (Broken b) = After.Stop b
+abbrev pub accessRows : ℕ → Access → List (Row Break)
+accessRows size a = Unless (eqb size (sizeOf (a .write))) Length ∷ fieldRows a
+
+-- ---- what stands there
+
+-- "Kind 1, … first and once": at the start of the file
+unfoldable pub firstRecord : List ℕ → First
+firstRecord file = firstOf (fitRows (length file) (wordAt file 0) ++ openingRows (kindAt file 0) (wordAt file 0)) First.Stop (First.Opening (sizesIn file))
+
+-- an access, if none of these tests breaks it
+abbrev pub tested : List (Row Break) → Access → After
+tested rows a = firstOf rows After.Stop (After.Access a)
+
+-- an access's record, by its kind: 2 is a write
+abbrev pub byKind : ℕ → List ℕ → ℕ → ℕ → After
+byKind kind file at size = tested (afterRows kind ++ accessRows size (accessIn file at (eqb kind 2))) (accessIn file at (eqb kind 2))
+
+-- after the opening
+unfoldable pub nextRecord : List ℕ → ℕ → After
+nextRecord file at = firstOf (fitRows (length file - at) (wordAt file at)) After.Stop (byKind (kindAt file at) file at (wordAt file at))

@@ -1,9 +1,15 @@
 // The records of a session file: what stands at a place of it, or the first test that breaks it (document 01, "Session file").
+use maps::Access;
 ghost use mathlib.Core.Path.{_≡_};
-ghost use mathlib.Core.Bool.{true};
+ghost use mathlib.Core.Bool.{_||_};
 ghost use Prim.Native.Nat.{_+_, _≤_};
 ghost use lib.ListN.{length};
-ghost use Rattle.records.specs.Record.{wordAt, valueAbove, fieldsTested, openingAt, sizeOf, valueAt, accessAt, kindAt, recordAt, firstOf, afterOf};
+ghost use lib.Dec.{eqb};
+ghost use Rattle.ground.specs.Choice.{pick};
+ghost use Rattle.ground.specs.Rows.{firstOf};
+ghost use Rattle.records.specs.declared.Break.the-variants.{Kind, Misplaced};
+ghost use Rattle.records.specs.declared.First.{First};
+ghost use Rattle.records.specs.Record.{wordAt, valueAbove, fieldRows, sizeOf, valueAt, accessIn, accessRows, tested, byKind, kindAt, nextRecord, openingRows, sizesIn, firstRecord};
 
 // Which test of a record, or of the whole file, broke it.
 pub enum Break {
@@ -26,29 +32,14 @@ pub struct Sizes {
     pub mode: u16,
 }
 
-// An access's fields; a read has the value 0.
-pub struct Asked {
-    pub space: u8,
-    pub width: u8,
-    pub address: u16,
-    pub value: u16,
-}
-
-// What stands at a place of the file; an access is a write or a read.
-pub enum Record {
-    Opening(Sizes),
-    Access(bool, Asked),
-    Broken(Break),
-}
-
-// What a record means where an opening is due, and after it.
+// What stands where an opening is due, and after it.
 pub enum First {
     Opening(Sizes),
     Stop(Break),
 }
 
 pub enum After {
-    Access(bool, Asked),
+    Access(Access),
     Stop(Break),
 }
 
@@ -70,44 +61,22 @@ fn value_above(width: u8, value: u16) -> bool
 }
 
 // The tests of an access's fields.
-fn fields_tested(write: bool, asked: Asked) -> Record
-    ensures { λ r. ⌜ r ≡ fieldsTested write asked ⌝ }
+fn fields_tested(access: Access) -> After
+    ensures { λ r. ⌜ r ≡ tested (fieldRows access) access ⌝ }
 {
-    if 3 < asked.space {
-        return Record::Broken(Break::Space);
+    if 3 < access.space {
+        return After::Stop(Break::Space);
     }
-    if asked.width < 1 {
-        return Record::Broken(Break::Width);
+    if access.width < 1 {
+        return After::Stop(Break::Width);
     }
-    if 2 < asked.width {
-        return Record::Broken(Break::Width);
+    if 2 < access.width {
+        return After::Stop(Break::Width);
     }
-    if value_above(asked.width, asked.value) {
-        return Record::Broken(Break::Value);
+    if value_above(access.width, access.value) {
+        return After::Stop(Break::Value);
     }
-    Record::Access(write, asked)
-}
-
-fn opening_at(file: &[u8], at: usize, size: u16, first: bool) -> Record
-    requires { ⌜ at + size ≤ length (now file) ⌝ }
-    ensures { λ r. ⌜ r ≡ openingAt (now (file .entry)) at size first ⌝ }
-{
-    if !first {
-        return Record::Broken(Break::Misplaced);
-    }
-    if size != 12 {
-        return Record::Broken(Break::Length);
-    }
-    let cylinders = word_at(file, at + 4);
-    let heads = word_at(file, at + 6);
-    let sectors = word_at(file, at + 8);
-    let mode = word_at(file, at + 10);
-    Record::Opening(Sizes {
-        cylinders: cylinders,
-        heads: heads,
-        sectors: sectors,
-        mode: mode,
-    })
+    After::Access(access)
 }
 
 // The length of an access's record.
@@ -131,117 +100,116 @@ fn value_at(file: &[u8], at: usize, write: bool) -> u16
     0
 }
 
-fn access_at(file: &[u8], at: usize, size: u16, write: bool, first: bool) -> Record
+// A write's or a read's record that fits, by its length.
+fn access_at(file: &[u8], at: usize, size: u16, write: bool) -> After
     requires { ⌜ at + size ≤ length (now file) ⌝ }
-    ensures { λ r. ⌜ r ≡ accessAt (now (file .entry)) at size write first ⌝ }
+    ensures { λ r. ⌜ r ≡ tested (accessRows size (accessIn (now (file .entry)) at write)) (accessIn (now (file .entry)) at write) ⌝ }
 {
-    if first {
-        return Record::Broken(Break::Misplaced);
-    }
     if size != size_of(write) {
-        return Record::Broken(Break::Length);
+        return After::Stop(Break::Length);
     }
     let space = file[at + 4];
     let width = file[at + 5];
     let address = word_at(file, at + 6);
     let value = value_at(file, at, write);
-    fields_tested(
-        write,
-        Asked {
-            space: space,
-            width: width,
-            address: address,
-            value: value,
-        },
-    )
+    fields_tested(Access {
+        space: space,
+        width: width,
+        value: value,
+        address: address,
+        write: write,
+    })
 }
 
 // By the kind of a record that fits.
-fn kind_at(file: &[u8], at: usize, size: u16, first: bool) -> Record
+fn kind_at(file: &[u8], at: usize, size: u16) -> After
     requires { ⌜ (4 ≤ size) × (at + size ≤ length (now file)) ⌝ }
-    ensures { λ r. ⌜ r ≡ kindAt (now (file .entry)) at size first ⌝ }
+    ensures { λ r. ⌜ r ≡ byKind (kindAt (now (file .entry)) at) (now (file .entry)) at size ⌝ }
 {
     let kind = word_at(file, at + 2);
     if kind == 1 {
-        return opening_at(file, at, size, first);
+        return After::Stop(Break::Misplaced);
     }
     if kind == 2 {
-        return access_at(file, at, size, true, first);
+        return access_at(file, at, size, true);
     }
     if kind == 3 {
-        return access_at(file, at, size, false, first);
+        return access_at(file, at, size, false);
     }
-    Record::Broken(Break::Kind)
+    After::Stop(Break::Kind)
 }
 
-// What stands at a place of any bytes, where an opening is due (`first`) or after it.
-pub fn record_at(file: &[u8], at: usize, first: bool) -> Record
-    ensures { λ r. ⌜ r ≡ recordAt (now (file .entry)) at first ⌝ }
+// What stands at a place of any bytes after the opening.
+pub fn next_record(file: &[u8], at: usize) -> After
+    ensures { λ r. ⌜ r ≡ nextRecord (now (file .entry)) at ⌝ }
 {
     if file.len() <= at {
-        return Record::Broken(Break::DoesNotFit);
+        return After::Stop(Break::DoesNotFit);
     }
     let left = file.len() - at;
     if left < 4 {
-        return Record::Broken(Break::DoesNotFit);
+        return After::Stop(Break::DoesNotFit);
     }
     let size = word_at(file, at);
     if left < size as usize {
-        return Record::Broken(Break::DoesNotFit);
+        return After::Stop(Break::DoesNotFit);
     }
     if size < 4 {
-        return Record::Broken(Break::Length);
+        return After::Stop(Break::Length);
     }
-    kind_at(file, at, size, first)
+    kind_at(file, at, size)
 }
 
-// The same of the file's first record, where an opening is due: it has its own tests, so that those of the other records stand in the run's loop alone.
-pub fn first_record(file: &[u8]) -> Record
-    ensures { λ r. ⌜ r ≡ recordAt (now (file .entry)) 0 true ⌝ }
+// A kind that is no opening's: an access's, or any other.
+fn no_opening(kind: u16) -> First
+    ensures { λ r. ⌜ r ≡ pick (eqb kind 2 || eqb kind 3) (First.Stop Misplaced) (First.Stop Kind) ⌝ }
+{
+    if kind == 2 {
+        return First::Stop(Break::Misplaced);
+    }
+    if kind == 3 {
+        return First::Stop(Break::Misplaced);
+    }
+    First::Stop(Break::Kind)
+}
+
+// An opening's record that fits, by its length.
+fn opening_of(file: &[u8], size: u16) -> First
+    requires { ⌜ size ≤ length (now file) ⌝ }
+    ensures { λ r. ⌜ r ≡ firstOf (openingRows 1 size) First.Stop (First.Opening (sizesIn (now (file .entry)))) ⌝ }
+{
+    if size != 12 {
+        return First::Stop(Break::Length);
+    }
+    let cylinders = word_at(file, 4);
+    let heads = word_at(file, 6);
+    let sectors = word_at(file, 8);
+    let mode = word_at(file, 10);
+    First::Opening(Sizes {
+        cylinders: cylinders,
+        heads: heads,
+        sectors: sectors,
+        mode: mode,
+    })
+}
+
+// What stands at the start of any bytes, where an opening is due.
+pub fn first_record(file: &[u8]) -> First
+    ensures { λ r. ⌜ r ≡ firstRecord (now (file .entry)) ⌝ }
 {
     if file.len() < 4 {
-        return Record::Broken(Break::DoesNotFit);
+        return First::Stop(Break::DoesNotFit);
     }
     let size = word_at(file, 0);
     if file.len() < size as usize {
-        return Record::Broken(Break::DoesNotFit);
+        return First::Stop(Break::DoesNotFit);
     }
     if size < 4 {
-        return Record::Broken(Break::Length);
+        return First::Stop(Break::Length);
     }
     let kind = word_at(file, 2);
-    if kind == 1 {
-        return opening_at(file, 0, size, true);
+    if kind != 1 {
+        return no_opening(kind);
     }
-    if kind == 2 {
-        return Record::Broken(Break::Misplaced);
-    }
-    if kind == 3 {
-        return Record::Broken(Break::Misplaced);
-    }
-    Record::Broken(Break::Kind)
-}
-
-impl Record {
-    // Where an opening is due nothing else will do.
-    pub fn first(self) -> First
-        ensures { λ r. ⌜ r ≡ firstOf self ⌝ }
-    {
-        match self {
-            Record::Opening(sizes) => First::Opening(sizes),
-            Record::Access(_, _) => First::Stop(Break::Misplaced),
-            Record::Broken(why) => First::Stop(why),
-        }
-    }
-
-    // After the opening.
-    pub fn after(self) -> After
-        ensures { λ r. ⌜ r ≡ afterOf self ⌝ }
-    {
-        match self {
-            Record::Opening(_) => After::Stop(Break::Misplaced),
-            Record::Access(write, asked) => After::Access(write, asked),
-            Record::Broken(why) => After::Stop(why),
-        }
-    }
+    opening_of(file, size)
 }

@@ -25,9 +25,9 @@ use Rattle.records.specs.declared.First.{First}
 use Rattle.records.specs.declared.After.{After}
 use Rattle.session.specs.declared.Ending.{Ending}
 use Rattle.session.specs.declared.Ending.the-variants.{Whole, Broken, Unopened}
-use Rattle.records.specs.Record.{recordAt, afterOf, firstOf, sizeOf}
-use Rattle.session.specs.Run.{Script, byAfter, scriptFrom, wrapped, lineText, linesOf, endText, resultOf}
-use Rattle.session.specs.Play.{Session, opensAs, openedOn, opening, byFirst, sessionOf, printOf, geometryOf, zeroBytes, noTuples}
+use Rattle.records.specs.Record.{nextRecord, firstRecord, sizeOf, openingLength}
+use Rattle.session.specs.Run.{Script, byAfter, scriptFrom, wrapped, lineText, linesOf, endText, Session, resultOf}
+use Rattle.session.specs.Play.{longestFile, mostSectors, opensAs, openedOn, opening, byFirst, sessionOf, printOf, geometryOf, zeroBytes, noTuples}
 use Rattle.records.proofs.Fits.{access-fits}
 
 -- a record has 8 bytes or more: the accesses of a part, and where it ends
@@ -38,12 +38,12 @@ size-least : (write : Bool) → 8 ≤ sizeOf write
 size-least true = omega arith
 size-least false = omega arith
 
-turn-short : (t : After) (bound : ℕ) (part tuples : List ℕ) (rest : ℕ → Script) (at : ℕ) → length part ≤ bound → at < length part → afterOf (recordAt part at false) ≡ t →
+turn-short : (t : After) (bound : ℕ) (part tuples : List ℕ) (rest : ℕ → Script) (at : ℕ) → length part ≤ bound → at < length part → nextRecord part at ≡ t →
     ((next : ℕ) → next ≤ bound → Short bound next (rest next)) → Short bound at (byAfter t rest tuples at)
-turn-short (After.Access write q) bound part tuples rest at h g e ih =
-    let f = access-fits write q part at g e in
-    let w = size-least write in
-    let i = ih (at + sizeOf write) (omega arith) in
+turn-short (After.Access q) bound part tuples rest at h g e ih =
+    let f = access-fits q part at g e in
+    let w = size-least (q .write) in
+    let i = ih (at + sizeOf (q .write)) (omega arith) in
     (omega (arith, i .0), i .1)
 turn-short (After.Stop why) bound part tuples rest at h g e ih = (omega arith, omega arith)
 
@@ -53,7 +53,7 @@ script-short zero bound part tuples at h g = (omega arith, g)
 script-short (suc n) bound part tuples at h g =
     pick-elim (Short bound at) (leb (length part) at) _ _
     (λ _. (omega arith, g))
-    (λ e. turn-short (afterOf (recordAt part at false)) bound part tuples (scriptFrom n part tuples) at h (leb-false _ _ e) refl (λ next k. script-short n bound part tuples next h k))
+    (λ e. turn-short (nextRecord part at) bound part tuples (scriptFrom n part tuples) at h (leb-false _ _ e) refl (λ next k. script-short n bound part tuples next h k))
 
 -- no more text than a line of 15 bytes for each access
 lines-length : (l : List Access) (m : Machine) (number : ℕ) → number + length l ≤ 10000 → length (linesOf number l (play m l .steps)) ≤ 15 * length l
@@ -73,11 +73,11 @@ end-length (Broken why) place h = bad-length place h
 end-length (Unopened r) place h = let f = unopened-length r in omega arith
 
 -- a run of a whole file's accesses
-run-length : (file tuples : List ℕ) (m : Machine) → length file ≤ 32768 → length (resultOf 0 1 0 m (scriptFrom (length file) file tuples 12) .text) ≤ 61420
+run-length : (file tuples : List ℕ) (m : Machine) → length file ≤ longestFile → length (resultOf 0 1 0 m (scriptFrom (length file) file tuples openingLength) .session .text) ≤ 61420
 unfolding resultOf
 run-length file tuples m h =
-    let s = scriptFrom (length file) file tuples 12 in
-    let b = script-short (length file) 32768 file tuples 12 h (omega arith) in
+    let s = scriptFrom (length file) file tuples openingLength in
+    let b = script-short (length file) longestFile file tuples openingLength h (omega arith) in
     let c = b .0 in
     let d = b .1 in
     let w : wrapped (0 + s .place) ≡ 0 + s .place = mod-eq-of-lt (omega arith) in
@@ -86,31 +86,31 @@ run-length file tuples m h =
     let e = length-append (linesOf 1 (s .accesses) (play m (s .accesses) .steps)) (endText (s .end) (wrapped (0 + s .place))) in
     omega arith
 
-opens-length : (o : Outcome) (c : Card) (file store marks tuples : List ℕ) → length file ≤ 32768 → length (opensAs o c file store marks tuples .text) ≤ 61420
+opens-length : (o : Outcome) (c : Card) (file store marks tuples : List ℕ) → length file ≤ longestFile → length (opensAs o c file store marks tuples .text) ≤ 61420
 opens-length (Outcome.Accepted v) c file store marks tuples h = run-length file tuples (machineOf c store marks) h
 opens-length (Outcome.Refused r) c file store marks tuples h = let f = unopened-length r in omega arith
 
-opening-length : (s : Sizes) (file : List ℕ) → length file ≤ 32768 → length (opening s file .text) ≤ 61420
+opening-length : (s : Sizes) (file : List ℕ) → length file ≤ longestFile → length (opening s file .text) ≤ 61420
 unfolding opening openedOn
 opening-length s file h =
     let n = capacityOf (geometryOf s) in
     let answer = opened (geometryOf s) (s .mode) (zeroBytes (512 * n)) (zeroBytes n) noTuples in
-    pick-elim (λ (x : Session). length (x .text) ≤ 61420) (ltb 32 (capacityOf (geometryOf s))) _ _
+    pick-elim (λ (x : Session). length (x .text) ≤ 61420) (ltb mostSectors (capacityOf (geometryOf s))) _ _
     (λ _. let f = unopened-length GeometryOrMode in omega arith)
     (λ _. opens-length (answer .outcome) (answer .card) file (zeroBytes (512 * n)) (zeroBytes n) noTuples h)
 
-first-length : (f : First) (file : List ℕ) → length file ≤ 32768 → length (byFirst f file .text) ≤ 61420
+first-length : (f : First) (file : List ℕ) → length file ≤ longestFile → length (byFirst f file .text) ≤ 61420
 first-length (First.Opening s) file h = opening-length s file h
 first-length (First.Stop why) file h = let f = bad-length 0 (omega arith) in omega arith
 
 session-length : (file : List ℕ) → length (sessionOf file .text) ≤ 61420
 unfolding sessionOf
 session-length file =
-    pick-elim (λ (x : Session). length (x .text) ≤ 61420) (ltb 32768 (length file)) _ _
-    (λ _. let f = bad-length 32768 (omega arith) in omega arith)
+    pick-elim (λ (x : Session). length (x .text) ≤ 61420) (ltb longestFile (length file)) _ _
+    (λ _. let f = bad-length longestFile (omega arith) in omega arith)
     (λ e. pick-elim (λ (x : Session). length (x .text) ≤ 61420) (eqb (length file) 0) _ _
     (λ _. let f = bad-length 0 (omega arith) in omega arith)
-    (λ _. first-length (firstOf (recordAt file 0 true)) file (ltb-false 32768 (length file) e)))
+    (λ _. first-length (firstRecord file) file (ltb-false longestFile (length file) e)))
 
 -- everything that is printed of any file
 pub print-length : (file : List ℕ) → length (printOf file) ≤ 61438

@@ -12,7 +12,8 @@ use lib.ListN.{length, take, drop, length-replicate, length-append, length-take,
 use Rattle.text.specs.Text.{header}
 use Rattle.session.specs.declared.Told.{Told}
 use Rattle.text.specs.Output.{Output, output, put, holding, LiesIn}
-use Rattle.session.specs.Play.{zeroBytes, sessionOf, Printed, printedIn, printedAt, printed, printOf, toldAs}
+use Rattle.session.specs.Run.{Printed, printedIn, printedAt, toldAs}
+use Rattle.session.specs.Play.{zeroBytes, sessionOf, printed, printOf}
 use Rattle.text.proofs.Outputs.{put-then, put-holds}
 use Rattle.ground.proofs.Lists.{take-replicate}
 

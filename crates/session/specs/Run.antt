@@ -1,6 +1,5 @@
 -- 01, "Session file": the accesses of a file or of a part of one, in turn, and what is printed of them.
-use Prim.Native.Nat.{ℕ, zero, suc, _+_, _%_, _^_, min}
-use mathlib.Core.Bool.{Bool, false}
+use Prim.Native.Nat.{ℕ, zero, suc, _+_, _%_, _^_}
 use mathlib.Core.List.{List, [], _∷_, _++_}
 use lib.Dec.{leb}
 use lib.ListN.{length}
@@ -11,14 +10,15 @@ use Rattle.registers.specs.Machine.{Machine}
 use Rattle.card.specs.Access.{Access}
 use Rattle.card.specs.Step.{Stepped, Played, play}
 use Rattle.card.specs.Doors.{machineOf}
-use Rattle.records.specs.declared.Asked.{Asked}
+use Rattle.maps.specs.declared.Access as maps
 use Rattle.records.specs.declared.After.{After}
 use Rattle.session.specs.declared.Ending.{Ending}
 use Rattle.session.specs.declared.Ending.the-variants.{Whole, Broken, Unopened}
+use Rattle.session.specs.declared.Told.{Told}
 use Rattle.session.specs.declared.Ran.{Ran}
-use Rattle.records.specs.Record.{recordAt, afterOf, sizeOf}
+use Rattle.records.specs.Record.{nextRecord, sizeOf}
 use Rattle.text.specs.Text.{line, shownValue, bad, unopened}
-use Rattle.text.specs.Output.{Output, output, put, holding}
+use Rattle.text.specs.Output.{Output, output, put, heldIn}
 
 -- what the records of a part ask for: its accesses, and the place where it ends and how
 pub record Script : Type 0 where
@@ -29,22 +29,21 @@ pub record Script : Type 0 where
 abbrev pub ends : ℕ → Ending → Script
 ends place e = record { accesses = []; place = place; end = e }
 
-abbrev pub asks : Access → Script → Script
-asks a s = record { accesses = a ∷ s .accesses; place = s .place; end = s .end }
+abbrev pub goesOn : Access → Script → Script
+goesOn a s = record { accesses = a ∷ s .accesses; place = s .place; end = s .end }
 
-abbrev pub accessOf : Bool → Asked → List ℕ → Access
-accessOf write a tuples = record { space = a .space; width = a .width; write = write; address = a .address; value = a .value; tuples = tuples }
+abbrev pub accessOf : maps.Access → List ℕ → Access
+accessOf a tuples = record { space = a .space; width = a .width; write = a .write; address = a .address; value = a .value; tuples = tuples }
 
 abbrev pub byAfter : After → (ℕ → Script) → List ℕ → ℕ → Script
-byAfter (After.Access write a) rest tuples at = asks (accessOf write a tuples) (rest (at + sizeOf write))
+byAfter (After.Access a) rest tuples at = goesOn (accessOf a tuples) (rest (at + sizeOf (a .write)))
 byAfter (After.Stop why) rest tuples at = ends at (Broken why)
 
 -- at most so many accesses, from a place on: "accesses before it stand", and nothing after it
 unfoldable pub scriptFrom : ℕ → List ℕ → List ℕ → ℕ → Script
 scriptFrom zero part tuples at = ends at Whole
 scriptFrom (suc most) part tuples at =
-    pick (leb (length part) at) (ends at Whole)
-    (byAfter (afterOf (recordAt part at false)) (scriptFrom most part tuples) tuples at)
+    pick (leb (length part) at) (ends at Whole) (byAfter (nextRecord part at) (scriptFrom most part tuples) tuples at)
 
 -- numbers and places have 64 bits
 abbrev pub wrapped : ℕ → ℕ
@@ -64,47 +63,65 @@ endText Whole place = []
 endText (Broken why) place = bad place
 endText (Unopened r) place = unopened (numberOf r)
 
--- what a run leaves: the machine, the place reached, the accesses done, how it ended, and its text
-pub record Result : Type 0 where
-  pub machine : Machine
+-- what a session or a part of one comes to: the place reached, the accesses done, how it ended, and its text
+pub record Session : Type 0 where
   pub place : ℕ
   pub done : ℕ
   pub end : Ending
   pub text : List ℕ
 
-abbrev pub resultAs : Played → ℕ → ℕ → ℕ → Script → Result
-resultAs p first number done s =
+-- what a run leaves
+pub record Result : Type 0 where
+  pub machine : Machine
+  pub session : Session
+
+abbrev pub sessionBy : List Stepped → ℕ → ℕ → ℕ → Script → Session
+sessionBy steps first number done s =
     record {
-      machine = p .last;
       place = wrapped (first + s .place);
       done = done + length (s .accesses);
       end = s .end;
-      text = linesOf number (s .accesses) (p .steps) ++ endText (s .end) (wrapped (first + s .place));
+      text = linesOf number (s .accesses) steps ++ endText (s .end) (wrapped (first + s .place));
     }
+
+abbrev pub resultAs : Played → ℕ → ℕ → ℕ → Script → Result
+resultAs p first number done s = record { machine = p .last; session = sessionBy (p .steps) first number done s }
 
 -- the part begins at the place `first` of its file, its first access has this number
 unfoldable pub resultOf : ℕ → ℕ → ℕ → Machine → Script → Result
 resultOf first number done m s = resultAs (play m (s .accesses)) first number done s
 
--- with the text in an output
-pub record Shown : Type 0 where
-  pub machine : Machine
+-- ---- with the text in an output
+
+pub record Printed : Type 0 where
   pub place : ℕ
   pub done : ℕ
   pub end : Ending
   pub out : Output
 
+pub record Shown : Type 0 where
+  pub machine : Machine
+  pub printed : Printed
+
+abbrev pub printedIn : Output → Session → Printed
+printedIn o s = record { place = s .place; done = s .done; end = s .end; out = o }
+
+abbrev pub printedAt : Output → Session → Printed
+printedAt o s = printedIn (put o (s .text)) s
+
 abbrev pub shownIn : Output → Result → Shown
-shownIn o r = record { machine = r .machine; place = r .place; done = r .done; end = r .end; out = o }
+shownIn o r = record { machine = r .machine; printed = printedIn o (r .session) }
 
 abbrev pub shownAt : Output → Result → Shown
-shownAt o r = shownIn (put o (r .text)) r
+shownAt o r = shownIn (put o (r .session .text)) r
 
 -- of an output from its start
 abbrev pub shown : List ℕ → Result → Shown
-shown bytes r = shownIn (output (holding bytes (r .text)) (min (length (r .text)) (length bytes))) r
+shown bytes r = shownIn (heldIn bytes (r .session .text)) r
 
--- all that a run leaves, of its answer and what was lent
+-- all that is left, of an answer and what was lent
+abbrev pub toldAs : Told → List ℕ → Printed
+toldAs t bytes = record { place = t .place; done = t .done; end = t .end; out = output bytes (t .text) }
+
 abbrev pub ranAs : Ran → List ℕ → List ℕ → List ℕ → Shown
-ranAs r store marks bytes =
-    record { machine = machineOf (r .card) store marks; place = r .place; done = r .done; end = r .end; out = output bytes (r .text) }
+ranAs r store marks bytes = record { machine = machineOf (r .card) store marks; printed = toldAs (r .told) bytes }

@@ -13,19 +13,16 @@ pub enum Ending {
     Unopened(Refusal),
 }
 
-// What a run gives back: the card, the place reached, the accesses done, how it ended, and how much text the output holds.
-pub struct Ran {
-    pub card: Card,
+// What a session or a part of one comes to: the place reached, the accesses done, how it ended, and how much text the output holds.
+pub struct Told {
     pub place: u64,
     pub done: usize,
     pub end: Ending,
     pub text: usize,
 }
 
-// The same of a whole session, whose card is gone.
-pub struct Told {
-    pub place: u64,
-    pub done: usize,
-    pub end: Ending,
-    pub text: usize,
+// The same of a run, with the card that it leaves.
+pub struct Ran {
+    pub card: Card,
+    pub told: Told,
 }

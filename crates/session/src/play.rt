@@ -11,8 +11,10 @@ use records::First;
 use records::Sizes;
 ghost use mathlib.Core.Path.{_≡_};
 ghost use Rattle.session.specs.declared.Ending.the-variants.{Broken, Unopened};
+ghost use Prim.Native.Nat.{_*_};
 ghost use Rattle.text.specs.Output.{output, LiesIn};
-ghost use Rattle.session.specs.Play.{stopped, openedOn, zeroBytes, noTuples, opening, sessionOf, printedAt, printed, toldAs, endNumber};
+ghost use Rattle.session.specs.Run.{printedAt, toldAs};
+ghost use Rattle.session.specs.Play.{stopped, openedOn, mostSectors, zeroBytes, noTuples, opening, sessionOf, printed, endNumber};
 
 fn bad(out: &mut [u8], at: usize, place: u64, why: Break) -> Told
     ensures { λ r. ⌜ toldAs r (now (out .exit)) ≡ printedAt (output (now (out .entry)) at) (stopped place (Broken why)) ⌝ }
@@ -64,26 +66,20 @@ fn opened_on(
     match outcome {
         Outcome::Accepted(_) => {
             let ran = run::run_from(card, file, 12, 0, 1, store, marks, tuples, out, at);
-            let end = ran.end;
-            Told {
-                place: ran.place,
-                done: ran.done,
-                end: end,
-                text: ran.text,
-            }
+            ran.told
         }
         Outcome::Refused(refusal) => unopened(out, at, refusal),
     }
 }
 
 fn zero_store() -> [u8; 16384]
-    ensures { λ r. ⌜ r ≡ zeroBytes 16384 ⌝ }
+    ensures { λ r. ⌜ r ≡ zeroBytes (512 * mostSectors) ⌝ }
 {
     [0u8; 16384]
 }
 
 fn zero_marks() -> [u8; 32]
-    ensures { λ r. ⌜ r ≡ zeroBytes 32 ⌝ }
+    ensures { λ r. ⌜ r ≡ zeroBytes mostSectors ⌝ }
 {
     [0u8; 32]
 }
@@ -132,8 +128,7 @@ fn session(file: &[u8], out: &mut [u8], at: usize) -> Told
     if file.len() == 0 {
         return bad(out, at, 0, Break::Empty);
     }
-    let record = records::first_record(file);
-    match record.first() {
+    match records::first_record(file) {
         First::Opening(sizes) => opening(sizes, file, out, at),
         First::Stop(why) => bad(out, at, 0, why),
     }

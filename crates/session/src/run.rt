@@ -1,14 +1,15 @@
 // The run of a part of a file: its accesses in turn, and their lines.
 use super::Ending;
 use super::Ran;
+use super::Told;
 use answers::Outcome;
 use card::Card;
 use card::Reply;
 use card::Verdict;
+use maps::Access;
 use records::After;
-use records::Asked;
 use registers::Core;
-use text::LineNumber;
+use text::digits::LineNumber;
 ghost use mathlib.Core.Path.{_≡_};
 ghost use Prim.Native.Nat.{_+_, _<_};
 ghost use lib.ListN.{length};
@@ -18,7 +19,7 @@ ghost use Rattle.card.specs.Step.{replied, step};
 ghost use Rattle.card.specs.Doors.{machineOf, cardOf};
 ghost use Rattle.answers.specs.Answers.{outcomeNumber};
 ghost use Rattle.text.specs.Text.{line, shownValue};
-ghost use Rattle.text.specs.Digits.{lineNumber};
+ghost use Rattle.text.specs.Digits.{lineNumber, hexTable};
 ghost use Rattle.text.specs.Output.{output, put};
 ghost use Rattle.session.specs.Run.{wrapped, accessOf, scriptFrom, resultOf, shownAt, shown, ranAs};
 ghost use Rattle.card.specs.Access.{verdictOf};
@@ -47,7 +48,7 @@ fn ran(
     end: Ending,
     text: usize,
 ) -> Ran
-    ensures { λ r. ⌜ r ≡ record { card = cardOf core buffer; place = wrapped (first + at); done = done; end = end; text = text } ⌝ }
+    ensures { λ r. ⌜ r ≡ record { card = cardOf core buffer; told = record { place = wrapped (first + at); done = done; end = end; text = text } } ⌝ }
 {
     let place = std::num::wrapping_add_u64(first, at as u64);
     let phase = core.phase;
@@ -58,10 +59,12 @@ fn ran(
             state: state,
             buffer: buffer,
         },
-        place: place,
-        done: done,
-        end: end,
-        text: text,
+        told: Told {
+            place: place,
+            done: done,
+            end: end,
+            text: text,
+        },
     }
 }
 
@@ -69,15 +72,14 @@ fn ran(
 fn answer(
     verdict: Verdict,
     core: Core,
-    write: bool,
-    asked: Asked,
+    access: Access,
     buffer: &mut [u8; 512],
     store: &mut [u8],
     marks: &mut [u8],
     tuples: &[u8],
 ) -> Reply
     requires { ⌜ verdict ≡ verdictOf (core .phase) (core .state) (now store) (now marks) (now tuples) ⌝ }
-    ensures { λ r. ⌜ replied r (now (buffer .exit)) (now (store .exit)) (now (marks .exit)) ≡ step (machine core (now (buffer .entry)) (now (store .entry)) (now (marks .entry))) (accessOf write asked (now (tuples .entry))) ⌝ }
+    ensures { λ r. ⌜ replied r (now (buffer .exit)) (now (store .exit)) (now (marks .exit)) ≡ step (machine core (now (buffer .entry)) (now (store .entry)) (now (marks .entry))) (accessOf access (now (tuples .entry))) ⌝ }
     ensures { λ r. ⌜ verdict ≡ verdictOf (r .core .phase) (r .core .state) (now (store .exit)) (now (marks .exit)) (now (tuples .entry)) ⌝ }
 {
     ground::length_known(buffer);
@@ -85,11 +87,11 @@ fn answer(
     card::by_verdict(
         verdict,
         core,
-        asked.space,
-        asked.width,
-        write,
-        asked.address,
-        asked.value,
+        access.space,
+        access.width,
+        access.write,
+        access.address,
+        access.value,
         buffer,
         store,
         marks,
@@ -102,21 +104,21 @@ fn put_answer(
     out: &mut [u8],
     at: usize,
     number: LineNumber,
-    write: bool,
-    value: u16,
+    access: Access,
     outcome: Outcome,
+    table: &[u8; 512],
 ) -> usize
-    requires { ⌜ number ≡ lineNumber (number .value) ⌝ }
-    ensures { λ r. ⌜ output (now (out .exit)) r ≡ put (output (now (out .entry)) at) (line (number .value) write (outcomeNumber outcome) (shownValue outcome write value)) ⌝ }
+    requires { ⌜ (number ≡ lineNumber (number .value)) × (now table ≡ hexTable) ⌝ }
+    ensures { λ r. ⌜ output (now (out .exit)) r ≡ put (output (now (out .entry)) at) (line (number .value) (access .write) (outcomeNumber outcome) (shownValue outcome (access .write) (access .value))) ⌝ }
 {
     match outcome {
         Outcome::Accepted(read) => {
-            let shown = written_or_read(write, value, read);
-            text::put_accepted(out, at, number, write, shown)
+            let shown = written_or_read(access.write, access.value, read);
+            text::put_accepted(out, at, number, access.write, table, shown)
         }
         Outcome::Refused(refusal) => {
             let answer = refusal.number();
-            text::put_line(out, at, number, write, answer, 0)
+            text::put_line(out, at, number, access.write, answer, table, 0)
         }
     }
 }
@@ -149,37 +151,23 @@ fn lines(
     let mut counter = LineNumber::of(number);
     let mut done = 0;
     let mut text = start;
-    let mut left = part.len();
-    while 0 < left {
-        if part.len() <= at {
-            return ran(core, buffer, first, at, done, Ending::Whole, text);
-        }
-        let record = records::record_at(part, at, false);
-        match record.after() {
+    let table = text::digits::hex_table();
+    while at < part.len() {
+        match records::next_record(part, at) {
             After::Stop(why) => {
                 let place = std::num::wrapping_add_u64(first, at as u64);
                 let next = text::put_bad(out, text, place);
                 return ran(core, buffer, first, at, done, Ending::Broken(why), next);
             }
-            After::Access(write, asked) => {
-                let reply = answer(
-                    verdict,
-                    core,
-                    write,
-                    asked,
-                    &mut buffer,
-                    store,
-                    marks,
-                    tuples,
-                );
+            After::Access(access) => {
+                let reply = answer(verdict, core, access, &mut buffer, store, marks, tuples);
                 let outcome = reply.outcome;
                 let after = reply.core;
-                text = put_answer(out, text, counter, write, asked.value, outcome);
+                text = put_answer(out, text, counter, access, outcome, &table);
                 core = after;
                 counter = counter.next();
-                at += records::size_of(write) as usize;
+                at += records::size_of(access.write) as usize;
                 done += 1;
-                left -= 1;
             }
         }
     }

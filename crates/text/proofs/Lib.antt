@@ -1,5 +1,5 @@
 pub mod Outputs
 pub mod Texts
-pub mod Digits
+pub mod Numerals
 pub mod OnlyOne
 pub mod Length

@@ -1,40 +1,54 @@
--- An access's number with its last four digits as text. They are counted up from access to access: a short number is printed without a division.
-use Prim.Native.Nat.{ℕ, _+_, _/_, _%_, _^_}
+-- Digits that take no division: an access's number is counted up with the text of its last four digits, and hex digits are read two at a time from a table.
+use Prim.Native.Nat.{ℕ, _+_, _*_, _/_, _%_, _^_}
 use mathlib.Core.List.{List, [], _∷_}
-use lib.Dec.{eqb, ltb}
+use lib.Dec.{eqb, leb, ltb}
+use lib.ListN.{drop, getD}
 use Rattle.ground.specs.Choice.{pick}
-use Rattle.text.specs.declared.LineNumber.{LineNumber}
-use Rattle.text.specs.Text.{decimal}
+use Rattle.ground.specs.Lists.{listed}
+use Rattle.text.specs.declared.digits.LineNumber.{LineNumber}
+use Rattle.text.specs.Text.{decimal, hexDigit}
+
+-- four bytes as one number, the first the lowest; and the bytes of such a number
+abbrev pub packed : ℕ → ℕ → ℕ → ℕ → ℕ
+packed a b c d = a + 0x100 * b + 0x10000 * c + 0x1000000 * d
+
+abbrev pub fourBytes : ℕ → List ℕ
+fourBytes p = p % 256 ∷ p / 0x100 % 256 ∷ p / 0x10000 % 256 ∷ p / 0x1000000 ∷ []
 
 abbrev pub lineNumber : ℕ → LineNumber
-lineNumber n = record { value = n; thousands = 48 + n / 1000 % 10; hundreds = 48 + n / 100 % 10; tens = 48 + n / 10 % 10; ones = 48 + n % 10 }
+lineNumber n = record { value = n; digits = packed (48 + n / 1000 % 10) (48 + n / 100 % 10) (48 + n / 10 % 10) (48 + n % 10) }
 
--- the digits one up, those of the number n: a nine becomes a zero and carries
-unfoldable pub digitsUp : LineNumber → ℕ → LineNumber
-digitsUp f n =
-    pick (ltb (f .ones) 57) (record { value = n; thousands = f .thousands; hundreds = f .hundreds; tens = f .tens; ones = f .ones + 1 })
-    (pick (ltb (f .tens) 57) (record { value = n; thousands = f .thousands; hundreds = f .hundreds; tens = f .tens + 1; ones = 48 })
-    (pick (ltb (f .hundreds) 57) (record { value = n; thousands = f .thousands; hundreds = f .hundreds + 1; tens = 48; ones = 48 })
-    (pick (ltb (f .thousands) 57) (record { value = n; thousands = f .thousands + 1; hundreds = 48; tens = 48; ones = 48 })
-    (record { value = n; thousands = 48; hundreds = 48; tens = 48; ones = 48 }))))
+-- one up, to n: the last digit, or the last but one after a nine; else all are told anew
+abbrev pub nextBy : ℕ → ℕ → LineNumber
+nextBy digits n =
+    pick (eqb n 0) (lineNumber 0)
+    (pick (ltb digits 0x39000000) (record { value = n; digits = digits + 0x1000000 })
+    (pick (ltb (digits % 0x1000000) 0x390000) (record { value = n; digits = 0x30000000 + digits % 0x1000000 + 0x10000 })
+    (lineNumber n)))
 
 -- numbers have 64 bits: past the last comes 0
-abbrev pub nextBy : LineNumber → ℕ → LineNumber
-nextBy f n = pick (eqb n 0) (lineNumber 0) (digitsUp f n)
-
 unfoldable pub nextNumber : LineNumber → LineNumber
-nextNumber f = nextBy f ((f .value + 1) % 2 ^ 64)
+nextNumber f = nextBy (f .digits) ((f .value + 1) % 2 ^ 64)
 
--- without zeros in front
+-- a number's last four digits without zeros in front
+abbrev pub noZeros : ℕ → List ℕ → List ℕ
+noZeros n text = pick (leb 1000 n) text (pick (leb 100 n) (drop 1 text) (pick (leb 10 n) (drop 2 text) (drop 3 text)))
+
 unfoldable pub shortNumeral : LineNumber → List ℕ
-shortNumeral f =
-    pick (eqb (f .thousands) 48)
-    (pick (eqb (f .hundreds) 48)
-    (pick (eqb (f .tens) 48) (f .ones ∷ [])
-    (f .tens ∷ f .ones ∷ []))
-    (f .hundreds ∷ f .tens ∷ f .ones ∷ []))
-    (f .thousands ∷ f .hundreds ∷ f .tens ∷ f .ones ∷ [])
+shortNumeral f = noZeros (f .value) (fourBytes (f .digits))
 
 -- a number in decimal: its last four digits are enough where it has no more
 unfoldable pub numeral : LineNumber → List ℕ
 numeral f = pick (ltb (f .value) 10000) (shortNumeral f) (decimal (f .value))
+
+-- the two hex digits of each byte in turn
+unfoldable pub hexAt : ℕ → ℕ
+hexAt i = pick (eqb (i % 2) 0) (hexDigit (i / 32)) (hexDigit (i / 2 % 16))
+
+unfoldable pub hexTable : List ℕ
+hexTable = listed hexAt 0 512
+
+-- four hex digits by such a table
+abbrev pub hexBy : List ℕ → ℕ → List ℕ
+hexBy table v =
+    getD table (2 * (v / 256)) 0 ∷ getD table (2 * (v / 256) + 1) 0 ∷ getD table (2 * (v % 256)) 0 ∷ getD table (2 * (v % 256) + 1) 0 ∷ []

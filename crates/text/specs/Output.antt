@@ -1,5 +1,5 @@
 -- What a lent output holds once text was put into it.
-use Prim.Native.Nat.{ℕ, _+_, _≤_}
+use Prim.Native.Nat.{ℕ, _+_, _≤_, min}
 use mathlib.Core.List.{List, [], _∷_, _++_}
 use mathlib.Core.Path.{_≡_}
 use lib.Dec.{ltb}
@@ -17,6 +17,10 @@ pub record Output : Type 0 where
 
 abbrev pub output : List ℕ → ℕ → Output
 output bytes at = record { bytes = bytes; at = at }
+
+-- an output that text was put into from its start
+abbrev pub heldIn : List ℕ → List ℕ → Output
+heldIn bytes text = output (holding bytes text) (min (length text) (length bytes))
 
 -- a byte past the end is dropped
 unfoldable pub putByte : Output → ℕ → Output

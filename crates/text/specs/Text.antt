@@ -42,12 +42,12 @@ abbrev pub letter : Bool → List ℕ
 letter write = blank ∷ pick write 87 82 ∷ blank ∷ []
 
 -- "for each access its number …, R or W, the answer, and the value read or written in four hex digits"
-abbrev pub lineBy : List ℕ → Bool → ℕ → ℕ → List ℕ
+abbrev pub lineBy : List ℕ → Bool → ℕ → List ℕ → List ℕ
 lineBy number write answer value =
-    number ++ (letter write ++ (decimal answer ++ ((blank ∷ []) ++ (hexFour value ++ (newline ∷ [])))))
+    number ++ (letter write ++ (decimal answer ++ ((blank ∷ []) ++ (value ++ (newline ∷ [])))))
 
 abbrev pub line : ℕ → Bool → ℕ → ℕ → List ℕ
-line number write answer value = lineBy (decimal number) write answer value
+line number write answer value = lineBy (decimal number) write answer (hexFour value)
 
 -- "the value read or written … (0000 if refused)"
 abbrev pub shownValue : Outcome → Bool → ℕ → ℕ

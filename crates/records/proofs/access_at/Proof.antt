@@ -1,21 +1,13 @@
 use borrow.Author.Tests.{eq-eqb, ne-eqb}
-use Rattle.records.specs.Record.{accessAt}
 use borrow.Author.Needs.{needs}
 use Rattle.records.proofs.access_at.Statement.{statement}
 use Rattle.records.proofs.access_at.Tie as tie
 
-returns : tie.Need-returns
-unfolding accessAt
-returns c = simp (c .if1 .taken)
-
 size-of-requires : tie.Need-size-of-requires
 size-of-requires c κs = search needs
 
-returns-2 : tie.Need-returns-2
-unfolding accessAt
-returns-2 c =
-    let e = rw (c .before .size-of .ensures .0) at (c .if2 .taken) in
-    simp (c .before .before .if1 .left, ne-eqb _ _ e)
+returns : tie.Need-returns
+returns c = let e = rw (c .before .size-of .ensures .0) at (c .if1 .taken) in simp (ne-eqb _ _ e)
 
 add-space : tie.Need-add-space
 add-space c = search needs
@@ -41,22 +33,18 @@ value-at-requires c κs = search needs
 fields-tested-requires : tie.Need-fields-tested-requires
 fields-tested-requires c κs = search needs
 
-returns-3 : tie.Need-returns-3
-unfolding accessAt
-returns-3 c =
+returns-2 : tie.Need-returns-2
+returns-2 c =
     let c5 = c .before .before .before .before .before in
-    let c6 = c5 .before in
-    let c7 = c6 .before in
-    let e = rw (c6 .size-of .ensures .0) at (c5 .if2 .left) in
-    simp (c7 .if1 .left, eq-eqb _ _ e, c .fields-tested .ensures, c .before .value-at .ensures, c .before .before .word-at .ensures)
+    let e = rw (c5 .before .size-of .ensures .0) at (c5 .if1 .left) in
+    simp (eq-eqb _ _ e, c .fields-tested .ensures, c .before .value-at .ensures, c .before .before .word-at .ensures)
 
 pub access-at-spec : {M : Type 1} → statement M
 access-at-spec =
     tie.close
     (tie.spec
-    returns
     size-of-requires
-    returns-2
+    returns
     add-space
     shared-slice-read-space
     add-width
@@ -65,4 +53,4 @@ access-at-spec =
     word-at-requires
     value-at-requires
     fields-tested-requires
-    returns-3)
+    returns-2)

@@ -1,28 +1,23 @@
 use mathlib.Core.Path.{sym, _∙_}
 use borrow.Author.Tests.{le-leb}
 use Rattle.ground.proofs.Tests.{tests}
-use Rattle.records.specs.Record.{fieldsTested}
 use borrow.Author.Needs.{needs}
 use Rattle.records.proofs.fields_tested.Statement.{statement}
 use Rattle.records.proofs.fields_tested.Tie as tie
 
 returns : tie.Need-returns
-unfolding fieldsTested
 returns c = search tests
 
 returns-2 : tie.Need-returns-2
-unfolding fieldsTested
 returns-2 c = search tests
 
 returns-3 : tie.Need-returns-3
-unfolding fieldsTested
 returns-3 c = search tests
 
 value-above-requires : tie.Need-value-above-requires
 value-above-requires c κs = search needs
 
 returns-4 : tie.Need-returns-4
-unfolding fieldsTested
 returns-4 c =
     let c4 = c .before .before .before .before in
     let c6 = c4 .before .before in
@@ -30,7 +25,6 @@ returns-4 c =
     simp (le-leb _ _ (c6 .if1 .left), le-leb _ _ (c4 .if2 .left), le-leb _ _ (c .before .before .if3 .left), w)
 
 returns-5 : tie.Need-returns-5
-unfolding fieldsTested
 returns-5 c =
     let c4 = c .before .before .before .before in
     let c6 = c4 .before .before in

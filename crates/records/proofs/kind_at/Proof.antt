@@ -1,5 +1,4 @@
 use borrow.Author.Tests.{eq-eqb, ne-eqb}
-use Rattle.records.specs.Record.{kindAt}
 use borrow.Author.Needs.{needs}
 use Rattle.records.proofs.kind_at.Statement.{statement}
 use Rattle.records.proofs.kind_at.Tie as tie
@@ -10,41 +9,22 @@ add-word-at c = search needs
 word-at-requires : tie.Need-word-at-requires
 word-at-requires c κs = search needs
 
-opening-at-requires : tie.Need-opening-at-requires
-opening-at-requires c κs = search needs
-
 returns : tie.Need-returns
-unfolding kindAt
-returns c =
-    let e = rw (c .before .before .word-at .ensures) at (c .before .if1 .taken) in
-    simp (eq-eqb _ _ e, c .opening-at .ensures)
+returns c = simp (rw (c .before .word-at .ensures) at (c .if1 .taken))
 
 access-at-requires : tie.Need-access-at-requires
 access-at-requires c κs = search needs
 
 returns-2 : tie.Need-returns-2
-unfolding kindAt
-returns-2 c =
-    let w = c .before .before .before .word-at .ensures in
-    let e = rw w at (c .before .before .if1 .left) in
-    let f = rw w at (c .before .if2 .taken) in
-    simp (ne-eqb _ _ e, eq-eqb _ _ f, c .access-at .ensures)
+returns-2 c = let e = rw (c .before .before .before .word-at .ensures) at (c .before .if2 .taken) in rw e (c .access-at .ensures)
 
 access-at-requires-2 : tie.Need-access-at-requires-2
 access-at-requires-2 c κs = search needs
 
 returns-3 : tie.Need-returns-3
-unfolding kindAt
-returns-3 c =
-    let c4 = c .before .before .before .before in
-    let w = c4 .word-at .ensures in
-    let e = rw w at (c .before .before .before .if1 .left) in
-    let f = rw w at (c .before .before .if2 .left) in
-    let g = rw w at (c .before .if3 .taken) in
-    simp (ne-eqb _ _ e, ne-eqb _ _ f, eq-eqb _ _ g, c .access-at2 .ensures)
+returns-3 c = let e = rw (c .before .before .before .before .word-at .ensures) at (c .before .if3 .taken) in rw e (c .access-at2 .ensures)
 
 returns-4 : tie.Need-returns-4
-unfolding kindAt
 returns-4 c =
     let w = c .before .before .before .word-at .ensures in
     let e = rw w at (c .before .before .if1 .left) in
@@ -58,7 +38,6 @@ kind-at-spec =
     (tie.spec
     add-word-at
     word-at-requires
-    opening-at-requires
     returns
     access-at-requires
     returns-2

@@ -6,8 +6,8 @@ use Rattle.card.specs.declared.Answer.{Answer}
 use Rattle.card.specs.Opening.{opened}
 use Rattle.records.specs.declared.Sizes.{Sizes}
 use Rattle.text.specs.Output.{output}
-use Rattle.session.specs.Run.{Shown}
-use Rattle.session.specs.Play.{geometryOf, opensAs, openedOn, printedAt}
+use Rattle.session.specs.Run.{Shown, printedAt}
+use Rattle.session.specs.Play.{geometryOf, opensAs, openedOn}
 use borrow.Author.Needs.{needs}
 use Rattle.session.proofs.play.opened_on.Statement.{statement}
 use Rattle.session.proofs.play.opened_on.Tie as tie
@@ -46,13 +46,12 @@ same-length-3 c = search needs
 
 returns : tie.Need-returns
 returns c =
-    let c6 = c .before .before .before .before .before .before in
-    let c10 = c6 .before .before .before .before in
-    let c13 = c10 .before .before .before in
-    let c21 = c13 .before .before .before .before .before .before .before .before in
-    let a = c21 .args in
-    ap (λ (s : Shown). record { place = s .place; done = s .done; end = s .end; out = s .out }) (c6 .run-from .ensures)
-    ∙ ap (printedAt (output (a .out .now) (a .at))) (as-opened (a .sizes) (a .file .now) (a .store .now) (a .marks .now) (a .tuples .now) _ _ (c13 .«open» .ensures .0) (c10 .enum-told .given .1))
+    let c7 = c .before .before .before .before .before .before .before in
+    let c11 = c7 .before .before .before .before in
+    let c14 = c11 .before .before .before in
+    let a = c14 .before .before .before .before .before .before .before .before .args in
+    ap (λ (s : Shown). s .printed) (c7 .run-from .ensures)
+    ∙ ap (printedAt (output (a .out .now) (a .at))) (as-opened (a .sizes) (a .file .now) (a .store .now) (a .marks .now) (a .tuples .now) _ _ (c14 .«open» .ensures .0) (c11 .enum-told .given .1))
 
 same-length-4 : tie.Need-same-length-4
 same-length-4 c = search needs

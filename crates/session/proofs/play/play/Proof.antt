@@ -1,7 +1,8 @@
 use Rattle.session.proofs.Plays.{after-header, text-lies}
 use mathlib.Core.Path.{ap, _∙_}
 use Rattle.text.specs.Output.{Output}
-use Rattle.session.specs.Play.{sessionOf, printedAt}
+use Rattle.session.specs.Run.{printedAt}
+use Rattle.session.specs.Play.{sessionOf}
 use borrow.Author.Needs.{needs}
 use Rattle.session.proofs.play.play.Statement.{statement}
 use Rattle.session.proofs.play.play.Tie as tie

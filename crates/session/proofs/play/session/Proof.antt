@@ -1,23 +1,21 @@
-use mathlib.Core.Path.{_≡_, sym, ap, _∙_}
+use mathlib.Core.Path.{_≡_, sym, _∙_}
 use mathlib.Core.List.{List}
 use Prim.Native.Nat.{ℕ}
 use borrow.Author.Tests.{eq-eqb, ne-eqb, lt-ltb, le-ltb}
 use Rattle.records.specs.declared.First.{First}
-use Rattle.records.specs.Record.{firstOf}
 use Rattle.session.specs.Play.{byFirst, sessionOf}
 use borrow.Author.Needs.{needs}
 use Rattle.session.proofs.play.session.Statement.{statement}
 use Rattle.session.proofs.play.session.Tie as tie
 
 -- the file, and what its first record comes to
-abbrev fileIn : tie.After-first → List ℕ
-fileIn c = c .before .before .before .before .before .before .args .file .now
+abbrev fileIn : tie.After-first-record → List ℕ
+fileIn c = c .before .before .before .before .before .args .file .now
 
-by-record : (c : tie.After-first) (x : First) → c .first .result ≡ x → sessionOf (fileIn c) ≡ byFirst x (fileIn c)
+by-record : (c : tie.After-first-record) (x : First) → c .first-record .result ≡ x → sessionOf (fileIn c) ≡ byFirst x (fileIn c)
 unfolding sessionOf
 by-record c x e =
-    let f = sym (ap firstOf (c .before .first-record .ensures)) ∙ sym (c .first .ensures) ∙ e in
-    simp (le-ltb _ _ (c .before .before .before .if1 .left), ne-eqb _ _ (c .before .before .if2 .left), f)
+    simp (le-ltb _ _ (c .before .before .if1 .left), ne-eqb _ _ (c .before .if2 .left), sym (c .first-record .ensures) ∙ e)
 
 bad-requires : tie.Need-bad-requires
 bad-requires c κs = search needs
@@ -44,9 +42,6 @@ returns-2 c =
 
 first-record-requires : tie.Need-first-record-requires
 first-record-requires c κs = search needs
-
-first-requires : tie.Need-first-requires
-first-requires c κs = search needs
 
 enum-known-sizes : tie.Need-enum-known-sizes
 enum-known-sizes c = search needs
@@ -87,7 +82,6 @@ session-spec =
     same-length-2
     returns-2
     first-record-requires
-    first-requires
     enum-known-sizes
     opening-requires
     enum-known-why

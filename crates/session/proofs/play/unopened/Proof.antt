@@ -1,7 +1,8 @@
 use mathlib.Core.Path.{ap}
 use Rattle.session.specs.declared.Ending.the-variants.{Unopened}
 use Rattle.text.specs.Output.{Output}
-use Rattle.session.specs.Play.{printedIn, stopped}
+use Rattle.session.specs.Run.{printedIn}
+use Rattle.session.specs.Play.{stopped}
 use borrow.Author.Needs.{needs}
 use Rattle.session.proofs.play.unopened.Statement.{statement}
 use Rattle.session.proofs.play.unopened.Tie as tie

@@ -1,4 +1,4 @@
-use Rattle.text.proofs.Digits.{digits-print}
+use Rattle.text.proofs.Numerals.{line-print}
 use borrow.Author.Needs.{needs}
 use Rattle.session.proofs.run.put_answer.Statement.{statement}
 use Rattle.session.proofs.run.put_answer.Tie as tie
@@ -27,8 +27,9 @@ same-length c = search needs
 returns : tie.Need-returns
 returns c =
     let b = c .before .before .before .before .before .before .before .before .before in
-    let e = digits-print (b .args .number) (b .pre) in
-    simp (c .before .before .before .before .before .before .outcome .given .1) (rw (c .before .before .before .before .written-or-read .ensures, e) at (c .before .before .put-accepted .ensures))
+    let w = c .before .before .before .before .written-or-read in
+    let e = line-print (b .args .number) (b .args .table .now) (b .args .access .write) 0 (w .result) (b .pre .0) (b .pre .1) (search needs) in
+    simp (c .before .before .before .before .before .before .outcome .given .1) (rw (w .ensures) at (rw e at (c .before .before .put-accepted .ensures)))
 
 same-length-2 : tie.Need-same-length-2
 same-length-2 c = search needs
@@ -36,8 +37,9 @@ same-length-2 c = search needs
 returns-2 : tie.Need-returns-2
 returns-2 c =
     let b = c .before .before .before .before .before .before .before .before .before in
-    let e = digits-print (b .args .number) (b .pre) in
-    simp (c .before .before .before .before .before .before .outcome2 .given .1) (rw (c .before .before .before .before .number .ensures, e) at (c .before .before .put-line .ensures))
+    let w = c .before .before .before .before .number in
+    let e = line-print (b .args .number) (b .args .table .now) (b .args .access .write) (w .result) 0 (b .pre .0) (b .pre .1) (search needs) in
+    simp (c .before .before .before .before .before .before .outcome2 .given .1) (rw (w .ensures) at (rw e at (c .before .before .put-line .ensures)))
 
 pub put-answer-spec : {M : Type 1} → statement M
 put-answer-spec =

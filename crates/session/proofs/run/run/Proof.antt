@@ -24,7 +24,7 @@ returns : tie.Need-returns
 returns c =
     let a = c .before .before .before .before .before .before .before .before .before .before .before .before .before .before .before .args in
     let r = resultOf (a .first) (a .number) 0 (machineOf (a .card) (a .store .now) (a .marks .now)) (scriptFrom (length (a .part .now)) (a .part .now) (a .tuples .now) 0) in
-    c .before .before .before .before .before .before .run-from .ensures ∙ ap (λ (o : Output). shownIn o r) (put-holds (r .text) (a .out .now))
+    c .before .before .before .before .before .before .run-from .ensures ∙ ap (λ (o : Output). shownIn o r) (put-holds (r .session .text) (a .out .now))
 
 pub run-spec : {M : Type 1} → statement M
 run-spec = tie.close (tie.spec run-from-requires same-length same-length-2 same-length-3 returns)
