@@ -1,17 +1,16 @@
--- The digits that are counted up are those of the number, and they print it; the table's hex digits are those of the value.
+-- The digits that are counted up are those of the number, and they print it.
 use Prim.Native.Nat.{ℕ, suc, _+_, _*_, _/_, _%_, _^_, _<_, _≤_}
 use mathlib.Core.Bool.{Bool}
 use mathlib.Core.Path.{_≡_, refl, sym, ap, _∙_}
 use mathlib.Core.List.{List, [], _∷_, _++_}
 use native.Mathlib.Omega.{arith}
 use lib.Dec.{eqb, leb, ltb}
-use lib.ListN.{length, getD}
-use borrow.Author.Tests.{ltb-true, ltb-false, leb-true, leb-false, eqb-true, eqb-false, eq-eqb, ne-eqb}
+use borrow.Author.Tests.{ltb-true, ltb-false, leb-true, leb-false, eqb-true, eqb-false}
 use Rattle.ground.proofs.Picks.{pick-elim}
-use Rattle.ground.proofs.Lists.{listed-at, listed-length}
 use Rattle.text.specs.declared.digits.LineNumber.{LineNumber}
-use Rattle.text.specs.Text.{furtherDigits, lastDigits, decimal, hexDigit, hexFour, lineBy, line}
-use Rattle.text.specs.Digits.{packed, fourBytes, lineNumber, nextNumber, noZeros, shortNumeral, numeral, hexAt, hexTable, hexBy}
+use Rattle.text.specs.Text.{furtherDigits, lastDigits, decimal, lineBy, line}
+use Rattle.text.specs.Digits.{packed, fourBytes, lineNumber, nextNumber, noZeros, shortNumeral, numeral, hexTable, hexBy}
+use Rattle.text.proofs.Hex.{table-hex}
 use Rattle.text.proofs.Texts.{digits-one, digits-more}
 
 -- four bytes, packed and taken apart
@@ -115,33 +114,6 @@ digits-print f e = ap numeral e ∙ numeral-of (f .value)
 -- what has a number's digits has those of its own
 pub own-number : (f : LineNumber) (n : ℕ) → f ≡ lineNumber n → f ≡ lineNumber (f .value)
 own-number f n e = e ∙ ap (λ (g : LineNumber). lineNumber (g .value)) (sym e)
-
--- the table, and the two digits of a byte there
-pub table-length : length hexTable ≡ 512
-unfolding hexTable
-table-length = listed-length hexAt 0 512
-
-pub table-at : (i : ℕ) → i < 512 → getD hexTable i 0 ≡ hexAt i
-unfolding hexTable
-table-at i h = let e : 0 + i ≡ i = omega arith in listed-at hexAt 0 512 i 0 h ∙ ap hexAt e
-
-byte-hex : (b : ℕ) → b < 256 → (getD hexTable (2 * b) 0 ≡ hexDigit (b / 16)) × (getD hexTable (2 * b + 1) 0 ≡ hexDigit (b % 16))
-unfolding hexAt
-byte-hex b h =
-    let e : 2 * b % 2 ≡ 0 = omega arith in
-    let f : 2 * b / 32 ≡ b / 16 = omega arith in
-    let g : (2 * b + 1) % 2 ≡ 1 = omega arith in
-    let k : (2 * b + 1) / 2 ≡ b = omega arith in
-    (table-at (2 * b) (omega arith) ∙ simp (e, f), table-at (2 * b + 1) (omega arith) ∙ simp (g, k))
-
-pub table-hex : (v : ℕ) → v < 65536 → hexBy hexTable v ≡ hexFour v
-table-hex v h =
-    let a = byte-hex (v / 256) (omega arith) in
-    let b = byte-hex (v % 256) (omega arith) in
-    let e : v / 256 / 16 ≡ v / 4096 = omega arith in
-    let f : v % 256 / 16 ≡ v / 16 % 16 = omega arith in
-    let g : v % 256 % 16 ≡ v % 16 = omega arith in
-    rw (a .0, a .1, b .0, b .1, e, f, g) refl
 
 -- a line by the number's own digits and by the table
 pub line-print : (f : LineNumber) (table : List ℕ) (write : Bool) (answer value : ℕ) → f ≡ lineNumber (f .value) → table ≡ hexTable → value < 65536 →

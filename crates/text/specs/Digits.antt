@@ -1,6 +1,6 @@
 -- Digits that take no division: an access's number is counted up with the text of its last four digits, and hex digits are read two at a time from a table.
 use Prim.Native.Nat.{ℕ, _+_, _*_, _/_, _%_, _^_}
-use mathlib.Core.List.{List, [], _∷_}
+use mathlib.Core.List.{List, [], _∷_, _++_}
 use lib.Dec.{eqb, leb, ltb}
 use lib.ListN.{drop, getD}
 use Rattle.ground.specs.Choice.{pick}
@@ -48,7 +48,9 @@ hexAt i = pick (eqb (i % 2) 0) (hexDigit (i / 32)) (hexDigit (i / 2 % 16))
 unfoldable pub hexTable : List ℕ
 hexTable = listed hexAt 0 512
 
--- four hex digits by such a table
+-- by such a table: the digits of a byte, and four hex digits
+abbrev pub hexPair : List ℕ → ℕ → List ℕ
+hexPair table b = getD table (2 * b) 0 ∷ getD table (2 * b + 1) 0 ∷ []
+
 abbrev pub hexBy : List ℕ → ℕ → List ℕ
-hexBy table v =
-    getD table (2 * (v / 256)) 0 ∷ getD table (2 * (v / 256) + 1) 0 ∷ getD table (2 * (v % 256)) 0 ∷ getD table (2 * (v % 256) + 1) 0 ∷ []
+hexBy table v = hexPair table (v / 256) ++ hexPair table (v % 256)

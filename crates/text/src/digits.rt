@@ -1,10 +1,11 @@
 // Numbers as text. An access's number is counted up with its last four digits, and hex digits are read two at a time from a table: neither takes a division.
 use super::output::byte;
+use super::output::two;
 ghost use mathlib.Core.Path.{_≡_};
 ghost use Prim.Native.Nat.{_+_, _≤_, _<_};
 ghost use lib.ListN.{length};
 ghost use Rattle.text.specs.Text.{digitCount, lastDigits, decimal, hexDigit};
-ghost use Rattle.text.specs.Digits.{lineNumber, nextNumber, shortNumeral, numeral, hexAt, hexTable, hexBy};
+ghost use Rattle.text.specs.Digits.{lineNumber, nextNumber, shortNumeral, numeral, hexAt, hexTable, hexPair, hexBy};
 ghost use Rattle.text.specs.Output.{written, Wrote};
 
 // An access's number, and the text of its last four decimal digits as one number, the first in the lowest byte.
@@ -99,19 +100,15 @@ pub(crate) fn short_numeral(out: &mut [u8], at: usize, number: LineNumber) -> us
     let tens = (number.digits / 0x10000 % 256) as u8;
     let ones = (number.digits / 0x1000000) as u8;
     if 1000 <= number.value {
-        let after_thousands = byte(out, at, thousands);
-        let after_hundreds = byte(out, after_thousands, hundreds);
-        let after_tens = byte(out, after_hundreds, tens);
-        return byte(out, after_tens, ones);
+        let after_hundreds = two(out, at, thousands, hundreds);
+        return two(out, after_hundreds, tens, ones);
     }
     if 100 <= number.value {
         let after_hundreds = byte(out, at, hundreds);
-        let after_tens = byte(out, after_hundreds, tens);
-        return byte(out, after_tens, ones);
+        return two(out, after_hundreds, tens, ones);
     }
     if 10 <= number.value {
-        let after_tens = byte(out, at, tens);
-        return byte(out, after_tens, ones);
+        return two(out, at, tens, ones);
     }
     byte(out, at, ones)
 }
@@ -159,18 +156,21 @@ pub fn hex_table() -> [u8; 512]
     table
 }
 
+// The two hex digits of a byte.
+fn hex_two(out: &mut [u8], at: usize, table: &[u8; 512], b: u16) -> usize
+    requires { ⌜ (at + 2 ≤ length (now out)) × (b < 256) ⌝ }
+    ensures { λ r. ⌜ Wrote (now (out .entry)) at (hexPair (now (table .entry)) b) (now (out .exit)) r ⌝ }
+{
+    let i = 2 * b as usize;
+    let first = table[i];
+    let second = table[i + 1];
+    two(out, at, first, second)
+}
+
 pub(crate) fn hex_four(out: &mut [u8], at: usize, table: &[u8; 512], value: u16) -> usize
     requires { ⌜ at + 4 ≤ length (now out) ⌝ }
     ensures { λ r. ⌜ Wrote (now (out .entry)) at (hexBy (now (table .entry)) value) (now (out .exit)) r ⌝ }
 {
-    let high = 2 * (value / 256) as usize;
-    let low = 2 * (value % 256) as usize;
-    let first = table[high];
-    let second = table[high + 1];
-    let third = table[low];
-    let last = table[low + 1];
-    let after_first = byte(out, at, first);
-    let after_second = byte(out, after_first, second);
-    let after_third = byte(out, after_second, third);
-    byte(out, after_third, last)
+    let next = hex_two(out, at, table, value / 256);
+    hex_two(out, next, table, value % 256)
 }

@@ -1,6 +1,7 @@
 // What is printed, as bytes in a lent output. A line is written where there is room for it, else as far as the output goes.
 use digits::LineNumber;
 use output::byte;
+use output::two;
 ghost use mathlib.Core.Path.{_≡_};
 ghost use Prim.Native.Nat.{_+_, _≤_};
 ghost use mathlib.Core.List.{[], _∷_, _++_};
@@ -27,9 +28,8 @@ fn letter(out: &mut [u8], at: usize, write: bool) -> usize
     ensures { λ r. ⌜ Wrote (now (out .entry)) at (letter write) (now (out .exit)) r ⌝ }
 {
     let code = letter_code(write);
-    let after_blank = byte(out, at, b' ');
-    let after_code = byte(out, after_blank, code);
-    byte(out, after_code, b' ')
+    let next = two(out, at, b' ', code);
+    byte(out, next, b' ')
 }
 
 // An access's line, where there is room for the longest.
@@ -67,8 +67,7 @@ fn accepted_line(
 {
     let after_number = digits::short_numeral(out, at, number);
     let after_letter = letter(out, after_number, write);
-    let after_answer = byte(out, after_letter, b'0');
-    let after_blank = byte(out, after_answer, b' ');
+    let after_blank = two(out, after_letter, b'0', b' ');
     let after_value = digits::hex_four(out, after_blank, table, value);
     byte(out, after_value, b'\n')
 }

@@ -1,6 +1,6 @@
 // Bytes that are put into a lent output: where there is room for them, else as far as the output goes.
 ghost use mathlib.Core.Path.{_≡_};
-ghost use Prim.Native.Nat.{_+_, _<_};
+ghost use Prim.Native.Nat.{_+_, _≤_, _<_};
 ghost use mathlib.Core.List.{[], _∷_};
 ghost use lib.ListN.{length};
 ghost use lib.Dec.{leb};
@@ -12,6 +12,14 @@ pub(crate) fn byte(out: &mut [u8], at: usize, b: u8) -> usize
 {
     out[at] = b;
     at + 1
+}
+
+pub(crate) fn two(out: &mut [u8], at: usize, a: u8, b: u8) -> usize
+    requires { ⌜ at + 2 ≤ length (now out) ⌝ }
+    ensures { λ r. ⌜ Wrote (now (out .entry)) at (a ∷ b ∷ []) (now (out .exit)) r ⌝ }
+{
+    let next = byte(out, at, a);
+    byte(out, next, b)
 }
 
 // A byte past the output's end is dropped.

@@ -11,17 +11,14 @@ short-numeral-requires c κs = search needs
 letter-requires : tie.Need-letter-requires
 letter-requires c κs = search needs
 
-byte-requires : tie.Need-byte-requires
-byte-requires c κs = search needs
-
-byte-requires-2 : tie.Need-byte-requires-2
-byte-requires-2 c κs = search needs
+two-requires : tie.Need-two-requires
+two-requires c κs = search needs
 
 hex-four-requires : tie.Need-hex-four-requires
 hex-four-requires c κs = search needs
 
-byte-requires-3 : tie.Need-byte-requires-3
-byte-requires-3 c κs = search needs
+byte-requires : tie.Need-byte-requires
+byte-requires c κs = search needs
 
 same-length : tie.Need-same-length
 same-length c = search needs
@@ -33,14 +30,12 @@ returns c =
     let c10 = c6 .before .before .before .before in
     let c14 = c10 .before .before .before .before in
     let c18 = c14 .before .before .before .before in
-    let c22 = c18 .before .before .before .before in
-    let p = wrote-then (c22 .short-numeral .ensures .0) (wrote-then (c18 .letter .ensures) (wrote-then (c14 .byte .ensures) (wrote-then (c10 .byte2 .ensures) (wrote-then (c6 .hex-four .ensures) (c .before .before .byte3 .ensures))))) in
-    let a = c22 .short-numeral .ensures .1 in
-    let b = c18 .letter .ensures .place in
-    let d = c14 .byte .ensures .place in
-    let e = c10 .byte2 .ensures .place in
+    let p = wrote-then (c18 .short-numeral .ensures .0) (wrote-then (c14 .letter .ensures) (wrote-then (c10 .two .ensures) (wrote-then (c6 .hex-four .ensures) (c .before .before .byte .ensures)))) in
+    let a = c18 .short-numeral .ensures .1 in
+    let b = c14 .letter .ensures .place in
+    let d = c10 .two .ensures .place in
     let f = c6 .hex-four .ensures .place in
-    let g = c .before .before .byte3 .ensures .place in
+    let g = c .before .before .byte .ensures .place in
     (p, omega arith)
 
 pub accepted-line-spec : {M : Type 1} → statement M
@@ -49,9 +44,8 @@ accepted-line-spec =
     (tie.spec
     short-numeral-requires
     letter-requires
-    byte-requires
-    byte-requires-2
+    two-requires
     hex-four-requires
-    byte-requires-3
+    byte-requires
     same-length
     returns)

@@ -6,14 +6,11 @@ use Rattle.text.proofs.letter.Tie as tie
 letter-code-requires : tie.Need-letter-code-requires
 letter-code-requires c κs = search needs
 
+two-requires : tie.Need-two-requires
+two-requires c κs = search needs
+
 byte-requires : tie.Need-byte-requires
 byte-requires c κs = search needs
-
-byte-requires-2 : tie.Need-byte-requires-2
-byte-requires-2 c κs = search needs
-
-byte-requires-3 : tie.Need-byte-requires-3
-byte-requires-3 c κs = search needs
 
 same-length : tie.Need-same-length
 same-length c = search needs
@@ -21,18 +18,8 @@ same-length c = search needs
 returns : tie.Need-returns
 returns c =
     let c6 = c .before .before .before .before .before .before in
-    let c10 = c6 .before .before .before .before in
-    let c12 = c10 .before .before in
-    let p = wrote-then (c10 .byte .ensures) (wrote-then (c6 .byte2 .ensures) (c .before .before .byte3 .ensures)) in
-    simp (c12 .letter-code .ensures) at p
+    let p = wrote-then (c6 .two .ensures) (c .before .before .byte .ensures) in
+    simp (c6 .before .before .letter-code .ensures) at p
 
 pub letter-spec : {M : Type 1} → statement M
-letter-spec =
-    tie.close
-    (tie.spec
-    letter-code-requires
-    byte-requires
-    byte-requires-2
-    byte-requires-3
-    same-length
-    returns)
+letter-spec = tie.close (tie.spec letter-code-requires two-requires byte-requires same-length returns)

@@ -4,7 +4,7 @@ use native.Mathlib.Omega.{arith}
 use lib.ListN.{length, take}
 use Rattle.ground.proofs.Lists.{copy-more, copy-all}
 use Rattle.text.specs.Digits.{hexTable}
-use Rattle.text.proofs.Numerals.{table-at, table-length}
+use Rattle.text.proofs.Hex.{table-at, table-length}
 use borrow.Author.Needs.{needs}
 use Rattle.text.proofs.digits.hex_table.Statement.{statement}
 use Rattle.text.proofs.digits.hex_table.Tie as tie
