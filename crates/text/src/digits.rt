@@ -28,7 +28,7 @@ impl LineNumber {
         }
     }
 
-    // The next number: its last digit is one up, and after a nine all are told anew. Past the last number comes 0.
+    // The next number: its last digit goes up, or after a nine the last but one; else all are told anew. Past the last number comes 0.
     pub fn next(self) -> LineNumber
         ensures { λ r. ⌜ r ≡ nextNumber self ⌝ }
     {
@@ -133,7 +133,7 @@ fn hex_digit(d: usize) -> u8
     55 + d as u8
 }
 
-// The two hex digits of each byte.
+// The place's digit in the table.
 fn hex_at(i: usize) -> u8
     requires { ⌜ i < 512 ⌝ }
     ensures { λ r. ⌜ r ≡ hexAt i ⌝ }
@@ -144,6 +144,7 @@ fn hex_at(i: usize) -> u8
     hex_digit(i / 2 % 16)
 }
 
+// The two hex digits of each byte in turn.
 pub fn hex_table() -> [u8; 512]
     ensures { λ r. ⌜ r ≡ hexTable ⌝ }
 {

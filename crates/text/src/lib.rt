@@ -12,7 +12,7 @@ ghost use Rattle.text.specs.Digits.{shortNumeral, numeral, hexBy};
 ghost use Rattle.text.specs.Output.{output, put, Wrote};
 
 pub mod digits;
-pub mod output;
+mod output;
 
 fn letter_code(write: bool) -> u8
     ensures { λ r. ⌜ r ≡ pick write 87 82 ⌝ }
