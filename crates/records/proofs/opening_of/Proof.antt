@@ -19,7 +19,9 @@ word-at-requires-4 : tie.Need-word-at-requires-4
 word-at-requires-4 c κs = search needs
 
 returns-2 : tie.Need-returns-2
-returns-2 c = let c4 = c .before .before .before .before in simp (eq-eqb _ _ (c4 .if1 .left), c .word-at4 .ensures, c .before .word-at3 .ensures, c .before .before .word-at2 .ensures, c .before .before .before .word-at .ensures)
+returns-2 c =
+    let c3 = c .before .before .before in
+    simp (eq-eqb _ _ (c3 .before .if1 .left), c .word-at4 .ensures, c .before .word-at3 .ensures, c .before .before .word-at2 .ensures, c3 .word-at .ensures)
 
 pub opening-of-spec : {M : Type 1} → statement M
 opening-of-spec =

@@ -32,7 +32,8 @@ Inv-loop verdict part from first number store₀ marks₀ tuples out₀ start bu
     × (verdict ≡ verdictOf (core .phase) (core .state) store marks tuples)
     × (counter .value < 2 ^ 64)
     × (counter ≡ lineNumber (counter .value))
-    × (toCome (output out text) first (counter .value) done (machine core buffer store marks) part tuples at ≡ shownAt (output out₀ text₀) (resultOf first number 0 (machine core₀ buffer₀ store₀ marks₀) (scriptFrom (length part) part tuples at₀)))
+    × (toCome (output out text) first (counter .value) done (machine core buffer store marks) part tuples at
+    ≡ shownAt (output out₀ text₀) (resultOf first number 0 (machine core₀ buffer₀ store₀ marks₀) (scriptFrom (length part) part tuples at₀)))
 
 abbrev μ-loop : tie.MeasureT-loop
 μ-loop verdict part from first number store₀ marks₀ tuples out₀ start buffer₀ core₀ at₀ counter₀ done₀ text₀ table store marks out buffer core at counter done text = length part - at

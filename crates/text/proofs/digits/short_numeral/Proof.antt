@@ -84,4 +84,24 @@ returns-4 c =
     (simp (lt-leb _ _ (c6 .before .before .if1 .left), lt-leb _ _ (c6 .if2 .left), lt-leb _ _ (c4 .if3 .left)) p, omega arith)
 
 pub short-numeral-spec : {M : Type 1} → statement M
-short-numeral-spec = tie.close (tie.spec cast-thousands cast-hundreds cast-tens cast-ones two-requires two-requires-2 same-length returns byte-requires two-requires-3 same-length-2 returns-2 two-requires-4 same-length-3 returns-3 byte-requires-2 same-length-4 returns-4)
+short-numeral-spec =
+    tie.close
+    (tie.spec
+    cast-thousands
+    cast-hundreds
+    cast-tens
+    cast-ones
+    two-requires
+    two-requires-2
+    same-length
+    returns
+    byte-requires
+    two-requires-3
+    same-length-2
+    returns-2
+    two-requires-4
+    same-length-3
+    returns-3
+    byte-requires-2
+    same-length-4
+    returns-4)
