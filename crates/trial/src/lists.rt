@@ -37,13 +37,13 @@ fn places_shown(entries: u16) -> usize {
 fn read(w: Words, buffer: &[u8]) {
     let places = w.w1 as usize;
     let held = entry(w);
-    let first = tuples::read_held(buffer, places, held, 0);
+    let first = trial_lists::read_held(buffer, places, held, 0);
     let outcome = first.outcome;
     outcome_line(b"R 10 3210\n", outcome, 0);
     let n = places_shown(outcome.value());
     let mut i: usize = 0;
     while i < n {
-        let h = tuples::read_held(buffer, places, held, i);
+        let h = trial_lists::read_held(buffer, places, held, i);
         entry_line(h.entry);
         i += 1;
     }
@@ -51,9 +51,9 @@ fn read(w: Words, buffer: &[u8]) {
 
 fn written(w: Words, last: Entry, bodies: &[u8], buffer: &mut [u8]) -> Outcome {
     if w.w0 == 7 {
-        return tuples::write_made(entry(w), last, w.w1 as usize, bodies, buffer);
+        return trial_lists::write_made(entry(w), last, w.w1 as usize, bodies, buffer);
     }
-    tuples::write_back(bodies, buffer)
+    trial_lists::write_back(bodies, buffer)
 }
 
 // The W line and the T line.

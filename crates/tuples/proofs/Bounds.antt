@@ -1,6 +1,7 @@
 -- How many entries a chain has, and so what is known of the reader's answer.
 --     most-entries  a tuple takes two bytes and the end mark one, so a chain in 256 bytes has at most 127 tuples
 --     read-well     an accepted reading: the three tests passed, and the count is that of the entries
+--     entries-first the list that an accepted reading leaves starts with the chain's entries
 --     bounds        the reader's count is within the entries and within the list, where it is not 0 the buffer has 256 bytes, and the list that has so many entries is the reader's
 use mathlib.Core.Path.{_≡_, refl, sym, _∙_, ap}
 use mathlib.Core.Bool.{true, false≢true}
@@ -8,14 +9,14 @@ use mathlib.Core.List.{List, _∷_, _++_, []}
 use Prim.Native.Nat.{ℕ, zero, suc, _+_, _*_, _<_, _≤_}
 use native.Mathlib.Omega.{arith}
 use lib.ListN.{length, take, drop}
-use lib.Seq.{take-all}
+use lib.Seq.{take-all, take-at}
 use lib.Dec.{leb, eqb}
 use borrow.Author.Tests.{leb-true, eqb-true}
 use Rattle.answers.specs.Answers.{outcomeValue, refused}
 use Rattle.answers.specs.declared.Outcome.{Outcome}
 use Rattle.answers.specs.declared.Outcome.the-variants.{Accepted, Refused}
 use Rattle.tuples.specs.Chain.{Chain, chainFrom, chainAt}
-use Rattle.tuples.specs.Read.{readTable, readOutcome, filled, unlessRefused}
+use Rattle.tuples.specs.Read.{readTable, readOutcome, filled, unlessRefused, Reads}
 use Rattle.tuples.specs.declared.Entry.{Entry}
 use Rattle.tuples.proofs.Filling.{all}
 use Rattle.answers.proofs.Rows.{passed}
@@ -73,3 +74,9 @@ by-answer s ls (Refused x) e = record { in-es = omega arith; in-ls = omega arith
 
 pub bounds : (s : List ℕ) (ls : List Entry) → Bounds s ls (readOutcome s (length ls))
 bounds s ls = by-answer s ls (readOutcome s (length ls)) refl
+
+-- ---- what it leaves
+pub entries-first : (s : List ℕ) (ls : List Entry) (r : Outcome) (zs : List Entry) → Reads s ls r zs → (n : ℕ) → r ≡ Accepted n → take n zs ≡ all s
+entries-first s ls r zs e n p =
+    let q = sym (e .0) ∙ p in
+    ap (take n) (e .1 ∙ ap (λ (o : Outcome). unlessRefused o (filled (all s) ls) ls) q) ∙ take-at (all s) (drop (length (all s)) ls) n (sym (read-well s (length ls) n q .count))

@@ -15,8 +15,8 @@ use borrow.Author.Tests.{ltb-true, ltb-false, le-leb, lt-leb, leb-true, leb-fals
 use Rattle.ground.specs.Choice.{pick}
 use Rattle.ground.proofs.Picks.{pick-elim, pick-same, pick-of}
 use Rattle.tuples.specs.Chain.{Chain, stop, grow, entry, endOf, stepAt, chainFrom, chainAt}
-use Rattle.tuples.specs.declared.Step.{Step}
-use Rattle.tuples.specs.declared.Step.the-variants.{Tuple, Null, End, Broken}
+use Rattle.tuples.specs.declared.chain.Step.{Step}
+use Rattle.tuples.specs.declared.chain.Step.the-variants.{Tuple, Null, End, Broken}
 use Rattle.ground.proofs.Lists.{drop-two}
 
 pub skip : (k : ℕ) (r : List ℕ) (at : ℕ) → chainFrom k r at ≡ chainFrom 0 (drop k r) (at + k)

@@ -11,7 +11,7 @@ use Rattle.answers.specs.declared.Refusal.the-variants.{ChainBroken}
 use Rattle.tuples.specs.Chain.{Chain, endOf, stepAt, chainAt}
 use Rattle.tuples.specs.Read.{counted}
 use Rattle.tuples.specs.declared.Entry.{Entry}
-use Rattle.tuples.specs.declared.Step.the-variants.{Tuple}
+use Rattle.tuples.specs.declared.chain.Step.the-variants.{Tuple}
 use Rattle.tuples.proofs.Chains.{chain-found}
 
 -- n tuples, and those of a chain

@@ -12,7 +12,7 @@ use lib.Dec.{leb, eqb, lit<}
 use Rattle.ground.proofs.Picks.{pick-elim}
 use Rattle.tuples.specs.Chain.{Chain, entry, noEntry, endOf, chainFrom, chainAt, nextAt, firstFound, found}
 use Rattle.tuples.specs.declared.Entry.{Entry}
-use Rattle.tuples.specs.declared.Found.{Found}
+use Rattle.tuples.specs.declared.chain.Found.{Found}
 use Rattle.tuples.proofs.Chains.{after-body}
 
 abbrev pub all : List ℕ → List Entry

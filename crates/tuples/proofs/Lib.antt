@@ -5,11 +5,10 @@ pub mod Filling
 pub mod Bounds
 pub mod PutTuple
 pub mod Pages
-pub mod Doors
 pub mod RoundTrip
 pub mod Theorems
 pub mod LinkFF
 pub mod OnlyOne
-pub mod Arrays
+pub mod Locals
 pub mod RowTests
 pub mod FirstRow

@@ -3,21 +3,20 @@
 --     only-…          two answers, with what they leave, that satisfy the same promise are the same
 use mathlib.Core.Path.{_≡_, _∙_, sym, ap}
 use mathlib.Core.List.{List}
-use Prim.Native.Nat.{ℕ, min}
+use Prim.Native.Nat.{ℕ}
 use lib.ListN.{length}
-use Rattle.ground.proofs.OnlyOne.{only-one, only-both}
+use Rattle.ground.proofs.OnlyOne.{only-both}
 use Rattle.answers.specs.Answers.{outcomeValue}
 use Rattle.answers.specs.declared.Outcome.{Outcome}
 use Rattle.answers.specs.declared.Outcome.the-variants.{Refused}
 use Rattle.answers.specs.declared.Refusal.{Refusal}
 use Rattle.tuples.specs.Chain.{chainAt}
-use Rattle.tuples.specs.Read.{readOutcome, filled, unlessRefused, Reads, handed, heldAfter}
-use Rattle.tuples.specs.Write.{made, tupleBytes, filledUp, writeOutcome, backOutcome, Writes, WritesBack}
+use Rattle.tuples.specs.Read.{readOutcome, filled, unlessRefused, Reads}
+use Rattle.tuples.specs.Write.{tupleBytes, filledUp, writeOutcome, Writes}
 use Rattle.tuples.specs.declared.Entry.{Entry}
-use Rattle.tuples.specs.declared.Handed.{Handed}
 
 -- where the answer r is a refusal, its value is 0, and z is what was there before
-unchanged {ℓ} : {A : Type ℓ} (o r : Outcome) (new old z : A) (x : Refusal) → r ≡ o → z ≡ unlessRefused o new old → r ≡ Refused x → (outcomeValue r ≡ 0) × (z ≡ old)
+pub unchanged {ℓ} : {A : Type ℓ} (o r : Outcome) (new old z : A) (x : Refusal) → r ≡ o → z ≡ unlessRefused o new old → r ≡ Refused x → (outcomeValue r ≡ 0) × (z ≡ old)
 unchanged o r new old z x e f p = (ap outcomeValue p, f ∙ ap (λ (y : Outcome). unlessRefused y new old) (sym e ∙ p))
 
 pub refused-read : (s : List ℕ) (ls : List Entry) (r : Outcome) (zs : List Entry) (x : Refusal) → Reads s ls r zs → r ≡ Refused x → (outcomeValue r ≡ 0) × (zs ≡ ls)
@@ -26,23 +25,8 @@ refused-read s ls r zs x e p = unchanged (readOutcome s (length ls)) r (filled (
 pub refused-write : (bs : List ℕ) (es : List Entry) (out : List ℕ) (r : Outcome) (z : List ℕ) (x : Refusal) → Writes bs es out r z → r ≡ Refused x → (outcomeValue r ≡ 0) × (z ≡ out)
 refused-write bs es out r z x e p = unchanged (writeOutcome bs es (length out)) r (filledUp (tupleBytes bs es)) out z x (e .0) (e .1) p
 
-pub refused-back : (s out : List ℕ) (r : Outcome) (z : List ℕ) (x : Refusal) → WritesBack s out r z → r ≡ Refused x → (outcomeValue r ≡ 0) × (z ≡ out)
-refused-back s out r z x e p = unchanged (backOutcome s (length out)) r (filledUp (tupleBytes s (chainAt s 0 .entries))) out z x (e .0) (e .1) p
-
 pub only-read : (s : List ℕ) (ls : List Entry) (r r′ : Outcome) (z z′ : List Entry) → Reads s ls r z → Reads s ls r′ z′ → (r ≡ r′) × (z ≡ z′)
-only-read s ls r r′ z z′ p q = only-both _ r r′ _ z z′ p q
+only-read s ls r r′ z z′ p q = only-both _ r r′ _ z z′ (p .0, p .1) (q .0, q .1)
 
 pub only-write : (bs : List ℕ) (es : List Entry) (out : List ℕ) (r r′ : Outcome) (z z′ : List ℕ) → Writes bs es out r z → Writes bs es out r′ z′ → (r ≡ r′) × (z ≡ z′)
-only-write bs es out r r′ z z′ p q = only-both _ r r′ _ z z′ p q
-
-pub only-made : (bs : List ℕ) (e f : Entry) (n : ℕ) (out : List ℕ) (r r′ : Outcome) (z z′ : List ℕ) → Writes bs (made (min n 256) e f) out r z → Writes bs (made (min n 256) e f) out r′ z′ → (r ≡ r′) × (z ≡ z′)
-only-made bs e f n out r r′ z z′ p q = only-write bs (made (min n 256) e f) out r r′ z z′ p q
-
-pub only-at : (s : List ℕ) (i : ℕ) (r r′ : Handed) → r ≡ handed s i → r′ ≡ handed s i → r ≡ r′
-only-at s i r r′ p q = only-one (handed s i) r r′ p q
-
-pub only-held : (s : List ℕ) (places : ℕ) (x : Entry) (i : ℕ) (r r′ : Handed) → r ≡ heldAfter s places x i → r′ ≡ heldAfter s places x i → r ≡ r′
-only-held s places x i r r′ p q = only-one (heldAfter s places x i) r r′ p q
-
-pub only-back : (s out : List ℕ) (r r′ : Outcome) (z z′ : List ℕ) → WritesBack s out r z → WritesBack s out r′ z′ → (r ≡ r′) × (z ≡ z′)
-only-back s out r r′ z z′ p q = only-both _ r r′ _ z z′ p q
+only-write bs es out r r′ z z′ p q = only-both _ r r′ _ z z′ (p .0, p .1) (q .0, q .1)

@@ -12,6 +12,7 @@ use lib.Dec.{leb, eqb}
 use borrow.Author.Tests.{leb-true, leb-false}
 use Rattle.ground.specs.Choice.{pick}
 use Rattle.ground.proofs.Picks.{pick-elim, pick-same, pick-of, both-of}
+use Rattle.answers.proofs.Outcomes.{says}
 use Rattle.answers.specs.declared.Outcome.{Outcome}
 use Rattle.answers.specs.declared.Outcome.the-variants.{Accepted, Refused}
 use Rattle.answers.specs.declared.Refusal.the-variants.{TupleBufferLength, TuplesTooLong, TupleBad}
@@ -19,7 +20,7 @@ use Rattle.tuples.specs.Read.{unlessRefused}
 use Rattle.tuples.specs.Page.{page, newPage, withTuple, addedTo, pages, putOutcome, Puts}
 use Rattle.tuples.specs.Write.{good, bodyOf, tupleBytes, allGood, filledUp, writeOutcome, Writes}
 use Rattle.tuples.specs.declared.Entry.{Entry}
-use Rattle.tuples.specs.declared.Page.{Page}
+use Rattle.tuples.specs.declared.page.Page.{Page}
 use Rattle.tuples.proofs.PutTuple.{put}
 use Rattle.tuples.proofs.Goods.{Good, is-good, long-body}
 
@@ -146,4 +147,5 @@ module _ (bs : List ℕ) where
     unfolding putOutcome writeOutcome
     puts-writes r z p =
         let s = by-length (eqb (length out) 256) _ _ (by-good (allGood bs es) refl) in
-        (p .0 ∙ s .0, p .1 ∙ s .1)
+        let e = p .0 ∙ s .0 in
+        (e, p .1 ∙ s .1, says _ _ e)

@@ -17,7 +17,7 @@ use Rattle.tuples.specs.Chain.{Chain, stepAt, chainAt}
 use Rattle.tuples.specs.Write.{good, allGood, tupleBytes, bodyOf}
 use Rattle.tuples.specs.Rows.{marked, bad, anyBad, bytesTaken}
 use Rattle.tuples.specs.declared.Entry.{Entry}
-use Rattle.tuples.specs.declared.Step.{Step}
+use Rattle.tuples.specs.declared.chain.Step.{Step}
 use Rattle.tuples.proofs.Chains.{chain-step, past, after}
 use Rattle.tuples.proofs.Goods.{is-good, long-body}
 

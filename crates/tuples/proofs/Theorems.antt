@@ -1,6 +1,6 @@
--- Theorems about the reader and the writer, stated over their promises `Reads`, `Writes` and `WritesBack`.
+-- Theorems about the reader and the writer, stated over their promises `Reads` and `Writes`.
 --     written-reads-back      "Reading back gives the same codes and bodies, starts apart"
---     read-then-written-back  "writing back equals the chain up to its end mark, null (00H) tuples dropped"; `door-written-back`: the function that does both does it
+--     read-then-written-back  "writing back equals the chain up to its end mark, null (00H) tuples dropped"
 --     most-read               at most 127 entries in 256 bytes
 use mathlib.Core.Path.{_≡_, refl, sym, _∙_, ap, subst}
 use mathlib.Core.Bool.{true}
@@ -15,11 +15,10 @@ use Rattle.answers.specs.declared.Outcome.the-variants.{Accepted}
 use Rattle.tuples.specs.Chain.{Chain, chainFrom, chainAt}
 use Rattle.tuples.specs.Read.{readOutcome, counted, unlessRefused, Reads}
 use Rattle.answers.specs.Answers.{refused}
-use Rattle.tuples.specs.Write.{bodyOf, tupleBytes, allGood, filledUp, writeTable, writeOutcome, backOutcome, Writes, WritesBack, codes, SameTuples, WrittenBack}
+use Rattle.tuples.specs.Write.{bodyOf, tupleBytes, allGood, filledUp, writeTable, writeOutcome, Writes, codes, SameTuples, WrittenBack}
 use Rattle.tuples.specs.declared.Entry.{Entry}
 use Rattle.tuples.proofs.Filling.{all}
-use Rattle.tuples.proofs.Bounds.{most-entries, read-well}
-use Rattle.tuples.proofs.Doors.{entries-first, back-written}
+use Rattle.tuples.proofs.Bounds.{most-entries, read-well, entries-first}
 use Rattle.tuples.proofs.RoundTrip.{laid, whole, reads-back, same-codes, same-count, same-bodies, back}
 use Rattle.answers.proofs.Rows.{passed}
 
@@ -67,9 +66,9 @@ written-reads-back bs es out r z w v p ls r′ zs l e =
     subst (λ (y : List ℕ). Reads y ls r′ zs → SameTuples bs es y r′ zs) (sym is) (of-page bs es ls r′ zs (ok .all-good) (ok .short) l) e
 
 -- ---- what was read is written back
-of-chain : (s out : List ℕ) (r : Outcome) (z : List ℕ) → length s ≡ 256 → chainAt s 0 .ended ≡ true → length out ≡ 256 → Writes s (all s) out r z → WrittenBack s r z
+pub chain-written : (s out : List ℕ) (r : Outcome) (z : List ℕ) → length s ≡ 256 → chainAt s 0 .ended ≡ true → length out ≡ 256 → Writes s (all s) out r z → WrittenBack s r z
 unfolding writeOutcome
-of-chain s out r z ls c lo w =
+chain-written s out r z ls c lo w =
     let b = back s 0 s 0 refl c in
     let short : length (tupleBytes s (all s)) ≤ 255 = omega (arith, b .short) in
     let o : writeOutcome s (all s) (length out) ≡ Accepted 0 = simp (eq-eqb _ _ lo, b .all-good, le-leb _ _ short) in
@@ -79,20 +78,7 @@ pub read-then-written-back : (s : List ℕ) (ls : List Entry) (r : Outcome) (zs 
     → (out : List ℕ) (r′ : Outcome) (z : List ℕ) → length out ≡ 256 → Writes s (take n zs) out r′ z → WrittenBack s r′ z
 read-then-written-back s ls r zs e n p out r′ z lo w =
     let ok = read-well s (length ls) n (sym (e .0) ∙ p) in
-    of-chain s out r′ z (ok .sized) (ok .ended) lo (subst (λ (es : List Entry). Writes s es out r′ z) (entries-first s ls r zs e n p) w)
-
-pub door-written-back : (s out : List ℕ) (r : Outcome) (z : List ℕ) → WritesBack s out r z → length s ≡ 256 → chainAt s 0 .ended ≡ true → length out ≡ 256 → WrittenBack s r z
-unfolding readOutcome counted
-door-written-back s out r z w ls c lo =
-    let o : readOutcome s 127 ≡ Accepted (length (all s)) = simp (eq-eqb _ _ ls, c) in
-    let b : backOutcome s (length out) ≡ writeOutcome s (all s) (length out) = ap (λ (o : Outcome). unlessRefused o (writeOutcome s (all s) (length out)) o) o in
-    of-chain s out r z ls c lo (w .0 ∙ b, w .1 ∙ ap (λ (o : Outcome). unlessRefused o (filledUp (tupleBytes s (all s))) out) b)
-
--- the function that does both does what the reader and then the writer do
-pub door-does-both : (s : List ℕ) (ls : List Entry) (r : Outcome) (zs : List Entry) → Reads s ls r zs → length ls ≡ 127 → (n : ℕ) → r ≡ Accepted n
-    → (out : List ℕ) (r′ : Outcome) (z : List ℕ) → Writes s (take n zs) out r′ z → WritesBack s out r′ z
-door-does-both s ls r zs e l n p out r′ z w =
-    back-written s out r r′ z (e .0 ∙ ap (readOutcome s) l) (ap refused p) (subst (λ (es : List Entry). Writes s es out r′ z) (entries-first s ls r zs e n p) w)
+    chain-written s out r′ z (ok .sized) (ok .ended) lo (subst (λ (es : List Entry). Writes s es out r′ z) (entries-first s ls r zs e n p) w)
 
 -- ---- how many there are
 pub most-read : (s : List ℕ) (ls : List Entry) (r : Outcome) (zs : List Entry) → Reads s ls r zs → (n : ℕ) → r ≡ Accepted n → n ≤ 127

@@ -5,10 +5,18 @@ use mathlib.Core.List.{List, _∷_, []}
 use lib.ListN.{length, getD, drop}
 use lib.Dec.{ltb, leb, eqb}
 use Rattle.ground.specs.Choice.{pick}
+use Rattle.ground.specs.Rows.{When, Unless, firstOf}
 use Rattle.tuples.specs.declared.Entry.{Entry}
-use Rattle.tuples.specs.declared.Found.{Found}
-use Rattle.tuples.specs.declared.Step.{Step}
-use Rattle.tuples.specs.declared.Step.the-variants.{Tuple, Null, End, Broken}
+use Rattle.tuples.specs.declared.chain.Found.{Found}
+use Rattle.tuples.specs.declared.chain.Step.{Step}
+use Rattle.tuples.specs.declared.chain.Step.the-variants.{Tuple, Null, End, Broken}
+
+-- "00H is one byte, skipped; FFH ends the chain"
+abbrev pub nullCode : ℕ
+nullCode = 0x00
+
+abbrev pub endMark : ℕ
+endMark = 0xFF
 
 -- "entries: code, start, length"
 abbrev pub entry : ℕ → ℕ → ℕ → Entry
@@ -16,7 +24,7 @@ entry c s n = record { code = c; start = s; length = n }
 
 -- 00H is no tuple's code, so this is no tuple
 abbrev pub noEntry : Entry
-noEntry = entry 0 0 0
+noEntry = entry nullCode 0 0
 
 -- the place after a tuple's body
 abbrev pub endOf : Entry → ℕ
@@ -38,10 +46,10 @@ grow e c = record { entries = e ∷ c .entries; ended = c .ended }
 unfoldable pub chainFrom : ℕ → List ℕ → ℕ → Chain
 chainFrom k [] at = stop false
 chainFrom (suc k) (b ∷ r) at = chainFrom k r (at + 1)
-chainFrom zero (b ∷ []) at = stop (eqb b 255)
+chainFrom zero (b ∷ []) at = stop (eqb b endMark)
 chainFrom zero (b ∷ (n ∷ r)) at =
-    pick (eqb b 255) (stop true)
-    (pick (eqb b 0) (chainFrom zero (n ∷ r) (at + 1))
+    pick (eqb b endMark) (stop true)
+    (pick (eqb b nullCode) (chainFrom zero (n ∷ r) (at + 1))
     (pick (leb n (length r)) (grow (entry b (at + 2) n) (chainFrom n r (at + 2))) (stop false)))
 
 -- the chain from a place of a buffer on
@@ -51,11 +59,13 @@ chainAt s at = chainFrom 0 (drop at s) at
 -- one step: what stands at a place
 unfoldable pub stepAt : List ℕ → ℕ → Step
 stepAt s at =
-    pick (ltb at (length s))
-    (pick (eqb (getD s at 0) 255) End
-    (pick (eqb (getD s at 0) 0) Null
-    (pick (leb (at + 2 + getD s (at + 1) 0) (length s)) (Tuple (entry (getD s at 0) (at + 2) (getD s (at + 1) 0))) Broken)))
-    Broken
+    firstOf
+    (Unless (ltb at (length s)) Broken
+    ∷ When (eqb (getD s at 0) endMark) End
+    ∷ When (eqb (getD s at 0) nullCode) Null
+    ∷ Unless (leb (at + 2 + getD s (at + 1) 0) (length s)) Broken
+    ∷ [])
+    (λ (x : Step). x) (Tuple (entry (getD s at 0) (at + 2) (getD s (at + 1) 0)))
 
 abbrev pub found : Entry → ℕ → Found
 found e n = record { entry = e; next = n }
@@ -73,4 +83,4 @@ unfoldable pub linkFF : ℕ → List ℕ → Bool
 linkFF k [] = false
 linkFF (suc k) (b ∷ r) = linkFF k r
 linkFF zero (b ∷ []) = false
-linkFF zero (b ∷ (n ∷ r)) = pick (eqb b 255) false (pick (eqb b 0) (linkFF zero (n ∷ r)) (pick (eqb n 255) true (linkFF n r)))
+linkFF zero (b ∷ (n ∷ r)) = pick (eqb b endMark) false (pick (eqb b nullCode) (linkFF zero (n ∷ r)) (pick (eqb n 0xFF) true (linkFF n r)))

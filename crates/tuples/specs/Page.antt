@@ -6,21 +6,21 @@ use mathlib.Core.List.{List, _∷_, []}
 use lib.ListN.{length, drop, set, replicate}
 use lib.Seq.{paste}
 use lib.Dec.{leb, eqb}
-use Rattle.ground.specs.Choice.{pick}
+use Rattle.tuples.specs.Chain.{endMark}
 use Rattle.answers.specs.declared.Outcome.{Outcome}
 use Rattle.answers.specs.declared.Outcome.the-variants.{Accepted, Refused}
 use Rattle.answers.specs.declared.Refusal.the-variants.{TupleBufferLength, TuplesTooLong, TupleBad}
 use Rattle.ground.specs.Rows.{When, Unless, firstOf}
 use Rattle.tuples.specs.declared.Entry.{Entry}
-use Rattle.tuples.specs.declared.Page.{Page}
-use Rattle.tuples.specs.Read.{unlessRefused}
-use Rattle.tuples.specs.Write.{good}
+use Rattle.tuples.specs.declared.page.Page.{Page}
+use Rattle.tuples.specs.Read.{bufferBytes, unlessRefused}
+use Rattle.tuples.specs.Write.{mostBytes, good}
 
 abbrev pub page : List ℕ → ℕ → Bool → Bool → Page
 page bs at bad over = record { bytes = bs; at = at; bad = bad; over = over }
 
 abbrev pub newPage : Page
-newPage = page (replicate 256 255) 0 false false
+newPage = page (replicate bufferBytes endMark) 0 false false
 
 -- the page with a tuple's code, link and body at its place
 abbrev pub withTuple : List ℕ → Page → Entry → Page
@@ -30,9 +30,11 @@ withTuple bs w e =
 -- one tuple more; a bad one, or one that goes beyond 255 bytes, is only marked, so the marks speak of the whole list
 unfoldable pub addedTo : List ℕ → Page → Entry → Page
 addedTo bs w e =
-    pick (good bs e)
-    (pick (leb (w .at + 2 + e .length) 255) (withTuple bs w e) (page (w .bytes) (w .at) (w .bad) true))
-    (page (w .bytes) (w .at) true (w .over))
+    firstOf
+    (Unless (good bs e) (page (w .bytes) (w .at) true (w .over))
+    ∷ Unless (leb (w .at + 2 + e .length) mostBytes) (page (w .bytes) (w .at) (w .bad) true)
+    ∷ [])
+    (λ (p : Page). p) (withTuple bs w e)
 
 unfoldable pub pages : List ℕ → Page → List Entry → Page
 pages bs w [] = w
@@ -41,7 +43,7 @@ pages bs w (e ∷ es) = pages bs (addedTo bs w e) es
 -- "Writing checks 5, 15, 14."
 unfoldable pub putOutcome : Page → ℕ → Outcome
 putOutcome w n =
-    firstOf (Unless (eqb n 256) TupleBufferLength ∷ When (w .bad) TupleBad ∷ When (w .over) TuplesTooLong ∷ []) Refused (Accepted 0)
+    firstOf (Unless (eqb n bufferBytes) TupleBufferLength ∷ When (w .bad) TupleBad ∷ When (w .over) TuplesTooLong ∷ []) Refused (Accepted 0)
 
 abbrev pub putList : Page → List ℕ → List ℕ
 putList w out = unlessRefused (putOutcome w (length out)) (w .bytes) out

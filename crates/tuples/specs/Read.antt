@@ -1,20 +1,27 @@
 -- 01, "Tuples" and "Answers": what the reader answers and what it leaves in the lent list.
-use Prim.Native.Nat.{ℕ, min}
+use Prim.Native.Nat.{ℕ}
 use mathlib.Core.Path.{_≡_}
 use mathlib.Core.List.{List, _++_, [], _∷_}
-use lib.ListN.{length, getD, drop, replicate}
+use lib.ListN.{length, drop}
 use lib.Dec.{leb, eqb}
 use Rattle.ground.specs.Choice.{pick}
-use Rattle.answers.specs.Answers.{outcomeValue}
+use Rattle.answers.specs.Answers.{outcomeValue, Says}
 use Rattle.answers.specs.declared.Outcome.{Outcome}
 use Rattle.answers.specs.declared.Outcome.the-variants.{Accepted, Refused}
 use Rattle.answers.specs.declared.Refusal.the-variants.{TupleBufferLength, ListTooShort, ChainBroken}
 use Rattle.ground.specs.Rows.{Row, Unless, firstOf}
 use Rattle.answers.specs.declared.Refusal.{Refusal}
-use Rattle.tuples.specs.declared.Checked.{Checked}
+use Rattle.tuples.specs.declared.read.Checked.{Checked}
 use Rattle.tuples.specs.declared.Entry.{Entry}
-use Rattle.tuples.specs.declared.Handed.{Handed}
-use Rattle.tuples.specs.Chain.{Chain, chainAt, noEntry}
+use Rattle.tuples.specs.Chain.{Chain, chainAt}
+
+-- "a 256-byte tuple buffer"
+abbrev pub bufferBytes : ℕ
+bufferBytes = 256
+
+-- "the lent tuple list has fewer than 127 places"
+abbrev pub listPlaces : ℕ
+listPlaces = 127
 
 -- "The reader's value is its entry count"; "tuple chain runs past byte 255 or has no end mark"
 unfoldable pub counted : Chain → Outcome
@@ -23,8 +30,8 @@ counted c = pick (c .ended) (Accepted (length (c .entries))) (Refused ChainBroke
 -- "Tuple reading checks 5, 16, 13."
 abbrev pub readTable : List ℕ → ℕ → List (Row Refusal)
 readTable s places =
-    Unless (eqb (length s) 256) TupleBufferLength
-    ∷ Unless (leb 127 places) ListTooShort
+    Unless (eqb (length s) bufferBytes) TupleBufferLength
+    ∷ Unless (leb listPlaces places) ListTooShort
     ∷ Unless (chainAt s 0 .ended) ChainBroken
     ∷ []
 
@@ -43,22 +50,10 @@ filled es l = es ++ drop (length es) l
 abbrev pub readList : List ℕ → List Entry → List Entry
 readList s l = unlessRefused (readOutcome s (length l)) (filled (chainAt s 0 .entries) l) l
 
--- the reader's promise: its answer, and the list that it leaves
+-- the reader's promise: its answer, with the number and value of 01, and the list that it leaves
 abbrev pub Reads : List ℕ → List Entry → Outcome → List Entry → Type 0
-Reads s l r z = (r ≡ readOutcome s (length l)) × (z ≡ readList s l)
+Reads s l r z = (r ≡ readOutcome s (length l)) × (z ≡ readList s l) × Says r (readOutcome s (length l))
 
 -- an answer, with the number of entries that it speaks of
 abbrev pub checked : Outcome → Checked
 checked o = record { outcome = o; count = outcomeValue o }
-
--- the entry that the reader hands out by its number; past the last there is none
-abbrev pub entryAt : List ℕ → ℕ → Entry
-entryAt s i = getD (unlessRefused (readOutcome s 127) (chainAt s 0 .entries) []) i noEntry
-
-abbrev pub handed : List ℕ → ℕ → Handed
-handed s i = record { outcome = readOutcome s 127; entry = entryAt s i }
-
--- what the place of a number holds after a list of so many places, at most 256, that all held one entry was read into
-abbrev pub heldAfter : List ℕ → ℕ → Entry → ℕ → Handed
-heldAfter s places held i =
-    record { outcome = readOutcome s (min places 256); entry = getD (readList s (replicate (min places 256) held)) i held }

@@ -5,9 +5,8 @@ use mathlib.Core.Bool.{Bool, true, false, _||_}
 use mathlib.Core.List.{List, [], _∷_}
 use lib.ListN.{length, getD}
 use lib.Dec.{eqb, leb, ltb}
-use Rattle.ground.specs.Choice.{pick}
 use Rattle.answers.specs.declared.Refusal.the-variants.{TupleBufferLength, ListTooShort, ChainBroken, TupleBad, TuplesTooLong}
-use Rattle.ground.specs.Rows.{Row, When, Unless}
+use Rattle.ground.specs.Rows.{Row, When, Unless, firstOf}
 use Rattle.answers.specs.declared.Refusal.{Refusal}
 use Rattle.tuples.specs.declared.Entry.{Entry}
 
@@ -16,11 +15,8 @@ use Rattle.tuples.specs.declared.Entry.{Entry}
 unfoldable pub marked : ℕ → List ℕ → ℕ → Bool
 marked zero s at = false
 marked (suc n) s at =
-    pick (leb at 255)
-    (pick (eqb (getD s at 0) 0xFF) true
-    (pick (eqb (getD s at 0) 0x00) (marked n s (at + 1))
-    (marked n s (at + 2 + getD s (at + 1) 0))))
-    false
+    firstOf (Unless (leb at 255) false ∷ When (eqb (getD s at 0) 0xFF) true ∷ When (eqb (getD s at 0) 0x00) (marked n s (at + 1)) ∷ [])
+    (λ (b : Bool). b) (marked n s (at + 2 + getD s (at + 1) 0))
 
 -- 15: "a tuple to be written has code 00H or FFH, or its body lies outside the lent bytes"
 abbrev pub bad : List ℕ → Entry → Bool

@@ -6,14 +6,15 @@ use mathlib.Core.List.{List, _∷_, _++_, map, []}
 use lib.ListN.{length, take, drop, replicate}
 use lib.Dec.{leb, eqb}
 use Rattle.ground.specs.Choice.{pick}
+use Rattle.answers.specs.Answers.{Says}
 use Rattle.answers.specs.declared.Outcome.{Outcome}
 use Rattle.answers.specs.declared.Outcome.the-variants.{Accepted, Refused}
 use Rattle.answers.specs.declared.Refusal.the-variants.{TupleBufferLength, TuplesTooLong, TupleBad}
 use Rattle.ground.specs.Rows.{Row, Unless, firstOf}
 use Rattle.answers.specs.declared.Refusal.{Refusal}
 use Rattle.tuples.specs.declared.Entry.{Entry}
-use Rattle.tuples.specs.Chain.{chainAt}
-use Rattle.tuples.specs.Read.{readOutcome, unlessRefused}
+use Rattle.tuples.specs.Chain.{nullCode, endMark}
+use Rattle.tuples.specs.Read.{bufferBytes, unlessRefused}
 
 -- a tuple's body, among the lent bytes
 abbrev pub bodyOf : List ℕ → Entry → List ℕ
@@ -21,7 +22,7 @@ bodyOf bs e = take (e .length) (drop (e .start) bs)
 
 -- not "a tuple to be written has code 00H or FFH, or its body lies outside the lent bytes"
 unfoldable pub good : List ℕ → Entry → Bool
-good bs e = pick (eqb (e .code) 0) false (pick (eqb (e .code) 255) false (leb (e .start + e .length) (length bs)))
+good bs e = pick (eqb (e .code) nullCode) false (pick (eqb (e .code) endMark) false (leb (e .start + e .length) (length bs)))
 
 unfoldable pub allGood : List ℕ → List Entry → Bool
 allGood bs [] = true
@@ -32,16 +33,20 @@ unfoldable pub tupleBytes : List ℕ → List Entry → List ℕ
 tupleBytes bs [] = []
 tupleBytes bs (e ∷ es) = e .code ∷ (e .length ∷ (bodyOf bs e ++ tupleBytes bs es))
 
+-- "the tuples to be written take more than 255 bytes"
+abbrev pub mostBytes : ℕ
+mostBytes = 255
+
 -- "sets all 256 bytes: tuples, then FFH to the end"
 abbrev pub filledUp : List ℕ → List ℕ
-filledUp ts = ts ++ replicate (256 - length ts) 255
+filledUp ts = ts ++ replicate (bufferBytes - length ts) endMark
 
 -- "Writing checks 5, 15, 14."
 abbrev pub writeTable : List ℕ → List Entry → ℕ → List (Row Refusal)
 writeTable bs es n =
-    Unless (eqb n 256) TupleBufferLength
+    Unless (eqb n bufferBytes) TupleBufferLength
     ∷ Unless (allGood bs es) TupleBad
-    ∷ Unless (leb (length (tupleBytes bs es)) 255) TuplesTooLong
+    ∷ Unless (leb (length (tupleBytes bs es)) mostBytes) TuplesTooLong
     ∷ []
 
 unfoldable pub writeOutcome : List ℕ → List Entry → ℕ → Outcome
@@ -50,35 +55,16 @@ writeOutcome bs es n = firstOf (writeTable bs es n) Refused (Accepted 0)
 abbrev pub writeList : List ℕ → List Entry → List ℕ → List ℕ
 writeList bs es out = unlessRefused (writeOutcome bs es (length out)) (filledUp (tupleBytes bs es)) out
 
--- the writer's promise: its answer, and the bytes that it leaves
+-- the writer's promise: its answer, with the number and value of 01, and the bytes that it leaves
 abbrev pub Writes : List ℕ → List Entry → List ℕ → Outcome → List ℕ → Type 0
-Writes bs es out r z = (r ≡ writeOutcome bs es (length out)) × (z ≡ writeList bs es out)
-
--- a list of n tuples: all are e, and the last is f
-unfoldable pub made : ℕ → Entry → Entry → List Entry
-made zero e f = []
-made (suc n) e f = replicate n e ++ (f ∷ [])
-
--- its last place; of none, a place outside it
-unfoldable pub lastPlace : ℕ → ℕ
-lastPlace n = pick (eqb n 0) 255 (n - 1)
-
--- a chain is read, and where that is not refused, its entries are written over the same bytes
-abbrev pub backOutcome : List ℕ → ℕ → Outcome
-backOutcome s n = unlessRefused (readOutcome s 127) (writeOutcome s (chainAt s 0 .entries) n) (readOutcome s 127)
-
-abbrev pub backList : List ℕ → List ℕ → List ℕ
-backList s out = unlessRefused (backOutcome s (length out)) (filledUp (tupleBytes s (chainAt s 0 .entries))) out
-
-abbrev pub WritesBack : List ℕ → List ℕ → Outcome → List ℕ → Type 0
-WritesBack s out r z = (r ≡ backOutcome s (length out)) × (z ≡ backList s out)
+Writes bs es out r z = (r ≡ writeOutcome bs es (length out)) × (z ≡ writeList bs es out) × Says r (writeOutcome bs es (length out))
 
 -- "the chain up to its end mark, null (00H) tuples dropped"; the first k bytes are a body
 unfoldable pub nullsDropped : ℕ → List ℕ → List ℕ
 nullsDropped k [] = []
 nullsDropped (suc k) (b ∷ r) = b ∷ nullsDropped k r
 nullsDropped zero (b ∷ []) = []
-nullsDropped zero (b ∷ (n ∷ r)) = pick (eqb b 255) [] (pick (eqb b 0) (nullsDropped zero (n ∷ r)) (b ∷ (n ∷ nullsDropped n r)))
+nullsDropped zero (b ∷ (n ∷ r)) = pick (eqb b endMark) [] (pick (eqb b nullCode) (nullsDropped zero (n ∷ r)) (b ∷ (n ∷ nullsDropped n r)))
 
 -- "Reading back gives the same codes and bodies, starts apart": of the first places of a list that was read back from the page z
 abbrev pub codes : List Entry → List ℕ

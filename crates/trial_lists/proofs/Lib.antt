@@ -1,0 +1,3 @@
+pub mod Arrays
+pub mod Lists
+pub mod Theorems
