@@ -1,5 +1,5 @@
 -- Of `write_back`: what it does, what a refusal leaves; that no second answer satisfies a promise.
---     back-as-01      "writing back equals the chain up to its end mark, null (00H) tuples dropped"
+--     written-back    "writing back equals the chain up to its end mark, null (00H) tuples dropped"
 --     does-both       it does what the reader and then the writer do
 use mathlib.Core.Path.{_≡_, _∙_, ap, subst}
 use mathlib.Core.Bool.{true}
@@ -25,9 +25,9 @@ use Rattle.trial_lists.specs.declared.Handed.{Handed}
 use Rattle.trial_lists.specs.Lists.{heldAfter, HeldAfter, backOutcome, WritesBack}
 use Rattle.trial_lists.proofs.Lists.{back-written}
 
-pub back-as-01 : (s out : List ℕ) (r : Outcome) (z : List ℕ) → WritesBack s out r z → length s ≡ 256 → chainAt s 0 .ended ≡ true → length out ≡ 256 → WrittenBack s r z
+pub written-back : (s out : List ℕ) (r : Outcome) (z : List ℕ) → WritesBack s out r z → length s ≡ 256 → chainAt s 0 .ended ≡ true → length out ≡ 256 → WrittenBack s r z
 unfolding readOutcome counted
-back-as-01 s out r z w ls c lo =
+written-back s out r z w ls c lo =
     let o : readOutcome s listPlaces ≡ Accepted (length (all s)) = simp (eq-eqb _ _ ls, c) in
     let b : backOutcome s (length out) ≡ writeOutcome s (all s) (length out) = ap (λ (o : Outcome). unlessRefused o (writeOutcome s (all s) (length out)) o) o in
     chain-written s out r z ls c lo (w .0 ∙ b, w .1 ∙ ap (λ (o : Outcome). unlessRefused o (filledUp (tupleBytes s (all s))) out) b, says _ _ (w .0 ∙ b))

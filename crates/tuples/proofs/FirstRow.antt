@@ -17,7 +17,7 @@ use Rattle.answers.proofs.Rows.{first-of, by-rows}
 use Rattle.tuples.specs.declared.Entry.{Entry}
 use Rattle.tuples.specs.Chain.{chainAt}
 use Rattle.tuples.specs.Read.{readTable, readOutcome}
-use Rattle.tuples.specs.Write.{allGood, tupleBytes, writeTable, writeOutcome}
+use Rattle.tuples.specs.Write.{allGood, tupleBytes, mostBytes, writeTable, writeOutcome}
 use Rattle.tuples.specs.Rows.{bytesTaken, readRows, writeRows}
 use Rattle.tuples.proofs.RowTests.{marked-is, bad-is, taken-is}
 
@@ -43,7 +43,7 @@ write-good bs es false g = refl
 write-number : (bs : List ℕ) (es : List Entry) (n : ℕ) → outcomeNumber (writeOutcome bs es n) ≡ firstOf (writeRows bs es n) numberOf 0
 unfolding writeOutcome
 write-number bs es n =
-    first-of outcomeNumber (writeTable bs es n) Refused _
+    first-of outcomeNumber (writeTable n (allGood bs es) (leb (length (tupleBytes bs es)) mostBytes)) Refused _
     ∙ ap (λ (k : ℕ). pick (eqb n 256) k 5) (write-good bs es (allGood bs es) refl ∙ rw (bad-is bs es, below (bytesTaken es) 255, pick-not, pick-not))
 
 pub write-first-row : (bs : List ℕ) (es : List Entry) (n : ℕ) → ByRows (5 ∷ 15 ∷ 14 ∷ []) (writeRows bs es n) (writeOutcome bs es n)

@@ -2,27 +2,27 @@
 --     pages-bad, ends     the marks and the bytes of a page that all tuples of a list were added to
 --     puts-writes         so what is done with that page is the writer's promise
 use mathlib.Core.Path.{_≡_, refl, sym, _∙_, ap}
-use mathlib.Core.Bool.{Bool, true, false}
+use mathlib.Core.Bool.{Bool, true, false, not}
 use mathlib.Core.List.{List, _∷_, _++_, append-assoc, append-nil, []}
 use Prim.Native.Nat.{ℕ, _+_, _≤_, _<_}
 use native.Mathlib.Omega.{arith}
 use lib.ListN.{length, drop, set, length-append}
 use lib.Seq.{paste}
-use lib.Dec.{leb, eqb}
+use lib.Dec.{leb}
 use borrow.Author.Tests.{leb-true, leb-false}
-use Rattle.ground.specs.Choice.{pick}
+use Rattle.ground.specs.Choice.{pick, every}
 use Rattle.ground.proofs.Picks.{pick-elim, pick-same, pick-of, both-of}
 use Rattle.answers.proofs.Outcomes.{says}
 use Rattle.answers.specs.declared.Outcome.{Outcome}
 use Rattle.answers.specs.declared.Outcome.the-variants.{Accepted, Refused}
-use Rattle.answers.specs.declared.Refusal.the-variants.{TupleBufferLength, TuplesTooLong, TupleBad}
+use Rattle.ground.specs.Rows.{firstOf}
 use Rattle.tuples.specs.Read.{unlessRefused}
 use Rattle.tuples.specs.Page.{page, newPage, withTuple, addedTo, pages, putOutcome, Puts}
-use Rattle.tuples.specs.Write.{good, bodyOf, tupleBytes, allGood, filledUp, writeOutcome, Writes}
+use Rattle.tuples.specs.Write.{good, bodyOf, tupleBytes, allGood, filledUp, writeTable, writeOutcome, Writes}
 use Rattle.tuples.specs.declared.Entry.{Entry}
 use Rattle.tuples.specs.declared.page.Page.{Page}
 use Rattle.tuples.proofs.PutTuple.{put}
-use Rattle.tuples.proofs.Goods.{Good, is-good, long-body}
+use Rattle.tuples.proofs.Goods.{Good, is-good, long-body, written-well}
 
 -- ---- the marks
 bad-pick : (t u : Bool) (b : Bool) → pick u (pick t b true) true ≡ pick (pick t u false) b true
@@ -31,7 +31,7 @@ bad-pick false true b = refl
 bad-pick false false b = refl
 
 pages-bad : (bs : List ℕ) (w : Page) (es : List Entry) → pages bs w es .bad ≡ pick (allGood bs es) (w .bad) true
-unfolding pages addedTo allGood
+unfolding pages addedTo allGood every
 pages-bad bs w [] = refl
 pages-bad bs w (e ∷ es) =
     let room = leb (w .at + 2 + e .length) 255 in
@@ -100,7 +100,7 @@ module _ (bs : List ℕ) where
       }
 
   ends : (es : List Entry) (w : Page) (p : List ℕ) → allGood bs es ≡ true → Holds w p → Ends bs w es p
-  unfolding pages tupleBytes allGood
+  unfolding pages tupleBytes allGood every
   ends [] w p h l = record { fit-over = λ f. l .its-over; fit-bytes = λ f. l .its-bytes ∙ ap filledUp (sym (append-nil p)); full = λ f. let z : ⊥ = omega (arith, l .small) in absurd z }
   ends (e ∷ es) w p h l =
       let gs = both-of (good bs e) (allGood bs es) h in
@@ -111,41 +111,35 @@ module _ (bs : List ℕ) where
     abbrev the-page : Page
     the-page = pages bs newPage es
 
-    -- two answers are the same, and so are the bytes that they leave
-    abbrev Same : Outcome → Outcome → Type 0
-    Same o p = (o ≡ p) × (unlessRefused o (the-page .bytes) out ≡ unlessRefused p (filledUp (tupleBytes bs es)) out)
-
     all-added : allGood bs es ≡ true → Ends bs newPage es []
     all-added g = ends es newPage [] g (record { its-at = refl; its-bytes = refl; its-over = refl; small = omega arith })
 
-    by-size : allGood bs es ≡ true → (t : Bool) → leb (length (tupleBytes bs es)) 255 ≡ t → Same (pick (the-page .over) (Refused TuplesTooLong) (Accepted 0)) (pick t (Accepted 0) (Refused TuplesTooLong))
-    by-size g true h =
-        let r = all-added g in
-        let f : 0 + length (tupleBytes bs es) ≤ 255 = omega (arith, leb-true (length (tupleBytes bs es)) 255 h) in
-        (simp (r .fit-over f), simp (r .fit-over f) (r .fit-bytes f))
-    by-size g false h =
-        let r = all-added g in
-        let f : 255 < 0 + length (tupleBytes bs es) = omega (arith, leb-false (length (tupleBytes bs es)) 255 h) in
-        (simp (r .full f), simp (r .full f))
+    -- the page's marks are the two tests
+    good-is : (t : Bool) → allGood bs es ≡ t → not (the-page .bad) ≡ t
+    good-is true g = ap not (pages-bad bs newPage es) ∙ rw g refl
+    good-is false g = ap not (pages-bad bs newPage es) ∙ rw g refl
 
-    by-good : (t : Bool) → allGood bs es ≡ t
-        → Same (pick (the-page .bad) (Refused TupleBad) (pick (the-page .over) (Refused TuplesTooLong) (Accepted 0))) (pick t (pick (leb (length (tupleBytes bs es)) 255) (Accepted 0) (Refused TuplesTooLong)) (Refused TupleBad))
-    by-good true g =
-        let b : the-page .bad ≡ false = pages-bad bs newPage es ∙ ap (λ (t : Bool). pick t false true) g in
-        let r = by-size g (leb (length (tupleBytes bs es)) 255) refl in
-        (simp b (r .0), simp b (r .1))
-    by-good false g =
-        let b : the-page .bad ≡ true = pages-bad bs newPage es ∙ ap (λ (t : Bool). pick t false true) g in
-        (simp b, simp b)
+    fit-is : allGood bs es ≡ true → (t : Bool) → leb (length (tupleBytes bs es)) 255 ≡ t → not (the-page .over) ≡ t
+    fit-is g true h = ap not (all-added g .fit-over (omega (arith, leb-true (length (tupleBytes bs es)) 255 h)))
+    fit-is g false h = ap not (all-added g .full (omega (arith, leb-false (length (tupleBytes bs es)) 255 h)))
 
-    by-length : (t : Bool) (o p : Outcome) → Same o p → Same (pick t o (Refused TupleBufferLength)) (pick t p (Refused TupleBufferLength))
-    by-length true o p s = s
-    by-length false o p s = (refl, refl)
+    -- whether they fit is asked only where all may be written
+    where-good : (good f f′ : Bool) → (good ≡ true → f ≡ f′) → firstOf (writeTable (length out) good f) Refused (Accepted 0) ≡ firstOf (writeTable (length out) good f′) Refused (Accepted 0)
+    where-good true f f′ e = ap (λ (x : Bool). firstOf (writeTable (length out) true x) Refused (Accepted 0)) (e refl)
+    where-good false f f′ e = refl
+
+    same-outcome : putOutcome the-page (length out) ≡ writeOutcome bs es (length out)
+    unfolding putOutcome writeOutcome
+    same-outcome =
+        ap (λ (g : Bool). firstOf (writeTable (length out) g (not (the-page .over))) Refused (Accepted 0)) (good-is (allGood bs es) refl)
+        ∙ where-good (allGood bs es) _ _ (λ g. fit-is g (leb (length (tupleBytes bs es)) 255) refl)
+
+    same-bytes : (o : Outcome) → writeOutcome bs es (length out) ≡ o → unlessRefused o (the-page .bytes) out ≡ unlessRefused o (filledUp (tupleBytes bs es)) out
+    same-bytes (Accepted v) e = let ok = written-well bs es (length out) v e in all-added (ok .all-good) .fit-bytes (omega (arith, ok .short))
+    same-bytes (Refused x) e = refl
 
     -- what is done with the page is the writer's promise
     pub puts-writes : (r : Outcome) (z : List ℕ) → Puts the-page out r z → Writes bs es out r z
-    unfolding putOutcome writeOutcome
     puts-writes r z p =
-        let s = by-length (eqb (length out) 256) _ _ (by-good (allGood bs es) refl) in
-        let e = p .0 ∙ s .0 in
-        (e, p .1 ∙ s .1, says _ _ e)
+        let e = p .0 ∙ same-outcome in
+        (e, p .1 ∙ ap (λ (o : Outcome). unlessRefused o (the-page .bytes) out) same-outcome ∙ same-bytes (writeOutcome bs es (length out)) refl, says _ _ e)

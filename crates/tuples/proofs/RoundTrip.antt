@@ -11,6 +11,7 @@ use lib.ListN.{length, take, drop, replicate, length-append, length-drop}
 use lib.Seq.{length-take-le, drop-at, take-at}
 use lib.Dec.{leb, eqb}
 use borrow.Author.Tests.{le-leb}
+use Rattle.ground.specs.Choice.{every}
 use Rattle.ground.proofs.Picks.{pick-elim, both-of}
 use Rattle.tuples.specs.Chain.{Chain, grow, entry, chainFrom}
 use Rattle.tuples.specs.Write.{good, bodyOf, tupleBytes, allGood, nullsDropped, codes}
@@ -37,7 +38,7 @@ end-mark zero at = refl
 end-mark (suc m) at = refl
 
 pub reads-back : (bs : List ℕ) (es : List Entry) (m at : ℕ) → allGood bs es ≡ true → chainFrom 0 (tupleBytes bs es ++ replicate (suc m) 255) at ≡ whole (laid at es)
-unfolding tupleBytes allGood laid chainFrom
+unfolding tupleBytes allGood laid chainFrom every
 reads-back bs [] m at p = end-mark m at
 reads-back bs (e ∷ es) m at p =
     let gs = both-of (good bs e) (allGood bs es) p in
@@ -63,7 +64,7 @@ same-count (e ∷ es) at = ap suc (same-count es (at + 2 + e .length))
 
 -- what lies in a row after p has the bodies that it was written from
 pub same-bodies : (bs : List ℕ) (es : List Entry) (p q : List ℕ) (at : ℕ) → length p ≡ at → allGood bs es ≡ true → map (bodyOf (p ++ (tupleBytes bs es ++ q))) (laid at es) ≡ map (bodyOf bs) es
-unfolding tupleBytes allGood laid
+unfolding tupleBytes allGood laid every
 same-bodies bs [] p q at l h = refl
 same-bodies bs (e ∷ es) p q at l h =
     let gs = both-of (good bs e) (allGood bs es) h in
@@ -90,7 +91,7 @@ pub record Back (s : List ℕ) (k : ℕ) (r : List ℕ) (es : List Entry) : Type
 
 -- a tuple in front
 in-front : (s : List ℕ) (at b n : ℕ) (r : List ℕ) (fs : List Entry) → eqb b 255 ≡ false → eqb b 0 ≡ false → drop (at + 2) s ≡ r → Back s n r fs → Back s 0 (b ∷ (n ∷ r)) (entry b (at + 2) n ∷ fs)
-unfolding nullsDropped tupleBytes allGood good
+unfolding nullsDropped tupleBytes allGood good every
 in-front s at b n r fs h255 h0 d back =
     let room : n ≤ length r = omega (arith, back .short) in
     let long : length (bodyOf s (entry b (at + 2) n)) ≡ n = ap (λ (l : List ℕ). length (take n l)) d ∙ length-take-le n r room in
@@ -102,7 +103,7 @@ in-front s at b n r fs h255 h0 d back =
     }
 
 pub back : (s : List ℕ) (k : ℕ) (r : List ℕ) (at : ℕ) → drop at s ≡ r → chainFrom k r at .ended ≡ true → Back s k r (chainFrom k r at .entries)
-unfolding chainFrom nullsDropped tupleBytes allGood
+unfolding chainFrom nullsDropped tupleBytes allGood every
 back s k [] at d p = absurd (false≢true p)
 back s (suc k) (b ∷ r) at d p =
     let ih = back s k r (at + 1) (after-one s at b r d) p in

@@ -11,7 +11,7 @@ use lib.ListN.{length, getD, length-append}
 use lib.Dec.{eqb, leb, ltb}
 use borrow.Author.Tests.{leb-true, leb-false, lt-ltb, le-ltb}
 use Rattle.ground.proofs.Below.{below}
-use Rattle.ground.specs.Choice.{pick}
+use Rattle.ground.specs.Choice.{pick, every}
 use Rattle.ground.proofs.Picks.{pick-of, both-of}
 use Rattle.tuples.specs.Chain.{Chain, stepAt, chainAt}
 use Rattle.tuples.specs.Write.{good, allGood, tupleBytes, bodyOf}
@@ -21,7 +21,6 @@ use Rattle.tuples.specs.declared.chain.Step.{Step}
 use Rattle.tuples.proofs.Chains.{chain-step, past, after}
 use Rattle.tuples.proofs.Goods.{is-good, long-body}
 
--- ---- numbers
 -- ---- row 13
 -- a body that does not fit leads past the buffer
 by-fit : (s : List ℕ) (next : ℕ) (t : Bool) → leb next (length s) ≡ t → pick t (chainAt s next .ended) false ≡ chainAt s next .ended
@@ -66,13 +65,13 @@ any-by true c = refl
 any-by false c = refl
 
 pub bad-is : (bs : List ℕ) (es : List Entry) → allGood bs es ≡ not (anyBad bs es)
-unfolding allGood anyBad
+unfolding allGood anyBad every
 bad-is bs [] = refl
 bad-is bs (e ∷ es) = rw (good-is bs e, bad-is bs es) (any-by (bad bs e) (anyBad bs es))
 
 -- ---- row 14
 pub taken-is : (bs : List ℕ) (es : List Entry) → allGood bs es ≡ true → length (tupleBytes bs es) ≡ bytesTaken es
-unfolding allGood tupleBytes bytesTaken
+unfolding allGood tupleBytes bytesTaken every
 taken-is bs [] g = refl
 taken-is bs (e ∷ es) g =
     let gs = both-of (good bs e) (allGood bs es) g in

@@ -8,30 +8,17 @@ use mathlib.Core.List.{List, _++_, map, []}
 use Prim.Native.Nat.{ℕ, suc, _≤_, _-_}
 use native.Mathlib.Omega.{arith}
 use lib.ListN.{length, take, replicate, length-append, length-replicate}
-use borrow.Author.Tests.{leb-true, le-leb, eq-eqb}
-use Rattle.ground.proofs.Picks.{un-not}
+use borrow.Author.Tests.{le-leb, eq-eqb}
 use Rattle.answers.specs.declared.Outcome.{Outcome}
 use Rattle.answers.specs.declared.Outcome.the-variants.{Accepted}
 use Rattle.tuples.specs.Chain.{Chain, chainFrom, chainAt}
 use Rattle.tuples.specs.Read.{readOutcome, counted, unlessRefused, Reads}
-use Rattle.answers.specs.Answers.{refused}
-use Rattle.tuples.specs.Write.{bodyOf, tupleBytes, allGood, filledUp, writeTable, writeOutcome, Writes, codes, SameTuples, WrittenBack}
+use Rattle.tuples.specs.Write.{bodyOf, tupleBytes, allGood, filledUp, writeOutcome, Writes, codes, SameTuples, WrittenBack}
 use Rattle.tuples.specs.declared.Entry.{Entry}
 use Rattle.tuples.proofs.Filling.{all}
+use Rattle.tuples.proofs.Goods.{written-well}
 use Rattle.tuples.proofs.Bounds.{most-entries, read-well, entries-first}
 use Rattle.tuples.proofs.RoundTrip.{laid, whole, reads-back, same-codes, same-count, same-bodies, back}
-use Rattle.answers.proofs.Rows.{passed}
-
--- ---- what an accepted writing says
-record WrittenWell (bs : List ℕ) (es : List Entry) : Type 0 where
-  all-good : allGood bs es ≡ true
-  short : length (tupleBytes bs es) ≤ 255
-
-written-well : (bs : List ℕ) (es : List Entry) (places v : ℕ) → writeOutcome bs es places ≡ Accepted v → WrittenWell bs es
-unfolding writeOutcome
-written-well bs es places v e =
-    let p = passed (writeTable bs es places) (Accepted 0) (ap refused e) .1 in
-    record { all-good = un-not _ _ (p 15); short = leb-true _ _ (un-not _ _ (p 14)) }
 
 -- ---- what was written reads back
 written-chain : (bs : List ℕ) (es : List Entry) → allGood bs es ≡ true → length (tupleBytes bs es) ≤ 255 → chainAt (filledUp (tupleBytes bs es)) 0 ≡ whole (laid 0 es)

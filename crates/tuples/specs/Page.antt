@@ -1,20 +1,19 @@
 -- The page that the writer makes tuple by tuple, and what is done with it.
 use Prim.Native.Nat.{ℕ, _+_}
 use mathlib.Core.Path.{_≡_}
-use mathlib.Core.Bool.{Bool, true, false}
+use mathlib.Core.Bool.{Bool, true, false, not}
 use mathlib.Core.List.{List, _∷_, []}
 use lib.ListN.{length, drop, set, replicate}
 use lib.Seq.{paste}
-use lib.Dec.{leb, eqb}
+use lib.Dec.{leb}
 use Rattle.tuples.specs.Chain.{endMark}
 use Rattle.answers.specs.declared.Outcome.{Outcome}
 use Rattle.answers.specs.declared.Outcome.the-variants.{Accepted, Refused}
-use Rattle.answers.specs.declared.Refusal.the-variants.{TupleBufferLength, TuplesTooLong, TupleBad}
-use Rattle.ground.specs.Rows.{When, Unless, firstOf}
+use Rattle.ground.specs.Rows.{Unless, firstOf}
 use Rattle.tuples.specs.declared.Entry.{Entry}
 use Rattle.tuples.specs.declared.page.Page.{Page}
 use Rattle.tuples.specs.Read.{bufferBytes, unlessRefused}
-use Rattle.tuples.specs.Write.{mostBytes, good}
+use Rattle.tuples.specs.Write.{mostBytes, good, writeTable}
 
 abbrev pub page : List ℕ → ℕ → Bool → Bool → Page
 page bs at bad over = record { bytes = bs; at = at; bad = bad; over = over }
@@ -40,10 +39,9 @@ unfoldable pub pages : List ℕ → Page → List Entry → Page
 pages bs w [] = w
 pages bs w (e ∷ es) = pages bs (addedTo bs w e) es
 
--- "Writing checks 5, 15, 14."
+-- "Writing checks 5, 15, 14.": by the marks
 unfoldable pub putOutcome : Page → ℕ → Outcome
-putOutcome w n =
-    firstOf (Unless (eqb n bufferBytes) TupleBufferLength ∷ When (w .bad) TupleBad ∷ When (w .over) TuplesTooLong ∷ []) Refused (Accepted 0)
+putOutcome w n = firstOf (writeTable n (not (w .bad)) (not (w .over))) Refused (Accepted 0)
 
 abbrev pub putList : Page → List ℕ → List ℕ
 putList w out = unlessRefused (putOutcome w (length out)) (w .bytes) out

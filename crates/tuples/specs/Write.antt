@@ -1,11 +1,11 @@
 -- 01, "Tuples" and "Answers": what the writer answers and which bytes it sets.
 use Prim.Native.Nat.{ℕ, zero, suc, _+_, _-_}
 use mathlib.Core.Path.{_≡_}
-use mathlib.Core.Bool.{Bool, true, false}
+use mathlib.Core.Bool.{Bool, false}
 use mathlib.Core.List.{List, _∷_, _++_, map, []}
 use lib.ListN.{length, take, drop, replicate}
 use lib.Dec.{leb, eqb}
-use Rattle.ground.specs.Choice.{pick}
+use Rattle.ground.specs.Choice.{pick, every}
 use Rattle.answers.specs.Answers.{Says}
 use Rattle.answers.specs.declared.Outcome.{Outcome}
 use Rattle.answers.specs.declared.Outcome.the-variants.{Accepted, Refused}
@@ -25,8 +25,7 @@ unfoldable pub good : List ℕ → Entry → Bool
 good bs e = pick (eqb (e .code) nullCode) false (pick (eqb (e .code) endMark) false (leb (e .start + e .length) (length bs)))
 
 unfoldable pub allGood : List ℕ → List Entry → Bool
-allGood bs [] = true
-allGood bs (e ∷ es) = pick (good bs e) (allGood bs es) false
+allGood bs es = every (map (good bs) es)
 
 -- "Code, link, then link bytes of body."
 unfoldable pub tupleBytes : List ℕ → List Entry → List ℕ
@@ -41,16 +40,16 @@ mostBytes = 255
 abbrev pub filledUp : List ℕ → List ℕ
 filledUp ts = ts ++ replicate (bufferBytes - length ts) endMark
 
--- "Writing checks 5, 15, 14."
-abbrev pub writeTable : List ℕ → List Entry → ℕ → List (Row Refusal)
-writeTable bs es n =
+-- "Writing checks 5, 15, 14.": by the buffer's length, whether all tuples may be written, and whether they fit
+abbrev pub writeTable : ℕ → Bool → Bool → List (Row Refusal)
+writeTable n good fit =
     Unless (eqb n bufferBytes) TupleBufferLength
-    ∷ Unless (allGood bs es) TupleBad
-    ∷ Unless (leb (length (tupleBytes bs es)) mostBytes) TuplesTooLong
+    ∷ Unless good TupleBad
+    ∷ Unless fit TuplesTooLong
     ∷ []
 
 unfoldable pub writeOutcome : List ℕ → List Entry → ℕ → Outcome
-writeOutcome bs es n = firstOf (writeTable bs es n) Refused (Accepted 0)
+writeOutcome bs es n = firstOf (writeTable n (allGood bs es) (leb (length (tupleBytes bs es)) mostBytes)) Refused (Accepted 0)
 
 abbrev pub writeList : List ℕ → List Entry → List ℕ → List ℕ
 writeList bs es out = unlessRefused (writeOutcome bs es (length out)) (filledUp (tupleBytes bs es)) out

@@ -5,6 +5,7 @@ ghost use mathlib.Core.Path.{_≡_};
 ghost use mathlib.Core.List.{[]};
 ghost use lib.ListN.{length};
 ghost use Rattle.tuples.specs.Chain.{stepAt, nextAt, firstFound};
+ghost use Rattle.tuples.specs.Read.{bufferBytes};
 
 // What stands at a place of a tuple buffer.
 pub(crate) enum Step {
@@ -16,7 +17,7 @@ pub(crate) enum Step {
 
 // "Code, link, then link bytes of body. 00H is one byte, skipped; FFH ends the chain."
 pub(crate) fn step_at(buffer: &[u8], at: usize) -> Step
-    requires { ⌜ length (now buffer) ≡ 256 ⌝ }
+    requires { ⌜ length (now buffer) ≡ bufferBytes ⌝ }
     ensures { λ r. ⌜ r ≡ stepAt (now (buffer .entry)) at ⌝ }
 {
     if buffer.len() <= at {
@@ -61,7 +62,7 @@ fn nothing(place: usize) -> Found
 
 // The next tuple from a place on; null tuples are passed.
 pub(crate) fn next_tuple(buffer: &[u8], from: usize) -> Found
-    requires { ⌜ length (now buffer) ≡ 256 ⌝ }
+    requires { ⌜ length (now buffer) ≡ bufferBytes ⌝ }
     ensures { λ r. ⌜ r ≡ nextAt (now (buffer .entry)) from ⌝ }
 {
     let mut at: usize = from;

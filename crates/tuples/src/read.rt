@@ -1,4 +1,4 @@
-// The reader.
+// The reader: it surveys the whole chain, then fills the list.
 use super::Entry;
 use crate::chain;
 use crate::chain::Step;
@@ -7,11 +7,11 @@ use answers::Refusal;
 ghost use mathlib.Core.Path.{_≡_};
 ghost use lib.ListN.{length};
 ghost use Rattle.tuples.specs.Chain.{chainAt, nextAt, found};
-ghost use Rattle.tuples.specs.Read.{counted, readOutcome, checked, Reads};
+ghost use Rattle.tuples.specs.Read.{bufferBytes, counted, readOutcome, checked, Reads};
 
 // The survey of a chain: whole, with the count of its tuples, or broken.
 fn count_tuples(buffer: &[u8]) -> Outcome
-    requires { ⌜ length (now buffer) ≡ 256 ⌝ }
+    requires { ⌜ length (now buffer) ≡ bufferBytes ⌝ }
     ensures { λ r. ⌜ r ≡ counted (chainAt (now (buffer .entry)) 0) ⌝ }
 {
     let mut at: usize = 0;
@@ -74,7 +74,7 @@ struct Reader<'a> {
 
 // The reader goes on to the place behind the next tuple.
 fn advance<'s, 'a>(r: &'s mut Reader<'a>) -> Entry
-    requires { ⌜ length (now (now r .buffer)) ≡ 256 ⌝ }
+    requires { ⌜ length (now (now r .buffer)) ≡ bufferBytes ⌝ }
     ensures { λ e. ⌜ (now (r .exit) .buffer ≡ now (r .entry) .buffer) × (found e (now (r .exit) .place) ≡ nextAt (now (now (r .entry) .buffer)) (now (r .entry) .place)) ⌝ }
 {
     let f = chain::next_tuple(r.buffer, r.place);

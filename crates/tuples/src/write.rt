@@ -1,4 +1,4 @@
-// The writer.
+// The writer: it makes a page of the whole list, then puts it into the buffer.
 use super::Entry;
 use crate::page;
 use answers::Outcome;
