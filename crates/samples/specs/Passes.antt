@@ -11,7 +11,7 @@ use Rattle.card.specs.Access.{Access}
 use Rattle.card.specs.Step.{Stepped}
 use Rattle.tuples.specs.declared.Entry.{Entry}
 use Rattle.tuples.specs.Chain.{noEntry}
-use Rattle.tuples.specs.Read.{readOutcome, readList}
+use Rattle.tuples.specs.Read.{listPlaces, readOutcome, readList}
 use Rattle.samples.specs.Lines.{opening, agrees}
 use Rattle.tuples.specs.Write.{filledUp}
 use Rattle.samples.specs.List.{Sample, Accesses, Tuples, samples}
@@ -40,7 +40,7 @@ readsAs r entries =
 
 unfoldable pub holdsOf : (Machine → Access → Stepped) → (List ℕ → List Entry → Reading) → Sample → Bool
 holdsOf turn read (Accesses mode lines) = agrees turn (opening mode) lines
-holdsOf turn read (Tuples bytes entries) = readsAs (read (filledUp bytes) (replicate 127 noEntry)) entries
+holdsOf turn read (Tuples bytes entries) = readsAs (read (filledUp bytes) (replicate listPlaces noEntry)) entries
 
 unfoldable pub allOf : (Machine → Access → Stepped) → (List ℕ → List Entry → Reading) → List Sample → Bool
 allOf turn read [] = true

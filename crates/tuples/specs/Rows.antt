@@ -1,5 +1,5 @@
 -- 01, "Answers": the rows of the tuple reader and writer, each with its test in 01's words. They share with the definitions of reading and writing
--- only what an entry is.
+-- only what an entry is; the numbers stand here anew.
 use Prim.Native.Nat.{ℕ, zero, suc, _+_}
 use mathlib.Core.Bool.{Bool, true, false, _||_}
 use mathlib.Core.List.{List, [], _∷_}

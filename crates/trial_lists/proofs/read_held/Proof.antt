@@ -1,4 +1,5 @@
--- `trial_lists::read_held` meets its contract: a walk of its MIR, by hand. Of a local array of 256 entries the first n are lent as a slice for a lifetime of the call, `read_tuples` fills them, the lifetime is ended, the array is whole again, and one entry is read.
+-- `read_held` meets its contract: a walk of its MIR, by hand. Of a local array of 256 entries the first n are lent as a slice for a lifetime of the
+-- call, `read_tuples` fills them, the lifetime is ended, the array is whole again, and one entry is read.
 use mathlib.Core.Path.{_≡_, refl, sym, _∙_, ap, subst}
 use Prim.Native.Nat.{ℕ, _<_, _^_, _*_, _+_}
 use native.Mathlib.Omega.{arith}
@@ -69,9 +70,9 @@ use Rattle.ground.proofs.at_most.Symbol.{name as #ground·at-most}
 use Rattle.ground.proofs.at_most.Met as most-thm
 use Rattle.tuples.proofs.read.read_tuples as read
 use Rattle.tuples.proofs.read.read_tuples.Symbol as read-def
-use Rattle.tuples.proofs.read.read_tuples.Symbol.{name as #tuples·read-tuples}
+use Rattle.tuples.proofs.read.read_tuples.Symbol.{name as #read-tuples}
 use Rattle.tuples.proofs.read.read_tuples.Met as read-thm
-use Rattle.trial_lists.proofs.read_held.Key.{name as #trial-lists·read-held}
+use Rattle.trial_lists.proofs.read_held.Key.{name as #read-held}
 use Rattle.trial_lists.proofs.read_held as read-held
 use Rattle.trial_lists.proofs.read_held.Statement as stated
 use Rattle.trial_lists.proofs.read_held.Code as code
@@ -112,7 +113,7 @@ module _ {M : Type 1} (𝓤 : URA M) (H : Heap 𝓤) (A : Atoms 𝓤) (W : Given
       owned ! usize (Is usize) (uint-makes 𝓤 H A W w64) places _ (refl, gl) $ fjoin ! $ move ! (1 ∷ 0 ∷ []) $ fjoin ! $
       frame ! $ owned ! R.the-row (Is R.the-row) (LL.makes R.the-type R′.the-plain 𝓤 H A) h _ gh $ done !
 
-  module _ (C : Calls 𝓤 H) (Λ : Loops 𝓤 H) (fm : FmC 𝓤 H (W .laws) C) (known-read : Triple 𝓤 (C #tuples·read-tuples) (Read 𝓤 H A mem run)) (n : ℕ) (ln : Least places 256 n) (p : ℕ) (lp : Least i 255 p)
+  module _ (C : Calls 𝓤 H) (Λ : Loops 𝓤 H) (fm : FmC 𝓤 H (W .laws) C) (known-read : Triple 𝓤 (C #read-tuples) (Read 𝓤 H A mem run)) (n : ℕ) (ln : Least places 256 n) (p : ℕ) (lp : Least i 255 p)
       (l₀ l₁ l₂ l₃ l₄ l₅ l₆ l₇ l₈ l₉ l₁₀ l₁₁ l₁₂ l₁₃ l₁₄ l₁₅ : ℕ) where
     abbrev En : Env 𝓤 H
     En = (R′.mir, l₀) ∷ (bytesTy (named 0) imm, l₁) ∷ (word, l₂) ∷ (E′.mir, l₃) ∷ (word, l₄) ∷ (word, l₅) ∷ (word, l₆) ∷ (arrayTy 256, l₇) ∷ (O′.mir, l₈) ∷ (E′.mir, l₉) ∷ (arrayRefTy mut 256, l₁₀) ∷ (entriesTy erased mut, l₁₁) ∷ (word, l₁₂) ∷ (tyPtr, l₁₃) ∷ (tyPtr, l₁₄) ∷ (E′.mir, l₁₅) ∷ []
@@ -203,7 +204,7 @@ module _ {M : Type 1} (𝓤 : URA M) (H : Heap 𝓤) (A : Atoms 𝓤) (W : Given
           move ! (18 ∷ 19 ∷ []) $ free1 ! $ move ! (16 ∷ 17 ∷ []) $ free1 ! $ move ! (14 ∷ 15 ∷ []) $ free1 ! $ move ! (12 ∷ 13 ∷ []) $ free1 ! $ move ! (10 ∷ 11 ∷ []) $ free1 ! $ move ! (8 ∷ 9 ∷ []) $ free1 ! $ move ! (6 ∷ 7 ∷ []) $ free1 ! $ move ! (4 ∷ 5 ∷ []) $ free1 ! $ free0 ! $
           keep ! (1 ∷ 3 ∷ []) $ by ! (exits h same gh))))))))))
 
-  walk : (C : Calls 𝓤 H) (Λ : Loops 𝓤 H) (fm : FmC 𝓤 H (W .laws) C) (known-read : Triple 𝓤 (C #tuples·read-tuples) (Read 𝓤 H A mem run)) (known-most : Triple 𝓤 (C #ground·at-most) (Most 𝓤 H A mem run)) → Room u8 (length s)
+  walk : (C : Calls 𝓤 H) (Λ : Loops 𝓤 H) (fm : FmC 𝓤 H (W .laws) C) (known-read : Triple 𝓤 (C #read-tuples) (Read 𝓤 H A mem run)) (known-most : Triple 𝓤 (C #ground·at-most) (Most 𝓤 H A mem run)) → Room u8 (length s)
       → ent 𝓤 (onEntry 𝓤 H A read-held.signature (κ, tt) (q, tt) a at) (WpFn 𝓤 H C Λ code.function (vb ∷ vint w64 places ∷ E′.lowered x ∷ vint w64 i ∷ []) Post)
   walk C Λ fm known-read known-most room-b =
       let typed = LL.lawful E.the-type E′.the-laws 𝓤 H A W .typed x _ gx .0 in
@@ -235,7 +236,7 @@ module _ {M : Type 1} (𝓤 : URA M) (H : Heap 𝓤) (A : Atoms 𝓤) (W : Given
       use1 W (‵ (cells (memOf E.the-row) (replicate 256 x) l₇ 0)) (whole-in 𝓤 H A W E.the-row (replicate 256 x) l₇ 0) $
       onto C Λ fm known-read n ln p lp l₀ l₁ l₂ l₃ l₄ l₅ l₆ l₇ l₈ l₉ l₁₀ l₁₁ l₁₂ l₁₃ l₁₄ l₁₅ (replicate 256 x) (length-replicate 256 x) refl)))))))))))))))))))))))))
 
-module _ {M : Type 1} (𝓤 : URA M) (H : Heap 𝓤) (A : Atoms 𝓤) (W : Given 𝓤 H A) (mem : Memory → SProp 𝓤) (run : Routine → Fun 𝓤) (𝓣 : Tables 𝓤 H) (known-read : Triple 𝓤 (𝓣 .C #tuples·read-tuples) (Read 𝓤 H A mem run)) (known-most : Triple 𝓤 (𝓣 .C #ground·at-most) (Most 𝓤 H A mem run)) where
+module _ {M : Type 1} (𝓤 : URA M) (H : Heap 𝓤) (A : Atoms 𝓤) (W : Given 𝓤 H A) (mem : Memory → SProp 𝓤) (run : Routine → Fun 𝓤) (𝓣 : Tables 𝓤 H) (known-read : Triple 𝓤 (𝓣 .C #read-tuples) (Read 𝓤 H A mem run)) (known-most : Triple 𝓤 (𝓣 .C #ground·at-most) (Most 𝓤 H A mem run)) where
   read-held-walks : Walks 𝓤 H A read-held.ended stayed (WpFn 𝓤 H (𝓣 .C) (𝓣 .Λ) code.function) (read-held.clauses 𝓤 H A mem run)
   read-held-walks = walked 𝓤 H A read-held.ended stayed (read-held.clauses 𝓤 H A mem run) (WpFn 𝓤 H (𝓣 .C) (𝓣 .Λ) code.function)
       (λ κs. (slice-vals, (uint-vals w64, (LL.vals E.the-type E′.the-laws, (uint-vals w64, tt))))) (λ κs. (shr-slice-tells (named 0) (κs .0) u8, (uint-tells w64, (LL.tells E.the-type E′.the-laws, (uint-tells w64, tt)))))
@@ -251,7 +252,7 @@ pub read-held-spec : {M : Type 1} → stated.statement M
 unfolding code.routine tablesOf
 read-held-spec 𝓤 H 𝓜 𝓖 𝓡 =
     entered 𝓤 H (tripleOf 𝓤 H (𝓖 .A) read-held.signature (read-held.spec 𝓤 H (𝓖 .A) (𝓜 .mem) (𝓡 .run)))
-    (tables 𝓤 H 𝓜 𝓡 code.env .C) (tables 𝓤 H 𝓜 𝓡 code.env .Λ) #trial-lists·read-held code.function (code.unfolded 𝓤 H 𝓜 𝓡)
+    (tables 𝓤 H 𝓜 𝓡 code.env .C) (tables 𝓤 H 𝓜 𝓡 code.env .Λ) #read-held code.function (code.unfolded 𝓤 H 𝓜 𝓡)
     (read-held-meets 𝓤 H (𝓖 .A) (givenOf 𝓤 H 𝓜 𝓖) (𝓜 .mem) (𝓡 .run) (tablesOf 𝓤 H 𝓜 (tables 𝓤 H 𝓜 𝓡 code.env))
-    (cited 𝓤 H (Read 𝓤 H (𝓖 .A) (𝓜 .mem) (𝓡 .run)) 𝓜 𝓡 code.env #tuples·read-tuples read-def.routine code.calls-tuples·read·read-tuples (read-thm.met 𝓤 H 𝓜 𝓖 𝓡))
+    (cited 𝓤 H (Read 𝓤 H (𝓖 .A) (𝓜 .mem) (𝓡 .run)) 𝓜 𝓡 code.env #read-tuples read-def.routine code.calls-tuples·read·read-tuples (read-thm.met 𝓤 H 𝓜 𝓖 𝓡))
     (cited 𝓤 H (Most 𝓤 H (𝓖 .A) (𝓜 .mem) (𝓡 .run)) 𝓜 𝓡 code.env #ground·at-most most-def.routine code.calls-ground·at-most (most-thm.met 𝓤 H 𝓜 𝓖 𝓡)))

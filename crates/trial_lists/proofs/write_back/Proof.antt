@@ -1,4 +1,5 @@
--- `trial_lists::write_back` meets its contract: a walk of its MIR, by hand. A local array of 127 entries is lent to `read_tuples`; where the reading is refused its answer is returned; else the array's first entries, as many as were read, are lent to `write_tuples`, over the same bytes.
+-- `write_back` meets its contract: a walk of its MIR, by hand. A local array of 127 entries is lent to `read_tuples`; where the reading is refused
+-- its answer is returned; else the array's first entries, as many as were read, are lent to `write_tuples`, over the same bytes.
 --     ends        from any way out: the array's local is room again, and the locals are freed
 --     written     after `count_of`: the part is lent, the writer is called, and the array is whole again
 --     by-branch   the branch: a refused reading is the answer, and else `count_of` is called
@@ -71,21 +72,21 @@ use Rattle.tuples.proofs.Entry as E
 use Rattle.tuples.proofs.Entry.Laws as E′
 use Rattle.tuples.proofs.read.read_tuples as read
 use Rattle.tuples.proofs.read.read_tuples.Symbol as read-def
-use Rattle.tuples.proofs.read.read_tuples.Symbol.{name as #tuples·read-tuples}
+use Rattle.tuples.proofs.read.read_tuples.Symbol.{name as #read-tuples}
 use Rattle.tuples.proofs.read.read_tuples.Met as read-thm
 use Rattle.trial_lists.proofs.is_refused as test
 use Rattle.trial_lists.proofs.is_refused.Symbol as test-def
-use Rattle.trial_lists.proofs.is_refused.Symbol.{name as #trial-lists·is-refused}
+use Rattle.trial_lists.proofs.is_refused.Symbol.{name as #is-refused}
 use Rattle.trial_lists.proofs.is_refused.Met as test-thm
 use Rattle.trial_lists.proofs.count_of as count
 use Rattle.trial_lists.proofs.count_of.Symbol as count-def
-use Rattle.trial_lists.proofs.count_of.Symbol.{name as #trial-lists·count-of}
+use Rattle.trial_lists.proofs.count_of.Symbol.{name as #count-of}
 use Rattle.trial_lists.proofs.count_of.Met as count-thm
 use Rattle.tuples.proofs.write.write_tuples as write
 use Rattle.tuples.proofs.write.write_tuples.Symbol as write-def
-use Rattle.tuples.proofs.write.write_tuples.Symbol.{name as #tuples·write-tuples}
+use Rattle.tuples.proofs.write.write_tuples.Symbol.{name as #write-tuples}
 use Rattle.tuples.proofs.write.write_tuples.Met as write-thm
-use Rattle.trial_lists.proofs.write_back.Key.{name as #trial-lists·write-back}
+use Rattle.trial_lists.proofs.write_back.Key.{name as #write-back}
 use Rattle.trial_lists.proofs.write_back as write-back
 use Rattle.trial_lists.proofs.write_back.Statement as stated
 use Rattle.trial_lists.proofs.write_back.Code as code
@@ -152,8 +153,8 @@ module _ {M : Type 1} (𝓤 : URA M) (H : Heap 𝓤) (A : Atoms 𝓤) (W : Given
       suffices ! _ (ends-at 𝓤 H A write-back.ended stayed (write-back.clauses 𝓤 H A mem run) W (((κ, (κ′, tt)), (q, (q′, tt)), tt, (buf, (out, tt)), at), tt) u r (tt, (z, tt)) (tt, (len, tt))) $ says ! e $
       nothing ! $ move ! (2 ∷ 0 ∷ []) $ join ! $ move ! (1 ∷ 0 ∷ []) $ join ! $ frame ! $ nothing ! $ move ! (2 ∷ 0 ∷ []) $ fjoin ! $ move ! (1 ∷ 0 ∷ []) $ fjoin ! $ done !
 
-  module _ (C : Calls 𝓤 H) (Λ : Loops 𝓤 H) (fm : FmC 𝓤 H (W .laws) C) (known-read : Triple 𝓤 (C #tuples·read-tuples) (Read 𝓤 H A mem run)) (known-test : Triple 𝓤 (C #trial-lists·is-refused) (Test 𝓤 H A mem run))
-      (known-count : Triple 𝓤 (C #trial-lists·count-of) (Count 𝓤 H A mem run)) (known-write : Triple 𝓤 (C #tuples·write-tuples) (Write 𝓤 H A mem run)) (room₂ : Room u8 (length os)) (l₀ l₁ l₂ l₃ l₄ l₅ l₆ l₇ l₈ l₉ l₁₀ l₁₁ l₁₂ l₁₃ : ℕ) where
+  module _ (C : Calls 𝓤 H) (Λ : Loops 𝓤 H) (fm : FmC 𝓤 H (W .laws) C) (known-read : Triple 𝓤 (C #read-tuples) (Read 𝓤 H A mem run)) (known-test : Triple 𝓤 (C #is-refused) (Test 𝓤 H A mem run))
+      (known-count : Triple 𝓤 (C #count-of) (Count 𝓤 H A mem run)) (known-write : Triple 𝓤 (C #write-tuples) (Write 𝓤 H A mem run)) (room₂ : Room u8 (length os)) (l₀ l₁ l₂ l₃ l₄ l₅ l₆ l₇ l₈ l₉ l₁₀ l₁₁ l₁₂ l₁₃ : ℕ) where
     abbrev En : Env 𝓤 H
     En =
         (O′.mir, l₀) ∷ (bytesTy (named 0) imm, l₁) ∷ (bytesTy (named 1) mut, l₂) ∷ (E′.mir, l₃) ∷ (arrayTy 127, l₄) ∷ (O′.mir, l₅) ∷ (word, l₆)
@@ -301,8 +302,8 @@ module _ {M : Type 1} (𝓤 : URA M) (H : Heap 𝓤) (A : Atoms 𝓤) (W : Given
           keep ! (0 ∷ 5 ∷ 6 ∷ 7 ∷ 8 ∷ 9 ∷ 10 ∷ 11 ∷ 12 ∷ 13 ∷ 14 ∷ 15 ∷ 16 ∷ 17 ∷ 18 ∷ 19 ∷ 20 ∷ 21 ∷ 22 ∷ 23 ∷ 24 ∷ 25 ∷ 26 ∷ 27 ∷ 28 ∷ 29 ∷ 30 ∷ 31 ∷ 4 ∷ 2 ∷ 32 ∷ 33 ∷ []) $
           decide (zs .1 .0) (len′ ∙ len) r (subst (Is O.the-row r) told is) (e .0 ∙ ap (readOutcome s) len) ls len e))))))))
 
-  walk : (C : Calls 𝓤 H) (Λ : Loops 𝓤 H) (fm : FmC 𝓤 H (W .laws) C) (known-read : Triple 𝓤 (C #tuples·read-tuples) (Read 𝓤 H A mem run)) (known-test : Triple 𝓤 (C #trial-lists·is-refused) (Test 𝓤 H A mem run))
-      (known-count : Triple 𝓤 (C #trial-lists·count-of) (Count 𝓤 H A mem run)) (known-write : Triple 𝓤 (C #tuples·write-tuples) (Write 𝓤 H A mem run)) → Room u8 (length s) → Room u8 (length os)
+  walk : (C : Calls 𝓤 H) (Λ : Loops 𝓤 H) (fm : FmC 𝓤 H (W .laws) C) (known-read : Triple 𝓤 (C #read-tuples) (Read 𝓤 H A mem run)) (known-test : Triple 𝓤 (C #is-refused) (Test 𝓤 H A mem run))
+      (known-count : Triple 𝓤 (C #count-of) (Count 𝓤 H A mem run)) (known-write : Triple 𝓤 (C #write-tuples) (Write 𝓤 H A mem run)) → Room u8 (length s) → Room u8 (length os)
       → ent 𝓤 (onEntry 𝓤 H A write-back.signature (κ, (κ′, tt)) (q, (q′, tt)) (buf, (out, tt)) at) (WpFn 𝓤 H C Λ code.function (vb ∷ v₂ ∷ []) Post)
   walk C Λ fm known-read known-test known-count known-write room₁ room₂ =
       let g0 : Is E.the-row none (E′.lowered none ∷ []) = LL.owes E.the-type E′.the-laws none ((refl, lit< tt), ((refl, lit< tt), ((refl, lit< tt), tt))) in
@@ -323,8 +324,8 @@ module _ {M : Type 1} (𝓤 : URA M) (H : Heap 𝓤) (A : Atoms 𝓤) (W : Given
       use1 W (‵ (cells (memOf E.the-row) (replicate 127 none) l₄ 0)) (whole-in 𝓤 H A W E.the-row (replicate 127 none) l₄ 0) $
       onto C Λ fm known-read known-test known-count known-write room₂ l₀ l₁ l₂ l₃ l₄ l₅ l₆ l₇ l₈ l₉ l₁₀ l₁₁ l₁₂ l₁₃ (replicate 127 none) (length-replicate 127 none))))))))))))))))
 
-module _ {M : Type 1} (𝓤 : URA M) (H : Heap 𝓤) (A : Atoms 𝓤) (W : Given 𝓤 H A) (mem : Memory → SProp 𝓤) (run : Routine → Fun 𝓤) (𝓣 : Tables 𝓤 H) (known-read : Triple 𝓤 (𝓣 .C #tuples·read-tuples) (Read 𝓤 H A mem run))
-    (known-test : Triple 𝓤 (𝓣 .C #trial-lists·is-refused) (Test 𝓤 H A mem run)) (known-count : Triple 𝓤 (𝓣 .C #trial-lists·count-of) (Count 𝓤 H A mem run)) (known-write : Triple 𝓤 (𝓣 .C #tuples·write-tuples) (Write 𝓤 H A mem run)) where
+module _ {M : Type 1} (𝓤 : URA M) (H : Heap 𝓤) (A : Atoms 𝓤) (W : Given 𝓤 H A) (mem : Memory → SProp 𝓤) (run : Routine → Fun 𝓤) (𝓣 : Tables 𝓤 H) (known-read : Triple 𝓤 (𝓣 .C #read-tuples) (Read 𝓤 H A mem run))
+    (known-test : Triple 𝓤 (𝓣 .C #is-refused) (Test 𝓤 H A mem run)) (known-count : Triple 𝓤 (𝓣 .C #count-of) (Count 𝓤 H A mem run)) (known-write : Triple 𝓤 (𝓣 .C #write-tuples) (Write 𝓤 H A mem run)) where
   write-back-walks : Walks 𝓤 H A write-back.ended stayed (WpFn 𝓤 H (𝓣 .C) (𝓣 .Λ) code.function) (write-back.clauses 𝓤 H A mem run)
   write-back-walks = walked 𝓤 H A write-back.ended stayed (write-back.clauses 𝓤 H A mem run) (WpFn 𝓤 H (𝓣 .C) (𝓣 .Λ) code.function) (λ κs. (slice-vals, (slice-vals, tt))) (λ κs. (shr-slice-tells (named 0) (κs .0) u8, (mut-slice-tells (named 1) (κs .1 .0) u8, tt)))
       (λ κs qs bounds a g are. via 𝓤 _ (fst∗ 𝓤 _ (emp 𝓤)) (walk 𝓤 H A W mem run (κs .0) (κs .1 .0) (qs .0) (qs .1 .0) (a .0 .ptr .0) (a .0 .ptr .1) (a .0 .name) (a .0 .now) (a .1 .0 .ptr .0) (a .1 .0 .ptr .1) (a .1 .0 .name) (a .1 .0 .now)
@@ -338,9 +339,9 @@ pub write-back-spec : {M : Type 1} → stated.statement M
 unfolding code.routine tablesOf
 write-back-spec 𝓤 H 𝓜 𝓖 𝓡 =
     entered 𝓤 H (tripleOf 𝓤 H (𝓖 .A) write-back.signature (write-back.spec 𝓤 H (𝓖 .A) (𝓜 .mem) (𝓡 .run)))
-    (tables 𝓤 H 𝓜 𝓡 code.env .C) (tables 𝓤 H 𝓜 𝓡 code.env .Λ) #trial-lists·write-back code.function (code.unfolded 𝓤 H 𝓜 𝓡)
+    (tables 𝓤 H 𝓜 𝓡 code.env .C) (tables 𝓤 H 𝓜 𝓡 code.env .Λ) #write-back code.function (code.unfolded 𝓤 H 𝓜 𝓡)
     (write-back-meets 𝓤 H (𝓖 .A) (givenOf 𝓤 H 𝓜 𝓖) (𝓜 .mem) (𝓡 .run) (tablesOf 𝓤 H 𝓜 (tables 𝓤 H 𝓜 𝓡 code.env))
-    (cited 𝓤 H (Read 𝓤 H (𝓖 .A) (𝓜 .mem) (𝓡 .run)) 𝓜 𝓡 code.env #tuples·read-tuples read-def.routine code.calls-tuples·read·read-tuples (read-thm.met 𝓤 H 𝓜 𝓖 𝓡))
-    (cited 𝓤 H (Test 𝓤 H (𝓖 .A) (𝓜 .mem) (𝓡 .run)) 𝓜 𝓡 code.env #trial-lists·is-refused test-def.routine code.calls-trial-lists·is-refused (test-thm.met 𝓤 H 𝓜 𝓖 𝓡))
-    (cited 𝓤 H (Count 𝓤 H (𝓖 .A) (𝓜 .mem) (𝓡 .run)) 𝓜 𝓡 code.env #trial-lists·count-of count-def.routine code.calls-trial-lists·count-of (count-thm.met 𝓤 H 𝓜 𝓖 𝓡))
-    (cited 𝓤 H (Write 𝓤 H (𝓖 .A) (𝓜 .mem) (𝓡 .run)) 𝓜 𝓡 code.env #tuples·write-tuples write-def.routine code.calls-tuples·write·write-tuples (write-thm.met 𝓤 H 𝓜 𝓖 𝓡)))
+    (cited 𝓤 H (Read 𝓤 H (𝓖 .A) (𝓜 .mem) (𝓡 .run)) 𝓜 𝓡 code.env #read-tuples read-def.routine code.calls-tuples·read·read-tuples (read-thm.met 𝓤 H 𝓜 𝓖 𝓡))
+    (cited 𝓤 H (Test 𝓤 H (𝓖 .A) (𝓜 .mem) (𝓡 .run)) 𝓜 𝓡 code.env #is-refused test-def.routine code.calls-trial-lists·is-refused (test-thm.met 𝓤 H 𝓜 𝓖 𝓡))
+    (cited 𝓤 H (Count 𝓤 H (𝓖 .A) (𝓜 .mem) (𝓡 .run)) 𝓜 𝓡 code.env #count-of count-def.routine code.calls-trial-lists·count-of (count-thm.met 𝓤 H 𝓜 𝓖 𝓡))
+    (cited 𝓤 H (Write 𝓤 H (𝓖 .A) (𝓜 .mem) (𝓡 .run)) 𝓜 𝓡 code.env #write-tuples write-def.routine code.calls-tuples·write·write-tuples (write-thm.met 𝓤 H 𝓜 𝓖 𝓡)))

@@ -1,4 +1,5 @@
--- `trial_lists::write_made` meets its contract: a walk of its MIR, by hand. In a local array of 256 entries one is stored, and the first n are lent to `write_tuples` as a slice for a lifetime of the call; then the array is whole again.
+-- `write_made` meets its contract: a walk of its MIR, by hand. In a local array of 256 entries one is stored, and the first n are lent to
+-- `write_tuples` as a slice for a lifetime of the call; then the array is whole again.
 use mathlib.Core.Path.{_≡_, refl, sym, _∙_, ap, subst}
 use Prim.Native.Nat.{ℕ, _<_, _≤_, _^_, _*_}
 use native.Mathlib.Omega.{arith}
@@ -64,13 +65,13 @@ use Rattle.ground.proofs.at_most.Symbol.{name as #ground·at-most}
 use Rattle.ground.proofs.at_most.Met as most-thm
 use Rattle.trial_lists.proofs.last_place as last-place
 use Rattle.trial_lists.proofs.last_place.Symbol as last-place-def
-use Rattle.trial_lists.proofs.last_place.Symbol.{name as #trial-lists·last-place}
+use Rattle.trial_lists.proofs.last_place.Symbol.{name as #last-place}
 use Rattle.trial_lists.proofs.last_place.Met as last-place-thm
 use Rattle.tuples.proofs.write.write_tuples as write
 use Rattle.tuples.proofs.write.write_tuples.Symbol as write-def
-use Rattle.tuples.proofs.write.write_tuples.Symbol.{name as #tuples·write-tuples}
+use Rattle.tuples.proofs.write.write_tuples.Symbol.{name as #write-tuples}
 use Rattle.tuples.proofs.write.write_tuples.Met as write-thm
-use Rattle.trial_lists.proofs.write_made.Key.{name as #trial-lists·write-made}
+use Rattle.trial_lists.proofs.write_made.Key.{name as #write-made}
 use Rattle.trial_lists.proofs.write_made as write-made
 use Rattle.trial_lists.proofs.write_made.Statement as stated
 use Rattle.trial_lists.proofs.write_made.Code as code
@@ -133,7 +134,7 @@ module _ {M : Type 1} (𝓤 : URA M) (H : Heap 𝓤) (A : Atoms 𝓤) (W : Given
       nothing ! $ move ! (2 ∷ 0 ∷ []) $ join ! $ move ! (1 ∷ 0 ∷ []) $ join ! $ frame ! $ nothing ! $ move ! (2 ∷ 0 ∷ []) $ fjoin ! $ move ! (1 ∷ 0 ∷ []) $ fjoin ! $
       owned ! usize (Is usize) (uint-makes 𝓤 H A W w64) c _ (refl, gc) $ fjoin ! $ owned ! E.the-row (Is E.the-row) (LL.makes E.the-type E′.the-plain 𝓤 H A) y _ gy $ fjoin ! $ owned ! E.the-row (Is E.the-row) (LL.makes E.the-type E′.the-plain 𝓤 H A) x _ gx $ fjoin ! $ done !
 
-  module _ (C : Calls 𝓤 H) (Λ : Loops 𝓤 H) (fm : FmC 𝓤 H (W .laws) C) (known-write : Triple 𝓤 (C #tuples·write-tuples) (Write 𝓤 H A mem run)) (room₂ : Room u8 (length os)) (n : ℕ) (ln : Least c 256 n) (n-fits : n < 2 ^ 64) (k : ℕ) (lk : LastIs k)
+  module _ (C : Calls 𝓤 H) (Λ : Loops 𝓤 H) (fm : FmC 𝓤 H (W .laws) C) (known-write : Triple 𝓤 (C #write-tuples) (Write 𝓤 H A mem run)) (room₂ : Room u8 (length os)) (n : ℕ) (ln : Least c 256 n) (n-fits : n < 2 ^ 64) (k : ℕ) (lk : LastIs k)
       (l₀ l₁ l₂ l₃ l₄ l₅ l₆ l₇ l₈ l₉ l₁₀ l₁₁ l₁₂ l₁₃ l₁₄ l₁₅ : ℕ) where
     abbrev En : Env 𝓤 H
     En =
@@ -214,7 +215,7 @@ module _ {M : Type 1} (𝓤 : URA M) (H : Heap 𝓤) (A : Atoms 𝓤) (W : Given
           -- [the token; true; the token; the result; the last list; true; Bod]
           keep ! (2 ∷ 0 ∷ 6 ∷ 4 ∷ 3 ∷ []) $ by ! (exits r u (ws .1 .1 .0) (subst (λ (l : List Entry). Writes bs l os r (ws .1 .1 .0)) those e) len′))))))))))
 
-  walk : (C : Calls 𝓤 H) (Λ : Loops 𝓤 H) (fm : FmC 𝓤 H (W .laws) C) (known-most : Triple 𝓤 (C #ground·at-most) (Most 𝓤 H A mem run)) (known-last : Triple 𝓤 (C #trial-lists·last-place) (Last 𝓤 H A mem run)) (known-write : Triple 𝓤 (C #tuples·write-tuples) (Write 𝓤 H A mem run)) → Room u8 (length bs) → Room u8 (length os)
+  walk : (C : Calls 𝓤 H) (Λ : Loops 𝓤 H) (fm : FmC 𝓤 H (W .laws) C) (known-most : Triple 𝓤 (C #ground·at-most) (Most 𝓤 H A mem run)) (known-last : Triple 𝓤 (C #last-place) (Last 𝓤 H A mem run)) (known-write : Triple 𝓤 (C #write-tuples) (Write 𝓤 H A mem run)) → Room u8 (length bs) → Room u8 (length os)
       → ent 𝓤 (onEntry 𝓤 H A write-made.signature (κ, (κ′, tt)) (q, (q′, tt)) a at) (WpFn 𝓤 H C Λ code.function (E′.lowered x ∷ E′.lowered y ∷ vint w64 c ∷ vb ∷ v₂ ∷ []) Post)
   walk C Λ fm known-most known-last known-write room₁ room₂ =
       qed W ((‵ (flft κ q) ⊛ (‵ (flft κ′ q′) ⊛ ‵ ftrue)) ∷ ‵ (owns (E.the-row ∷ E.the-row ∷ usize ∷ ShrSlice (named 0) κ u8 ∷ MutSlice (named 1) κ′ u8 ∷ []) a at) ∷ []) ∵ split ! $ move ! (1 ∷ []) $ split ! $ move ! (3 ∷ []) $
@@ -247,7 +248,7 @@ module _ {M : Type 1} (𝓤 : URA M) (H : Heap 𝓤) (A : Atoms 𝓤) (W : Given
       onto C Λ fm known-write room₂ n ln (is-n .1) k lk l₀ l₁ l₂ l₃ l₄ l₅ l₆ l₇ l₈ l₉ l₁₀ l₁₁ l₁₂ l₁₃ l₁₄ l₁₅ (replicate 256 x) (length-replicate 256 x) refl)))))))))))))))))))))))))
 
 module _ {M : Type 1} (𝓤 : URA M) (H : Heap 𝓤) (A : Atoms 𝓤) (W : Given 𝓤 H A) (mem : Memory → SProp 𝓤) (run : Routine → Fun 𝓤) (𝓣 : Tables 𝓤 H) (known-most : Triple 𝓤 (𝓣 .C #ground·at-most) (Most 𝓤 H A mem run))
-    (known-last : Triple 𝓤 (𝓣 .C #trial-lists·last-place) (Last 𝓤 H A mem run)) (known-write : Triple 𝓤 (𝓣 .C #tuples·write-tuples) (Write 𝓤 H A mem run)) where
+    (known-last : Triple 𝓤 (𝓣 .C #last-place) (Last 𝓤 H A mem run)) (known-write : Triple 𝓤 (𝓣 .C #write-tuples) (Write 𝓤 H A mem run)) where
   write-made-walks : Walks 𝓤 H A write-made.ended stayed (WpFn 𝓤 H (𝓣 .C) (𝓣 .Λ) code.function) (write-made.clauses 𝓤 H A mem run)
   write-made-walks = walked 𝓤 H A write-made.ended stayed (write-made.clauses 𝓤 H A mem run) (WpFn 𝓤 H (𝓣 .C) (𝓣 .Λ) code.function)
       (λ κs. (LL.vals E.the-type E′.the-laws, (LL.vals E.the-type E′.the-laws, (uint-vals w64, (slice-vals, (slice-vals, tt))))))
@@ -273,8 +274,8 @@ pub write-made-spec : {M : Type 1} → stated.statement M
 unfolding code.routine tablesOf
 write-made-spec 𝓤 H 𝓜 𝓖 𝓡 =
     entered 𝓤 H (tripleOf 𝓤 H (𝓖 .A) write-made.signature (write-made.spec 𝓤 H (𝓖 .A) (𝓜 .mem) (𝓡 .run)))
-    (tables 𝓤 H 𝓜 𝓡 code.env .C) (tables 𝓤 H 𝓜 𝓡 code.env .Λ) #trial-lists·write-made code.function (code.unfolded 𝓤 H 𝓜 𝓡)
+    (tables 𝓤 H 𝓜 𝓡 code.env .C) (tables 𝓤 H 𝓜 𝓡 code.env .Λ) #write-made code.function (code.unfolded 𝓤 H 𝓜 𝓡)
     (write-made-meets 𝓤 H (𝓖 .A) (givenOf 𝓤 H 𝓜 𝓖) (𝓜 .mem) (𝓡 .run) (tablesOf 𝓤 H 𝓜 (tables 𝓤 H 𝓜 𝓡 code.env))
     (cited 𝓤 H (Most 𝓤 H (𝓖 .A) (𝓜 .mem) (𝓡 .run)) 𝓜 𝓡 code.env #ground·at-most most-def.routine code.calls-ground·at-most (most-thm.met 𝓤 H 𝓜 𝓖 𝓡))
-    (cited 𝓤 H (Last 𝓤 H (𝓖 .A) (𝓜 .mem) (𝓡 .run)) 𝓜 𝓡 code.env #trial-lists·last-place last-place-def.routine code.calls-trial-lists·last-place (last-place-thm.met 𝓤 H 𝓜 𝓖 𝓡))
-    (cited 𝓤 H (Write 𝓤 H (𝓖 .A) (𝓜 .mem) (𝓡 .run)) 𝓜 𝓡 code.env #tuples·write-tuples write-def.routine code.calls-tuples·write·write-tuples (write-thm.met 𝓤 H 𝓜 𝓖 𝓡)))
+    (cited 𝓤 H (Last 𝓤 H (𝓖 .A) (𝓜 .mem) (𝓡 .run)) 𝓜 𝓡 code.env #last-place last-place-def.routine code.calls-trial-lists·last-place (last-place-thm.met 𝓤 H 𝓜 𝓖 𝓡))
+    (cited 𝓤 H (Write 𝓤 H (𝓖 .A) (𝓜 .mem) (𝓡 .run)) 𝓜 𝓡 code.env #write-tuples write-def.routine code.calls-tuples·write·write-tuples (write-thm.met 𝓤 H 𝓜 𝓖 𝓡)))

@@ -1,5 +1,6 @@
--- `tuples::read_tuples` meets its contract: a walk of its MIR, by hand. `check_read` gives the answer; then the loop goes by a `Reader` in a local: each turn lends it to `advance` by `&mut`, for a lifetime of the call that lies within the buffer's, and stores the entry in the lent list.
--- The loop's invariant is `Filling`. All that the proof knows of the two callees is that they meet their contracts.
+-- `read_tuples` meets its contract: a walk of its MIR, by hand. `check_read` gives the answer; then the loop goes by a `Reader` in a local: each turn
+-- lends it to `advance` by `&mut`, for a lifetime of the call that lies within the buffer's, and stores the entry in the lent list. The loop's
+-- invariant is `Filling`. All that the proof knows of the two callees is that they meet their contracts.
 use mathlib.Core.Path.{_≡_, refl, sym, _∙_, ap, subst}
 use mathlib.Core.Bool.{Bool, true, false}
 use mathlib.Core.WellFounded.{WellFounded, InvImage·wf}
@@ -75,13 +76,13 @@ use Rattle.tuples.proofs.read.Reader as T
 use Rattle.tuples.proofs.read.Reader.Laws as T′
 use Rattle.tuples.proofs.read.check_read as check
 use Rattle.tuples.proofs.read.check_read.Symbol as check-def
-use Rattle.tuples.proofs.read.check_read.Symbol.{name as #tuples·check-read}
+use Rattle.tuples.proofs.read.check_read.Symbol.{name as #check-read}
 use Rattle.tuples.proofs.read.check_read.Met as check-thm
 use Rattle.tuples.proofs.read.advance as advance
 use Rattle.tuples.proofs.read.advance.Symbol as advance-def
-use Rattle.tuples.proofs.read.advance.Symbol.{name as #tuples·advance}
+use Rattle.tuples.proofs.read.advance.Symbol.{name as #advance}
 use Rattle.tuples.proofs.read.advance.Met as advance-thm
-use Rattle.tuples.proofs.read.read_tuples.Key.{name as #tuples·read-tuples}
+use Rattle.tuples.proofs.read.read_tuples.Key.{name as #read-tuples}
 use Rattle.tuples.proofs.read.read_tuples as read
 use Rattle.tuples.proofs.read.read_tuples.Statement as stated
 use Rattle.tuples.proofs.read.read_tuples.Code as code
@@ -191,7 +192,7 @@ module _ {M : Type 1} (𝓤 : URA M) (H : Heap 𝓤) (A : Atoms 𝓤) (W : Given
       fjoin ! $ pureI ! (at-slice E.the-row (list zs) (vl ∷ [])) (tt, (tt, tt)) (ap (λ (m : ℕ). sliceVal (b′, o′) m ∷ []) (sym len), subst (Room E.the-row) (sym len) room) $ fjoin ! $
       nothing ! $ move ! (1 ∷ 0 ∷ []) $ fjoin ! $ move ! (1 ∷ 0 ∷ []) $ fjoin ! $ frame ! $ owned ! O.the-row (Is O.the-row) (EL.makes O.the-type O′.the-plain 𝓤 H A) o _ go $ done !
 
-  module _ (𝓣 : Tables 𝓤 H) (known-adv : Triple 𝓤 (𝓣 .C #tuples·advance) (Adv 𝓤 H A mem run)) (room : Room E.the-row (length ls)) (room-b : Room u8 (length s)) (ans : Checked) (ga : Is R.the-row ans (R′.lowered ans ∷ [])) (ea : ans ≡ checked (readOutcome s (length ls)))
+  module _ (𝓣 : Tables 𝓤 H) (known-adv : Triple 𝓤 (𝓣 .C #advance) (Adv 𝓤 H A mem run)) (room : Room E.the-row (length ls)) (room-b : Room u8 (length s)) (ans : Checked) (ga : Is R.the-row ans (R′.lowered ans ∷ [])) (ea : ans ≡ checked (readOutcome s (length ls)))
       (l₀ l₁ l₂ l₃ l₄ l₅ l₆ l₇ l₈ l₉ l₁₀ l₁₁ l₁₂ : ℕ) where
     -- the answer's machine value, and how many entries there are: they are within the chain's and within the list
     abbrev va : Val
@@ -331,7 +332,7 @@ module _ {M : Type 1} (𝓤 : URA M) (H : Heap 𝓤) (A : Atoms 𝓤) (W : Given
         keep ! (3 ∷ 4 ∷ 5 ∷ 6 ∷ 7 ∷ 8 ∷ 9 ∷ 10 ∷ 11 ∷ 12 ∷ 13 ∷ 14 ∷ 15 ∷ 16 ∷ 17 ∷ 18 ∷ 19 ∷ 20 ∷ 21 ∷ 22 ∷ 23 ∷ 24 ∷ 25 ∷ 26 ∷ 27 ∷ 28 ∷ 29 ∷ 30 ∷ 31 ∷ 0 ∷ 2 ∷ 1 ∷ []) $
         first ! $ blocks ! $ loops ! 𝓣 Nearer Nearer-wf At (λ x. by-test x (ltb (x .k) n) refl) (start s ls n)
 
-  walk : (𝓣 : Tables 𝓤 H) → Triple 𝓤 (𝓣 .C #tuples·check-read) (Check 𝓤 H A mem run) → Triple 𝓤 (𝓣 .C #tuples·advance) (Adv 𝓤 H A mem run) → Room u8 (length s) → Room E.the-row (length ls)
+  walk : (𝓣 : Tables 𝓤 H) → Triple 𝓤 (𝓣 .C #check-read) (Check 𝓤 H A mem run) → Triple 𝓤 (𝓣 .C #advance) (Adv 𝓤 H A mem run) → Room u8 (length s) → Room E.the-row (length ls)
       → ent 𝓤 (onEntry 𝓤 H A read.signature (κ, (κ′, tt)) (q, (q′, tt)) a at) (WpFn 𝓤 H (𝓣 .C) (𝓣 .Λ) code.function (vb ∷ vl ∷ []) Post)
   walk 𝓣 known-check known-adv room-b room =
       qed W ((‵ (flft κ q) ⊛ (‵ (flft κ′ q′) ⊛ ‵ ftrue)) ∷ ‵ (owns (ShrSlice (named 0) κ u8 ∷ MutSlice (named 1) κ′ E.the-row ∷ []) a at) ∷ []) ∵ split ! $ move ! (2 ∷ []) $ fsplit ! $ move ! (1 ∷ []) $ fsplit ! $
@@ -352,8 +353,8 @@ module _ {M : Type 1} (𝓤 : URA M) (H : Heap 𝓤) (A : Atoms 𝓤) (W : Given
       rewrite ! 21 (λ (v : Val). ‵ (fat fullShare R′.mir l₃ 0 v)) (ap only told) refl $ leave ! $ split ! $ move ! (1 ∷ []) $ leave ! $
       onto 𝓣 known-adv room room-b r (subst (Is R.the-row r) told is) e l₀ l₁ l₂ l₃ l₄ l₅ l₆ l₇ l₈ l₉ l₁₀ l₁₁ l₁₂)))))))))))))))))
 
-module _ {M : Type 1} (𝓤 : URA M) (H : Heap 𝓤) (A : Atoms 𝓤) (W : Given 𝓤 H A) (mem : Memory → SProp 𝓤) (run : Routine → Fun 𝓤) (𝓣 : Tables 𝓤 H) (known-check : Triple 𝓤 (𝓣 .C #tuples·check-read) (Check 𝓤 H A mem run))
-    (known-adv : Triple 𝓤 (𝓣 .C #tuples·advance) (Adv 𝓤 H A mem run)) where
+module _ {M : Type 1} (𝓤 : URA M) (H : Heap 𝓤) (A : Atoms 𝓤) (W : Given 𝓤 H A) (mem : Memory → SProp 𝓤) (run : Routine → Fun 𝓤) (𝓣 : Tables 𝓤 H) (known-check : Triple 𝓤 (𝓣 .C #check-read) (Check 𝓤 H A mem run))
+    (known-adv : Triple 𝓤 (𝓣 .C #advance) (Adv 𝓤 H A mem run)) where
   read-walks : Walks 𝓤 H A read.ended stayed (WpFn 𝓤 H (𝓣 .C) (𝓣 .Λ) code.function) (read.clauses 𝓤 H A mem run)
   read-walks = walked 𝓤 H A read.ended stayed (read.clauses 𝓤 H A mem run) (WpFn 𝓤 H (𝓣 .C) (𝓣 .Λ) code.function)
       (λ κs. (slice-vals, (slice-vals, tt))) (λ κs. (shr-slice-tells (named 0) (κs .0) u8, (mut-slice-tells (named 1) (κs .1 .0) E.the-row, tt)))
@@ -368,7 +369,7 @@ pub read-tuples-spec : {M : Type 1} → stated.statement M
 unfolding code.routine tablesOf
 read-tuples-spec 𝓤 H 𝓜 𝓖 𝓡 =
     entered 𝓤 H (tripleOf 𝓤 H (𝓖 .A) read.signature (read.spec 𝓤 H (𝓖 .A) (𝓜 .mem) (𝓡 .run)))
-    (tables 𝓤 H 𝓜 𝓡 code.env .C) (tables 𝓤 H 𝓜 𝓡 code.env .Λ) #tuples·read-tuples code.function (code.unfolded 𝓤 H 𝓜 𝓡)
+    (tables 𝓤 H 𝓜 𝓡 code.env .C) (tables 𝓤 H 𝓜 𝓡 code.env .Λ) #read-tuples code.function (code.unfolded 𝓤 H 𝓜 𝓡)
     (read-meets 𝓤 H (𝓖 .A) (givenOf 𝓤 H 𝓜 𝓖) (𝓜 .mem) (𝓡 .run) (tablesOf 𝓤 H 𝓜 (tables 𝓤 H 𝓜 𝓡 code.env))
-    (cited 𝓤 H (Check 𝓤 H (𝓖 .A) (𝓜 .mem) (𝓡 .run)) 𝓜 𝓡 code.env #tuples·check-read check-def.routine code.calls-tuples·read·check-read (check-thm.met 𝓤 H 𝓜 𝓖 𝓡))
-    (cited 𝓤 H (Adv 𝓤 H (𝓖 .A) (𝓜 .mem) (𝓡 .run)) 𝓜 𝓡 code.env #tuples·advance advance-def.routine code.calls-tuples·read·advance (advance-thm.met 𝓤 H 𝓜 𝓖 𝓡)))
+    (cited 𝓤 H (Check 𝓤 H (𝓖 .A) (𝓜 .mem) (𝓡 .run)) 𝓜 𝓡 code.env #check-read check-def.routine code.calls-tuples·read·check-read (check-thm.met 𝓤 H 𝓜 𝓖 𝓡))
+    (cited 𝓤 H (Adv 𝓤 H (𝓖 .A) (𝓜 .mem) (𝓡 .run)) 𝓜 𝓡 code.env #advance advance-def.routine code.calls-tuples·read·advance (advance-thm.met 𝓤 H 𝓜 𝓖 𝓡)))

@@ -1,5 +1,7 @@
--- `tuples::write_tuples` meets its contract: a walk of its MIR, by hand. `new_page` gives the page, the loop adds each entry of the list to it by `add_tuple`, and `put_page` puts it into the buffer to fill. All that the proof knows of the three is that they meet their contracts.
--- The loop's invariant is `State`: with the entries to come the page is the page of them all. The list's and the bodies' slices are Copy. The borrow of the buffer to fill is given to `put_page` for good.
+-- `write_tuples` meets its contract: a walk of its MIR, by hand. `new_page` gives the page, the loop adds each entry of the list to it by
+-- `add_tuple`, and `put_page` puts it into the buffer to fill. All that the proof knows of the three is that they meet their contracts. The loop's
+-- invariant is `State`: with the entries to come the page is the page of them all. The list's and the bodies' slices are Copy. The borrow of the
+-- buffer to fill is given to `put_page` for good.
 use mathlib.Core.Path.{_≡_, refl, sym, _∙_, ap, subst}
 use mathlib.Core.Bool.{Bool, true, false}
 use mathlib.Core.WellFounded.{WellFounded, InvImage·wf}
@@ -61,17 +63,17 @@ use Rattle.tuples.proofs.page.Page as P
 use Rattle.tuples.proofs.page.Page.Laws as P′
 use Rattle.tuples.proofs.page.new_page as new
 use Rattle.tuples.proofs.page.new_page.Symbol as new-def
-use Rattle.tuples.proofs.page.new_page.Symbol.{name as #tuples·new-page}
+use Rattle.tuples.proofs.page.new_page.Symbol.{name as #new-page}
 use Rattle.tuples.proofs.page.new_page.Met as new-thm
 use Rattle.tuples.proofs.page.add_tuple as add
 use Rattle.tuples.proofs.page.add_tuple.Symbol as add-def
-use Rattle.tuples.proofs.page.add_tuple.Symbol.{name as #tuples·add-tuple}
+use Rattle.tuples.proofs.page.add_tuple.Symbol.{name as #add-tuple}
 use Rattle.tuples.proofs.page.add_tuple.Met as add-thm
 use Rattle.tuples.proofs.page.put_page as put
 use Rattle.tuples.proofs.page.put_page.Symbol as put-def
-use Rattle.tuples.proofs.page.put_page.Symbol.{name as #tuples·put-page}
+use Rattle.tuples.proofs.page.put_page.Symbol.{name as #put-page}
 use Rattle.tuples.proofs.page.put_page.Met as put-thm
-use Rattle.tuples.proofs.write.write_tuples.Key.{name as #tuples·write-tuples}
+use Rattle.tuples.proofs.write.write_tuples.Key.{name as #write-tuples}
 use Rattle.tuples.proofs.write.write_tuples as write
 use Rattle.tuples.proofs.write.write_tuples.Statement as stated
 use Rattle.tuples.proofs.write.write_tuples.Code as code
@@ -198,7 +200,7 @@ module _ {M : Type 1} (𝓤 : URA M) (H : Heap 𝓤) (A : Atoms 𝓤) (W : Given
   Nearer-wf : WellFounded Nearer
   Nearer-wf = InvImage·wf (λ (x : State bs es). length es - x .k) (Nat·lt-wfRel .wf)
 
-  module _ (𝓣 : Tables 𝓤 H) (known-add : Triple 𝓤 (𝓣 .C #tuples·add-tuple) (Add 𝓤 H A mem run)) (known-put : Triple 𝓤 (𝓣 .C #tuples·put-page) (Put 𝓤 H A mem run)) (room₀ : Room E.the-row (length es)) (room₂ : Room u8 (length os))
+  module _ (𝓣 : Tables 𝓤 H) (known-add : Triple 𝓤 (𝓣 .C #add-tuple) (Add 𝓤 H A mem run)) (known-put : Triple 𝓤 (𝓣 .C #put-page) (Put 𝓤 H A mem run)) (room₀ : Room E.the-row (length es)) (room₂ : Room u8 (length os))
       (l₀ l₁ l₂ l₃ l₄ l₅ l₆ l₇ l₈ l₉ l₁₀ l₁₁ l₁₂ : ℕ) where
     abbrev C : Calls 𝓤 H
     C = 𝓣 .C
@@ -284,7 +286,7 @@ module _ {M : Type 1} (𝓤 : URA M) (H : Heap 𝓤) (A : Atoms 𝓤) (W : Given
         assigns ! (of-opd ! (lit ! tt)) (from ! (stop !)) (init ! 14 refl (tt, record { fits = lit< tt })) $
         first ! $ blocks ! $ loops ! 𝓣 Nearer Nearer-wf At (λ x. by-test x (ltb (x .k) (length es)) refl) (record { k = 0; w = r; most = omega arith; left = ap (λ (w : Page). pages bs w es) e; gw = g })
 
-  walk : (𝓣 : Tables 𝓤 H) → Triple 𝓤 (𝓣 .C #tuples·new-page) (New 𝓤 H A mem run) → Triple 𝓤 (𝓣 .C #tuples·add-tuple) (Add 𝓤 H A mem run) → Triple 𝓤 (𝓣 .C #tuples·put-page) (Put 𝓤 H A mem run)
+  walk : (𝓣 : Tables 𝓤 H) → Triple 𝓤 (𝓣 .C #new-page) (New 𝓤 H A mem run) → Triple 𝓤 (𝓣 .C #add-tuple) (Add 𝓤 H A mem run) → Triple 𝓤 (𝓣 .C #put-page) (Put 𝓤 H A mem run)
       → Room E.the-row (length es) → Room u8 (length bs) → Room u8 (length os)
       → ent 𝓤 (onEntry 𝓤 H A write.signature (κ₀, (κ₁, (κ₂, tt))) (q₀, (q₁, (q₂, tt))) a at) (WpFn 𝓤 H (𝓣 .C) (𝓣 .Λ) code.function (v₀ ∷ v₁ ∷ v₂ ∷ []) Post)
   walk 𝓣 known-new known-add known-put room₀ room₁ room₂ =
@@ -305,8 +307,8 @@ module _ {M : Type 1} (𝓤 : URA M) (H : Heap 𝓤) (A : Atoms 𝓤) (W : Given
       rewrite ! 17 (λ (v : Val). ‵ (fat fullShare P′.mir l₄ 0 v)) (ap only told) refl $ leave ! $
       onto 𝓣 known-add known-put room₀ room₂ l₀ l₁ l₂ l₃ l₄ l₅ l₆ l₇ l₈ l₉ l₁₀ l₁₁ l₁₂ r e (subst (Is P.the-row r) told is))))))))))))))))))
 
-module _ {M : Type 1} (𝓤 : URA M) (H : Heap 𝓤) (A : Atoms 𝓤) (W : Given 𝓤 H A) (mem : Memory → SProp 𝓤) (run : Routine → Fun 𝓤) (𝓣 : Tables 𝓤 H) (known-new : Triple 𝓤 (𝓣 .C #tuples·new-page) (New 𝓤 H A mem run))
-    (known-add : Triple 𝓤 (𝓣 .C #tuples·add-tuple) (Add 𝓤 H A mem run)) (known-put : Triple 𝓤 (𝓣 .C #tuples·put-page) (Put 𝓤 H A mem run)) where
+module _ {M : Type 1} (𝓤 : URA M) (H : Heap 𝓤) (A : Atoms 𝓤) (W : Given 𝓤 H A) (mem : Memory → SProp 𝓤) (run : Routine → Fun 𝓤) (𝓣 : Tables 𝓤 H) (known-new : Triple 𝓤 (𝓣 .C #new-page) (New 𝓤 H A mem run))
+    (known-add : Triple 𝓤 (𝓣 .C #add-tuple) (Add 𝓤 H A mem run)) (known-put : Triple 𝓤 (𝓣 .C #put-page) (Put 𝓤 H A mem run)) where
   write-walks : Walks 𝓤 H A write.ended stayed (WpFn 𝓤 H (𝓣 .C) (𝓣 .Λ) code.function) (write.clauses 𝓤 H A mem run)
   write-walks = walked 𝓤 H A write.ended stayed (write.clauses 𝓤 H A mem run) (WpFn 𝓤 H (𝓣 .C) (𝓣 .Λ) code.function) (λ κs. (slice-vals, (slice-vals, (slice-vals, tt))))
       (λ κs. (shr-slice-tells (named 0) (κs .0) E.the-row, (shr-slice-tells (named 1) (κs .1 .0) u8, (mut-slice-tells (named 2) (κs .1 .1 .0) u8, tt))))
@@ -323,8 +325,8 @@ pub write-tuples-spec : {M : Type 1} → stated.statement M
 unfolding code.routine tablesOf
 write-tuples-spec 𝓤 H 𝓜 𝓖 𝓡 =
     entered 𝓤 H (tripleOf 𝓤 H (𝓖 .A) write.signature (write.spec 𝓤 H (𝓖 .A) (𝓜 .mem) (𝓡 .run)))
-    (tables 𝓤 H 𝓜 𝓡 code.env .C) (tables 𝓤 H 𝓜 𝓡 code.env .Λ) #tuples·write-tuples code.function (code.unfolded 𝓤 H 𝓜 𝓡)
+    (tables 𝓤 H 𝓜 𝓡 code.env .C) (tables 𝓤 H 𝓜 𝓡 code.env .Λ) #write-tuples code.function (code.unfolded 𝓤 H 𝓜 𝓡)
     (write-meets 𝓤 H (𝓖 .A) (givenOf 𝓤 H 𝓜 𝓖) (𝓜 .mem) (𝓡 .run) (tablesOf 𝓤 H 𝓜 (tables 𝓤 H 𝓜 𝓡 code.env))
-    (cited 𝓤 H (New 𝓤 H (𝓖 .A) (𝓜 .mem) (𝓡 .run)) 𝓜 𝓡 code.env #tuples·new-page new-def.routine code.calls-tuples·page·new-page (new-thm.met 𝓤 H 𝓜 𝓖 𝓡))
-    (cited 𝓤 H (Add 𝓤 H (𝓖 .A) (𝓜 .mem) (𝓡 .run)) 𝓜 𝓡 code.env #tuples·add-tuple add-def.routine code.calls-tuples·page·add-tuple (add-thm.met 𝓤 H 𝓜 𝓖 𝓡))
-    (cited 𝓤 H (Put 𝓤 H (𝓖 .A) (𝓜 .mem) (𝓡 .run)) 𝓜 𝓡 code.env #tuples·put-page put-def.routine code.calls-tuples·page·put-page (put-thm.met 𝓤 H 𝓜 𝓖 𝓡)))
+    (cited 𝓤 H (New 𝓤 H (𝓖 .A) (𝓜 .mem) (𝓡 .run)) 𝓜 𝓡 code.env #new-page new-def.routine code.calls-tuples·page·new-page (new-thm.met 𝓤 H 𝓜 𝓖 𝓡))
+    (cited 𝓤 H (Add 𝓤 H (𝓖 .A) (𝓜 .mem) (𝓡 .run)) 𝓜 𝓡 code.env #add-tuple add-def.routine code.calls-tuples·page·add-tuple (add-thm.met 𝓤 H 𝓜 𝓖 𝓡))
+    (cited 𝓤 H (Put 𝓤 H (𝓖 .A) (𝓜 .mem) (𝓡 .run)) 𝓜 𝓡 code.env #put-page put-def.routine code.calls-tuples·page·put-page (put-thm.met 𝓤 H 𝓜 𝓖 𝓡)))
