@@ -11,12 +11,12 @@ use Rattle.registers.specs.State.{sresetIn, totalIn}
 use Rattle.registers.specs.Machine.{Machine}
 use Rattle.registers.specs.WellMade.{heldIn, wellMade}
 use Rattle.card.specs.declared.Meaning.the-variants.{WriteRegister}
-use Rattle.card.specs.Access.{Access}
+use Rattle.card.specs.Access.{Asked}
 use Rattle.kept.proofs.Fit.{lent-facts}
 use Rattle.account.specs.Follows.{Able, AcceptedCommand}
 use Rattle.account.proofs.Commands.{Given}
 
-pub able : (m : Machine) (a : Access) (v : ℕ) → AcceptedCommand m a v → Able m
+pub able : (m : Machine) (a : Asked) (v : ℕ) → AcceptedCommand m a v → Able m
 able m a v w =
     let t = w .typed in
     let l = lent-facts m a (WriteRegister StatusCommand v) refl (w .accepted) in

@@ -1,6 +1,5 @@
 -- A sector command begins: the first address is decided, and the account of the rest is the account of the command.
 use Prim.Native.Nat.{ℕ, zero, suc, _%_, _<_}
-use mathlib.Core.Bool.{true}
 use mathlib.Core.Path.{_≡_, refl, _∙_}
 use mathlib.Core.List.{List}
 use native.Mathlib.Omega.{arith}

@@ -11,7 +11,7 @@ use Rattle.registers.specs.declared.Phase.the-variants.{Idle}
 use Rattle.commands.specs.declared.Command.{Command}
 use Rattle.commands.specs.declared.Command.the-variants.{Read, Write, Verify, Erase, Identify, ReadBuffer, WriteBuffer, SetGeometry, Diagnose, Recalibrate, Seek, Sense, Other}
 use Rattle.commands.specs.Table.{commandOf, obeyed, started, countOf, dropped, commandGiven}
-use Rattle.card.specs.Access.{Access}
+use Rattle.card.specs.Access.{Asked}
 use Rattle.card.specs.Step.{step}
 use Rattle.account.specs.Plain.{Plain, Ending, Well, NotFound, Unreadable, WriteFault, Aborted, ends, starts, Account, silent}
 use Rattle.account.specs.Place.{Place, At, Bad}
@@ -33,7 +33,7 @@ pub same-data-agrees : (plain : List ℕ → Account) (h k : Hosted) → Agrees 
 same-data-agrees plain h k p q e = ap (λ (z : Account). z .left) (sym (p .account) ∙ ap plain e ∙ q .account)
 
 -- Two hosts that move the same data end the same, whatever the order and the map.
-pub same-data-same-end : (m : Machine) (a : Access) (v : ℕ) (l k : List Access) → AcceptedCommand m a v → Moves (step m a .next) l → Moves (step m a .next) k →
+pub same-data-same-end : (m : Machine) (a : Asked) (v : ℕ) (l k : List Asked) → AcceptedCommand m a v → Moves (step m a .next) l → Moves (step m a .next) k →
     after m a v l .notes .done ≡ after m a v k .notes .done → plainOf (after m a v l .machine) ≡ plainOf (after m a v k .machine)
 same-data-same-end m a v l k w x y e = same-data-agrees (account (rowOf v) (plainOf m)) (after m a v l) (after m a v k) (agreed m a v l w x) (agreed m a v k w y) e
 
@@ -59,7 +59,7 @@ asks-not v m e = rw (over-at-once (commandOf v) (started (dropped m .state)) (dr
 pub means-no-host-needed : (m : Machine) (v : ℕ) → Able m → dataless (rowOf v) ≡ true → asks (commanded v m) ≡ false
 means-no-host-needed m v k e = rw (command-given v m (k .free)) (asks-not v m e)
 
-pub no-host-needed : (m : Machine) (a : Access) (v : ℕ) → AcceptedCommand m a v → dataless (rowOf v) ≡ true → Moves (step m a .next) []
+pub no-host-needed : (m : Machine) (a : Asked) (v : ℕ) → AcceptedCommand m a v → dataless (rowOf v) ≡ true → Moves (step m a .next) []
 no-host-needed m a v w e = by-meaning (λ x. asks x ≡ false) m a v (w .accepted) (means-no-host-needed m v (able m a v w) e)
 
 -- A read never changes the store or the marks.
@@ -88,6 +88,6 @@ reads-agree p v h e g =
     let z = reads-untouched p (h .notes .done) in
     (ap (λ (y : Account). y .left .store) (sym (g .account) ∙ u) ∙ z .0, ap (λ (y : Account). y .left .marks) (sym (g .account) ∙ u) ∙ z .1)
 
-pub read-changes-no-sector : (m : Machine) (a : Access) (v : ℕ) (l : List Access) → AcceptedCommand m a v → rowOf v ≡ Reads → Moves (step m a .next) l →
+pub read-changes-no-sector : (m : Machine) (a : Asked) (v : ℕ) (l : List Asked) → AcceptedCommand m a v → rowOf v ≡ Reads → Moves (step m a .next) l →
     (after m a v l .machine .store ≡ m .store) × (after m a v l .machine .marks ≡ m .marks)
 read-changes-no-sector m a v l w e x = reads-agree (plainOf m) v (after m a v l) e (agreed m a v l w x)

@@ -7,7 +7,7 @@ use lib.ListN.{length, replicate, length-append, length-replicate}
 use Rattle.geometry.specs.Limits.{totalOf}
 use Rattle.registers.specs.Machine.{Machine}
 use Rattle.transfers.specs.declared.Way.the-variants.{In}
-use Rattle.card.specs.Access.{Access}
+use Rattle.card.specs.Access.{Asked}
 use Rattle.card.specs.Step.{step}
 use Rattle.account.specs.Plain.{Plain, starts, WriteFault, Account, silent}
 use Rattle.account.specs.Place.{Place, At, Bad}
@@ -104,10 +104,10 @@ erases-agree m v h k e x =
     let u = ap (λ (r : Row). account r (plainOf m) (h .notes .done)) e in
     subst (λ (q : Account). OnlyNamed (first (plainOf m)) (asked (m .state .registers .count)) (plainOf m) (q .left)) (sym u ∙ x .account) (erases-named m (h .notes .done) (given m k .0))
 
-pub write-changes-only-named : (m : Machine) (a : Access) (v : ℕ) (l : List Access) → AcceptedCommand m a v → rowOf v ≡ Writes → Moves (step m a .next) l →
+pub write-changes-only-named : (m : Machine) (a : Asked) (v : ℕ) (l : List Asked) → AcceptedCommand m a v → rowOf v ≡ Writes → Moves (step m a .next) l →
     OnlyNamed (first (plainOf m)) (asked (m .state .registers .count)) (plainOf m) (plainOf (after m a v l .machine))
 write-changes-only-named m a v l w e x = writes-agree m v (after m a v l) (able m a v w) e (agreed m a v l w x)
 
-pub erase-changes-only-named : (m : Machine) (a : Access) (v : ℕ) (l : List Access) → AcceptedCommand m a v → rowOf v ≡ Erases → Moves (step m a .next) l →
+pub erase-changes-only-named : (m : Machine) (a : Asked) (v : ℕ) (l : List Asked) → AcceptedCommand m a v → rowOf v ≡ Erases → Moves (step m a .next) l →
     OnlyNamed (first (plainOf m)) (asked (m .state .registers .count)) (plainOf m) (plainOf (after m a v l .machine))
 erase-changes-only-named m a v l w e x = erases-agree m v (after m a v l) (able m a v w) e (agreed m a v l w x)

@@ -1,6 +1,5 @@
 -- The machine starts and ends a command, and reads or writes the whole buffer, as the account does.
 use Prim.Native.Nat.{ℕ}
-use mathlib.Core.Bool.{true}
 use mathlib.Core.Path.{_≡_, refl, sym, ap, _∙_}
 use mathlib.Core.List.{List}
 use lib.ListN.{take}

@@ -12,7 +12,7 @@ use Rattle.transfers.specs.declared.Way.{Way}
 use Rattle.commands.specs.Table.{dropped, commandGiven}
 use Rattle.card.specs.declared.Meaning.{Meaning}
 use Rattle.card.specs.declared.Meaning.the-variants.{WriteRegister}
-use Rattle.card.specs.Access.{Access, meaning}
+use Rattle.card.specs.Access.{Asked, meaning}
 use Rattle.card.specs.Perform.{registerWritten, perform}
 use Rattle.card.specs.Step.{step, play}
 use Rattle.kept.proofs.Perform.{not-held}
@@ -79,24 +79,24 @@ means-as-the-account m v l k x =
 -- ---- over accesses
 
 -- the machine of `hosted` is that of the card's own `play`: the notes change nothing
-pub hosted-plays : (way : Way) (m : Machine) (q : Notes) (l : List Access) → hosted way m q l .machine ≡ play m l .last
+pub hosted-plays : (way : Way) (m : Machine) (q : Notes) (l : List Asked) → hosted way m q l .machine ≡ play m l .last
 unfolding hostedBy step play
 hosted-plays way m q [] = refl
 hosted-plays way m q (a ∷ l) = hosted-plays way (step m a .next) (note way (meaning m a) (step m a .outcome) q) l
 
 -- an accepted Command write gives the command: what holds after it by its meaning holds after the access
-pub by-meaning : (P : Machine → Type 0) (m : Machine) (a : Access) (v : ℕ) → meaning m a ≡ WriteRegister StatusCommand v → P (commanded v m) → P (step m a .next)
+pub by-meaning : (P : Machine → Type 0) (m : Machine) (a : Asked) (v : ℕ) → meaning m a ≡ WriteRegister StatusCommand v → P (commanded v m) → P (step m a .next)
 unfolding step
 by-meaning P m a v e = subst (λ (x : Meaning). P (perform x m .next)) (sym e)
 
-pub agreed : (m : Machine) (a : Access) (v : ℕ) (l : List Access) → AcceptedCommand m a v → Moves (step m a .next) l → Agrees (account (rowOf v) (plainOf m)) (after m a v l)
+pub agreed : (m : Machine) (a : Asked) (v : ℕ) (l : List Asked) → AcceptedCommand m a v → Moves (step m a .next) l → Agrees (account (rowOf v) (plainOf m)) (after m a v l)
 agreed m a v l w =
     by-meaning (λ x. Moves x l → Agrees (account (rowOf v) (plainOf m)) (hosted (wayOf (rowOf v)) x noNotes l)) m a v (w .accepted)
     (means-as-the-account m v (meanings (commanded v m) l) (able m a v w))
 
 -- For every Command write that a card in neither reset accepts, and every list of accesses up to where the card stops asking that has no reset and no
 -- command in it, the host's data, the store, the marks and the card are those of the account.
-pub as-the-account : (m : Machine) (a : Access) (v : ℕ) (l : List Access) →
+pub as-the-account : (m : Machine) (a : Asked) (v : ℕ) (l : List Asked) →
     meaning m a ≡ WriteRegister StatusCommand v →
     heldIn (m .state) ≡ false →
     Typed m →

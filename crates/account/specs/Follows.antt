@@ -9,7 +9,7 @@ use Rattle.registers.specs.Machine.{Machine}
 use Rattle.registers.specs.WellMade.{heldIn}
 use Rattle.card.specs.declared.Meaning.{Meaning}
 use Rattle.card.specs.declared.Meaning.the-variants.{WriteRegister}
-use Rattle.card.specs.Access.{Access, meaning}
+use Rattle.card.specs.Access.{Asked, meaning}
 use Rattle.card.specs.Perform.{perform}
 use Rattle.card.specs.Step.{step}
 use Rattle.kept.specs.Sound.{Sound}
@@ -34,13 +34,13 @@ abbrev pub afterBy : Machine → ℕ → List Meaning → Hosted
 afterBy m v l = hostedBy (wayOf (rowOf v)) (commanded v m) noNotes l
 
 -- a Command write that the theorem speaks of
-pub record AcceptedCommand (m : Machine) (a : Access) (v : ℕ) : Type 0 where
+pub record AcceptedCommand (m : Machine) (a : Asked) (v : ℕ) : Type 0 where
   pub accepted : meaning m a ≡ WriteRegister StatusCommand v
   pub free : heldIn (m .state) ≡ false
   pub typed : Typed m
 
 -- the host after it
-abbrev pub after : Machine → Access → ℕ → List Access → Hosted
+abbrev pub after : Machine → Asked → ℕ → List Asked → Hosted
 after m a v l = hosted (wayOf (rowOf v)) (step m a .next) noNotes l
 
 -- a row without data needs no host

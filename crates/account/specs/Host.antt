@@ -12,7 +12,7 @@ use Rattle.registers.specs.Resets.{bitTwo}
 use Rattle.transfers.specs.declared.Way.{Way}
 use Rattle.card.specs.declared.Meaning.{Meaning}
 use Rattle.card.specs.declared.Meaning.the-variants.{TupleByte, ReadOption, WriteOption, ReadRegister, WriteRegister, ReadData, WriteData}
-use Rattle.card.specs.Access.{Access, meaning}
+use Rattle.card.specs.Access.{Asked, meaning}
 use Rattle.card.specs.Perform.{perform}
 use Rattle.account.specs.Plain.{Plain}
 use Rattle.account.specs.Notes.{Notes, note}
@@ -87,16 +87,16 @@ meaningsBy means m (a ∷ l) = let rest = meaningsBy means (perform (means m a) 
 
 -- ---- by the accesses
 
-abbrev pub meanings : Machine → List Access → List Meaning
+abbrev pub meanings : Machine → List Asked → List Meaning
 meanings m l = meaningsBy meaning m l
 
 -- accesses that are made while the card asks, none a command or a reset
-abbrev pub Goes : Machine → List Access → Type 0
+abbrev pub Goes : Machine → List Asked → Type 0
 Goes m l = GoesBy m (meanings m l)
 
 -- and after them the card asks no more
-abbrev pub Moves : Machine → List Access → Type 0
+abbrev pub Moves : Machine → List Asked → Type 0
 Moves m l = MovesBy m (meanings m l)
 
-abbrev pub hosted : Way → Machine → Notes → List Access → Hosted
+abbrev pub hosted : Way → Machine → Notes → List Asked → Hosted
 hosted way m q l = hostedBy way m q (meanings m l)

@@ -2,7 +2,6 @@
 use Prim.Native.Nat.{ℕ}
 use mathlib.Core.Path.{_≡_, refl, sym, _∙_}
 use mathlib.Core.Bool.{Bool, true, false}
-use mathlib.Core.List.{List}
 use Rattle.ground.specs.Choice.{pick}
 use Rattle.answers.specs.Answers.{outcomeNumber}
 use Rattle.maps.specs.declared.Port.{Port}
@@ -16,7 +15,8 @@ use Rattle.port.specs.declared.Take.{Take}
 use Rattle.port.specs.Halves.{takeOf}
 use Rattle.port.specs.Data.{accepted, heldValue, takenRead, phaseRead, dataRead, takenWritten, phaseWritten, dataWritten}
 use Rattle.card.specs.declared.Meaning.{Meaning}
-use Rattle.card.specs.Access.{targeted}
+use Rattle.card.specs.declared.Meaning.the-variants.{ReadData, WriteData}
+use Rattle.card.specs.Access.{Asked, targeted}
 use Rattle.card.specs.Perform.{perform}
 use Rattle.card.specs.Rows.{halfIn, movedSoFar, highMoved, oneMoved}
 
@@ -85,8 +85,10 @@ held-written : (h : Bool) (p : Port) (v : ℕ) (m : Machine) →
 held-written true p v m = sym (none-gone p)
 held-written false p v m = phase-written (m .phase) p v m
 
-pub data-number : (write : Bool) (p : Port) (v : ℕ) (tuples : List ℕ) (m : Machine) →
-    numberAfter (targeted (Data p) write v tuples) m ≡ elevenIf (gone p (movedSoFar m write))
+data-by : (write : Bool) (p : Port) (v : ℕ) (m : Machine) → numberAfter (pick write (WriteData p v) (ReadData p)) m ≡ elevenIf (gone p (movedSoFar m write))
 unfolding perform dataRead dataWritten
-data-number true p v tuples m = held-written (m .state .control .held) p v m
-data-number false p v tuples m = held-read (m .state .control .held) p m
+data-by true p v m = held-written (m .state .control .held) p v m
+data-by false p v m = held-read (m .state .control .held) p m
+
+pub data-number : (p : Port) (a : Asked) (m : Machine) → numberAfter (targeted (Data p) a) m ≡ elevenIf (gone p (movedSoFar m (a .access .write)))
+data-number p a m = data-by (a .access .write) p (a .access .value) m

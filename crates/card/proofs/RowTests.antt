@@ -4,20 +4,22 @@ use mathlib.Core.Path.{_≡_, refl}
 use mathlib.Core.Bool.{Bool, true, false, not, _&&_, _||_}
 use mathlib.Core.List.{List, [], _∷_}
 use lib.Dec.{eqb, ltb}
+use lib.ListN.{drop}
 use native.Mathlib.Omega.{arith}
 use borrow.Author.Tests.{eqb-true, ne-eqb}
 use Rattle.ground.specs.Choice.{pick}
+use Rattle.ground.specs.Tables.{Entry, lookup}
 use Rattle.ground.proofs.Picks.{pick-same}
-use Rattle.answers.specs.declared.Refusal.the-variants.{NoRegister}
+use Rattle.maps.specs.declared.Access.{Access}
 use Rattle.maps.specs.declared.Mode.{Mode}
 use Rattle.maps.specs.declared.Mode.the-variants.{PcCard, TrueIde}
-use Rattle.maps.specs.declared.Port.{Port}
 use Rattle.maps.specs.declared.Register.{Register}
-use Rattle.maps.specs.declared.Target.the-variants.{Named, Data}
-use Rattle.maps.specs.declared.Standing.{Standing}
-use Rattle.maps.specs.declared.Standing.the-variants.{There, Refused}
+use Rattle.maps.specs.declared.Target.the-variants.{Named}
+use Rattle.maps.specs.declared.Place.{Place}
+use Rattle.maps.specs.declared.Place.the-variants.{Nothing, Bytes}
 use Rattle.maps.specs.Spaces.{cardAnswers, answersAt}
-use Rattle.maps.specs.Places.{misfits, namedAt}
+use Rattle.maps.specs.Places.{registerTable}
+use Rattle.maps.specs.Rows.{misfits}
 use Rattle.registers.specs.State.{sresetIn}
 use Rattle.card.specs.Access.{heldAway}
 use Rattle.card.specs.Rows.{atOption, among, answering, unfit}
@@ -28,9 +30,9 @@ away-by true true option = refl
 away-by true false option = refl
 away-by false attribute option = refl
 
-pub away-is : (option space address : ℕ) → heldAway option space address ≡ (sresetIn option && not (atOption space address))
+pub away-is : (option : ℕ) (a : Access) → heldAway option a ≡ (sresetIn option && not (atOption (a .space) (a .address)))
 unfolding heldAway
-away-is option space address = away-by (sresetIn option) (eqb space 0) (eqb address 0x200)
+away-is option a = away-by (sresetIn option) (eqb (a .space) 0) (eqb (a .address) 0x200)
 
 -- ---- row 7
 ide-by : (zero one two three : Bool) → (zero ≡ true → three ≡ false) → (one ≡ true → three ≡ false) → (two ≡ true → three ≡ false) →
@@ -59,35 +61,33 @@ unfit-by false true true write big n = refl
 unfit-by false true false write big n = refl
 unfit-by false false even write big n = refl
 
-pub unfit-is : (even : Bool) (width : ℕ) (write : Bool) (value : ℕ) → misfits even width write value ≡ unfit even width write value
+pub unfit-is : (even : Bool) (a : Access) → misfits even a ≡ unfit even (a .width) (a .write) (a .value)
 unfolding misfits
-unfit-is even width write value =
-    unfit-by (eqb width 1) (eqb width 2) even write (ltb 255 value) (λ p q. omega (arith, eqb-true width 1 p, eqb-true width 2 q))
+unfit-is even a =
+    unfit-by (eqb (a .width) 1) (eqb (a .width) 2) even (a .write) (ltb 255 (a .value)) (λ p q. omega (arith, eqb-true (a .width) 1 p, eqb-true (a .width) 2 q))
 
--- ---- row 6: what is named at an offset but 0 and 8, and whether it is listed, are found by the same tests
-abbrev pub named : List ℕ
-named = 9 ∷ 1 ∷ 0xD ∷ 2 ∷ 3 ∷ 4 ∷ 5 ∷ 6 ∷ 7 ∷ 0xE ∷ 0xF ∷ []
+-- ---- row 6: a place and whether its offset is listed are found by the same tests
+abbrev pub registers : List (Entry Place)
+registers = drop 3 registerTable
 
-module _ (P : Bool → Standing → Bool → Type 0) where
-  by-odd : (t : Bool) (s : Standing) (listed : Bool) → P true (There (Data Port.Odd)) true → P false s listed → P t (pick t (There (Data Port.Odd)) s) (pick t true listed)
-  by-odd true s listed p q = p
-  by-odd false s listed p q = q
+abbrev pub registerNumbers : List ℕ
+registerNumbers = 1 ∷ 0xD ∷ 2 ∷ 3 ∷ 4 ∷ 5 ∷ 6 ∷ 7 ∷ 0xE ∷ 0xF ∷ []
 
-  by-register : (t : Bool) (x s : Standing) (listed : Bool) → P false x true → P false s listed → P false (pick t x s) (pick t true listed)
-  by-register true x s listed p q = p
-  by-register false x s listed p q = q
+module _ (P : Place → Bool → Type 0) where
+  by-register : (t : Bool) (r : Register) (p : Place) (listed : Bool) → P (Bytes (Named r)) true → P p listed → P (pick t (Bytes (Named r)) p) (pick t true listed)
+  by-register true r p listed x y = x
+  by-register false r p listed x y = y
 
-  pub named-by : (o : ℕ) → P true (There (Data Port.Odd)) true → ((r : Register) → P false (There (Named r)) true) → P false (Refused NoRegister) false → P (eqb o 9) (namedAt o) (among o named)
-  unfolding namedAt
-  named-by o odd register none =
-      by-odd (eqb o 9) _ _ odd
-      (by-register (eqb o 1) _ _ _ (register _)
-      (by-register (eqb o 0xD) _ _ _ (register _)
-      (by-register (eqb o 2) _ _ _ (register _)
-      (by-register (eqb o 3) _ _ _ (register _)
-      (by-register (eqb o 4) _ _ _ (register _)
-      (by-register (eqb o 5) _ _ _ (register _)
-      (by-register (eqb o 6) _ _ _ (register _)
-      (by-register (eqb o 7) _ _ _ (register _)
-      (by-register (eqb o 0xE) _ _ _ (register _)
-      (by-register (eqb o 0xF) _ _ _ (register _) none))))))))))
+  -- of the registers' rows, in 01's order
+  pub registers-by : (o : ℕ) → ((r : Register) → P (Bytes (Named r)) true) → P Nothing false → P (lookup registers o Nothing) (among o registerNumbers)
+  registers-by o x none =
+      by-register (eqb o 1) _ _ _ (x _)
+      (by-register (eqb o 0xD) _ _ _ (x _)
+      (by-register (eqb o 2) _ _ _ (x _)
+      (by-register (eqb o 3) _ _ _ (x _)
+      (by-register (eqb o 4) _ _ _ (x _)
+      (by-register (eqb o 5) _ _ _ (x _)
+      (by-register (eqb o 6) _ _ _ (x _)
+      (by-register (eqb o 7) _ _ _ (x _)
+      (by-register (eqb o 0xE) _ _ _ (x _)
+      (by-register (eqb o 0xF) _ _ _ (x _) none)))))))))

@@ -5,14 +5,16 @@ use mathlib.Core.List.{List, [], _∷_}
 use lib.Dec.{eqb}
 use lib.ListN.{length, getD}
 use Rattle.ground.specs.Choice.{pick}
-use Rattle.answers.specs.declared.Refusal.the-variants.{NotWellMade, StoreLength, MarksLength, TupleBufferLength, HeldBySreset, SpaceSilent}
+use Rattle.answers.specs.declared.Refusal.the-variants.{NotWellMade, StoreLength, MarksLength, TupleBufferLength, HeldBySreset}
 use Rattle.ground.specs.Rows.{Row, When, Unless, firstOf}
 use Rattle.answers.specs.declared.Refusal.{Refusal}
+use Rattle.maps.specs.declared.Access.{Access}
+use Rattle.maps.specs.declared.Place.{Place}
 use Rattle.maps.specs.declared.Target.{Target}
 use Rattle.maps.specs.declared.Target.the-variants.{Tuple, Option, Named, Data}
 use Rattle.maps.specs.declared.Standing.{Standing}
-use Rattle.maps.specs.Spaces.{answersAt}
-use Rattle.maps.specs.Maps.{standsAt}
+use Rattle.maps.specs.Places.{placeAt}
+use Rattle.maps.specs.Rows.{placeTable, moved}
 use Rattle.registers.specs.declared.Phase.{Phase}
 use Rattle.registers.specs.declared.State.{State}
 use Rattle.registers.specs.State.{sresetIn, indexIn, totalIn}
@@ -22,47 +24,40 @@ use Rattle.card.specs.declared.Meaning.{Meaning}
 use Rattle.card.specs.declared.Meaning.the-variants.{TupleByte, ReadOption, WriteOption, ReadRegister, WriteRegister, ReadData, WriteData}
 use Rattle.card.specs.declared.Verdict.{Verdict}
 
--- an access: any space, width, address and value, and the tuple buffer that is lent with it
-pub record Access : Type 0 where
-  pub space : ℕ
-  pub width : ℕ
-  pub write : Bool
-  pub address : ℕ
-  pub value : ℕ
+-- what is asked of a card: an access, and the tuple buffer that is lent with it
+pub record Asked : Type 0 where
+  pub access : Access
   pub tuples : List ℕ
 
--- the access with another value, all else the same
-abbrev pub withValue : ℕ → Access → Access
-withValue v a = record { space = a .space; width = a .width; write = a .write; address = a .address; value = v; tuples = a .tuples }
+abbrev pub askedWith : Access → List ℕ → Asked
+askedWith access tuples = record { access = access; tuples = tuples }
 
 -- what stands there is read or written; a byte write's value is at most 255 here
-abbrev pub targeted : Target → Bool → ℕ → List ℕ → Meaning
-targeted (Tuple n) write value tuples = TupleByte (getD tuples n 0)
-targeted Option write value tuples = pick write (WriteOption (value % 256)) ReadOption
-targeted (Named r) write value tuples = pick write (WriteRegister r (value % 256)) (ReadRegister r)
-targeted (Data port) write value tuples = pick write (WriteData port value) (ReadData port)
+abbrev pub targeted : Target → Asked → Meaning
+targeted (Tuple n) a = TupleByte (getD (a .tuples) n 0)
+targeted Option a = pick (a .access .write) (WriteOption (a .access .value % 256)) ReadOption
+targeted (Named r) a = pick (a .access .write) (WriteRegister r (a .access .value % 256)) (ReadRegister r)
+targeted (Data port) a = pick (a .access .write) (WriteData port (a .access .value)) (ReadData port)
 
-abbrev pub standing : Standing → Bool → ℕ → List ℕ → Meaning
-standing (Standing.There t) write value tuples = targeted t write value tuples
-standing (Standing.Refused r) write value tuples = Meaning.Refused r
+abbrev pub standing : Standing → Asked → Meaning
+standing (Standing.There t) a = targeted t a
+standing (Standing.Refused r) a = Meaning.Refused r
 
 -- row 8: held by SRESET, and the access is not to attribute 200H
-unfoldable pub heldAway : ℕ → ℕ → ℕ → Bool
-heldAway option space address = pick (sresetIn option) (pick (eqb space 0) (not (eqb address 0x200)) true) false
+unfoldable pub heldAway : ℕ → Access → Bool
+heldAway option a = pick (sresetIn option) (pick (eqb (a .space) 0) (not (eqb (a .address) 0x200)) true) false
 
--- rows 8, 7
-abbrev pub doorTable : State → Access → List (Row Refusal)
-doorTable s a =
-    When (heldAway (s .option) (a .space) (a .address)) HeldBySreset
-    ∷ Unless (answersAt (a .space) (s .made .mode) (indexIn (s .option))) SpaceSilent
-    ∷ []
+-- what stands at the access's address
+abbrev pub placeIn : State → Asked → Place
+placeIn s a = placeAt (s .made .mode) (indexIn (s .option)) (a .access)
 
--- rows 6, 9, 10, then what stands there
-abbrev pub placed : State → Access → Meaning
-placed s a = standing (standsAt (a .space) (indexIn (s .option)) (a .address) (a .width) (a .write) (a .value)) (a .write) (a .value) (a .tuples)
+-- rows 8, 7, 6, 9, 10
+abbrev pub doorTable : State → Asked → List (Row Refusal)
+doorTable s a = When (heldAway (s .option) (a .access)) HeldBySreset ∷ placeTable (placeIn s a) (a .access)
 
-unfoldable pub decided : State → Access → Meaning
-decided s a = firstOf (doorTable s a) Meaning.Refused (placed s a)
+-- then what stands there
+unfoldable pub decided : State → Asked → Meaning
+decided s a = firstOf (doorTable s a) Meaning.Refused (standing (moved (placeIn s a) (a .access .width)) a)
 
 -- "Store length is 512·N, marks length N", "a 256-byte tuple buffer"
 abbrev pub storeSized : State → List ℕ → Bool
@@ -99,5 +94,5 @@ abbrev pub meantBy : Verdict → Meaning → Meaning
 meantBy Verdict.Fit k = k
 meantBy (Verdict.Refused r) k = Meaning.Refused r
 
-unfoldable pub meaning : Machine → Access → Meaning
+unfoldable pub meaning : Machine → Asked → Meaning
 meaning m a = meantBy (verdictOf (m .phase) (m .state) (m .store) (m .marks) (a .tuples)) (decided (m .state) a)

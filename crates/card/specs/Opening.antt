@@ -19,6 +19,7 @@ use Rattle.registers.specs.declared.State.{State}
 use Rattle.registers.specs.PowerOn.{powerOn, zeros}
 use Rattle.card.specs.declared.Card.{Card}
 use Rattle.card.specs.declared.Answer.{Answer}
+use Rattle.card.specs.Doors.{answer, refusedBy}
 
 -- "Mode: 0 PC Card, 1 True IDE."
 abbrev pub modeOf : ℕ → Mode
@@ -43,7 +44,7 @@ abbrev pub zeroCard : Card
 zeroCard = record { phase = Idle; state = zeroState; buffer = zeros }
 
 abbrev pub openRefused : Refusal → Answer
-openRefused r = record { outcome = Outcome.Refused r; line = false; card = zeroCard }
+openRefused r = refusedBy zeroCard r
 
 -- power-on: index 0, buffer zeros
 abbrev pub powered : Geometry → Mode → Card
@@ -62,4 +63,4 @@ openingTable g mode store marks tuples =
 unfoldable pub opened : Geometry → ℕ → List ℕ → List ℕ → List ℕ → Answer
 opened g mode store marks tuples =
     firstOf (openingTable g mode store marks tuples) openRefused
-    (record { outcome = Outcome.Accepted 0; line = false; card = powered g (modeOf mode) })
+    (answer (Outcome.Accepted 0) (powered g (modeOf mode)))

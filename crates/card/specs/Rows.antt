@@ -12,9 +12,7 @@ use Rattle.ground.specs.Rows.{Row, When, Unless}
 use Rattle.answers.specs.declared.Refusal.{Refusal}
 use Rattle.maps.specs.declared.Mode.{Mode}
 use Rattle.maps.specs.declared.Mode.the-variants.{PcCard, TrueIde}
-use Rattle.maps.specs.declared.Offset.{Offset}
-use Rattle.maps.specs.declared.Offset.the-variants.{At, Nowhere}
-use Rattle.maps.specs.Offsets.{offsetAt}
+use Rattle.maps.specs.Offsets.{Offset, At, Nowhere, offsetAt}
 use Rattle.registers.specs.declared.Half.{Half}
 use Rattle.registers.specs.declared.Phase.{Phase}
 use Rattle.registers.specs.declared.Phase.the-variants.{Idle, DataIn, DataOut}
@@ -22,7 +20,7 @@ use Rattle.registers.specs.State.{sresetIn, indexIn, totalIn}
 use Rattle.registers.specs.Machine.{Machine}
 use Rattle.registers.specs.WellMade.{wellMade}
 use Rattle.card.specs.declared.Card.{Card}
-use Rattle.card.specs.Access.{Access}
+use Rattle.card.specs.Access.{Asked}
 
 -- ---- where an access goes
 
@@ -109,20 +107,20 @@ halfGone o width half = (atOddData o && highMoved half) || (atEvenData o && eqb 
 
 -- ---- the tables; the opening's is in OpeningRows.antt
 
-abbrev pub accessTable : Machine → Access → List (Row Refusal)
+abbrev pub accessTable : Machine → Asked → List (Row Refusal)
 accessTable m a =
     let index = indexIn (m .state .option) in
-    let o = offsetAt (a .space) index (a .address) in
+    let o = offsetAt (a .access .space) index (a .access .address) in
     Unless (wellMade (m .phase) (m .state)) NotWellMade
     ∷ Unless (eqb (length (m .store)) (512 * totalIn (m .state))) StoreLength
     ∷ Unless (eqb (length (m .marks)) (totalIn (m .state))) MarksLength
     ∷ Unless (eqb (length (a .tuples)) 256) TupleBufferLength
-    ∷ When (sresetIn (m .state .option) && not (atOption (a .space) (a .address))) HeldBySreset
-    ∷ Unless (answering (a .space) (m .state .made .mode) index) SpaceSilent
-    ∷ When (noRegister (a .space) (a .address) o (a .write)) NoRegister
-    ∷ When (unfit (atEvenData o) (a .width) (a .write) (a .value)) WidthOrValue
-    ∷ When (atOption (a .space) (a .address) && indexAbove (a .write) (a .value)) IndexAboveThree
-    ∷ When (halfGone o (a .width) (movedSoFar m (a .write))) HalfMoved
+    ∷ When (sresetIn (m .state .option) && not (atOption (a .access .space) (a .access .address))) HeldBySreset
+    ∷ Unless (answering (a .access .space) (m .state .made .mode) index) SpaceSilent
+    ∷ When (noRegister (a .access .space) (a .access .address) o (a .access .write)) NoRegister
+    ∷ When (unfit (atEvenData o) (a .access .width) (a .access .write) (a .access .value)) WidthOrValue
+    ∷ When (atOption (a .access .space) (a .access .address) && indexAbove (a .access .write) (a .access .value)) IndexAboveThree
+    ∷ When (halfGone o (a .access .width) (movedSoFar m (a .access .write))) HalfMoved
     ∷ []
 
 -- the option as a method: a byte write to attribute 200H

@@ -1,45 +1,30 @@
 -- One access, and a list of them.
-use Prim.Native.Nat.{ℕ}
-use mathlib.Core.Bool.{Bool}
 use mathlib.Core.List.{List, [], _∷_}
-use Rattle.answers.specs.declared.Outcome.{Outcome}
-use Rattle.registers.specs.State.{lineOf}
-use Rattle.registers.specs.Machine.{Machine, machine}
-use Rattle.port.specs.declared.Done.{Done}
+use Rattle.registers.specs.Machine.{Machine}
 use Rattle.port.specs.Data.{Effect}
-use Rattle.card.specs.declared.Reply.{Reply}
-use Rattle.card.specs.Access.{Access, decided, meaning}
+use Rattle.card.specs.declared.Verdict.{Verdict}
+use Rattle.card.specs.declared.Verdict.the-variants.{Fit, Refused}
+use Rattle.card.specs.declared.Meaning.{Meaning}
+use Rattle.card.specs.Access.{Asked, decided, meaning}
 use Rattle.card.specs.Perform.{perform}
 
--- all that an access leaves: "Each answer says if the line is up", after the access
-pub record Stepped : Type 0 where
-  pub outcome : Outcome
-  pub line : Bool
-  pub next : Machine
-
-abbrev pub stepped : Effect → Stepped
-stepped e = record { outcome = e .outcome; line = lineOf (e .next .state); next = e .next }
-
-unfoldable pub step : Machine → Access → Stepped
-step m a = stepped (perform (meaning m a) m)
+unfoldable pub step : Machine → Asked → Effect
+step m a = perform (meaning m a) m
 
 -- the same of a card that is known to be well made, with all that is lent of the right length
-unfoldable pub fitStep : Machine → Access → Stepped
-fitStep m a = stepped (perform (decided (m .state) a) m)
+unfoldable pub fitStep : Machine → Asked → Effect
+fitStep m a = perform (decided (m .state) a) m
 
--- the inner answer, of an outcome and a core
-abbrev pub replyOf : Done → Reply
-replyOf d = record { outcome = d .outcome; line = lineOf (d .core .state); core = d .core }
-
--- of a reply and what was lent
-abbrev pub replied : Reply → List ℕ → List ℕ → List ℕ → Stepped
-replied r buffer store marks = record { outcome = r .outcome; line = r .line; next = machine (r .core) buffer store marks }
+-- by the verdict of rows 12, 2, 3 and 5 (`verdictOf`, Access.antt): no access changes what they say, so a run tries them once
+abbrev pub byVerdict : Verdict → Machine → Asked → Effect
+byVerdict Fit m a = fitStep m a
+byVerdict (Refused r) m a = perform (Meaning.Refused r) m
 
 -- a list of accesses: what each left, and the machine after the last
 pub record Played : Type 0 where
-  pub steps : List Stepped
+  pub steps : List Effect
   pub last : Machine
 
-unfoldable pub play : Machine → List Access → Played
+unfoldable pub play : Machine → List Asked → Played
 play m [] = record { steps = []; last = m }
 play m (a ∷ l) = let s = step m a in let p = play (s .next) l in record { steps = s ∷ p .steps; last = p .last }

@@ -1,8 +1,6 @@
 // The opening.
 use super::Answer;
 use super::Card;
-use super::Reply;
-use answers::Outcome;
 use answers::Refusal;
 use geometry::Address;
 use geometry::Geometry;
@@ -15,7 +13,7 @@ use registers::Registers;
 use registers::State;
 ghost use mathlib.Core.Path.{_≡_};
 ghost use Rattle.answers.specs.Answers.{Says};
-ghost use Rattle.card.specs.Doors.{cardOf, answerOf};
+ghost use Rattle.card.specs.Doors.{cardOf};
 ghost use Rattle.card.specs.Opening.{modeOf, zeroState, openRefused, powered, opened};
 ghost use Rattle.registers.specs.PowerOn.{zeros};
 
@@ -65,18 +63,15 @@ fn zero_state() -> State
 }
 
 // 01: a refused opening gives the all-zero card.
-fn open_refused(refusal: Refusal) -> Reply
-    ensures { λ r. ⌜ answerOf r zeros ≡ openRefused refusal ⌝ }
+fn open_refused(refusal: Refusal) -> Answer
+    ensures { λ r. ⌜ r ≡ openRefused refusal ⌝ }
 {
     let state = zero_state();
-    Reply {
-        outcome: Outcome::Refused(refusal),
-        line: false,
-        core: Core {
-            phase: Phase::Idle,
-            state: state,
-        },
-    }
+    let core = Core {
+        phase: Phase::Idle,
+        state: state,
+    };
+    super::doors::answer(port::refused(core, refusal), [0u8; 512])
 }
 
 fn powered(geometry: Geometry, mode: Mode) -> Core
@@ -93,39 +88,8 @@ fn powered(geometry: Geometry, mode: Mode) -> Core
     }
 }
 
-// Rows 1, 2, 3, 5, 4, and power-on.
-fn open_reply(geometry: Geometry, mode: u16, store: &[u8], marks: &[u8], tuples: &[u8]) -> Reply
-    ensures { λ r. ⌜ answerOf r zeros ≡ opened geometry mode (now (store .entry)) (now (marks .entry)) (now (tuples .entry)) ⌝ }
-{
-    if !geometry.fits() {
-        return open_refused(Refusal::GeometryOrMode);
-    }
-    if 1 < mode {
-        return open_refused(Refusal::GeometryOrMode);
-    }
-    let total = geometry.total() as usize;
-    if store.len() != 512 * total {
-        return open_refused(Refusal::StoreLength);
-    }
-    if marks.len() != total {
-        return open_refused(Refusal::MarksLength);
-    }
-    if tuples.len() != 256 {
-        return open_refused(Refusal::TupleBufferLength);
-    }
-    if !sectors::marks_fit(marks) {
-        return open_refused(Refusal::MarkAboveTwo);
-    }
-    let core = powered(geometry, mode_of(mode));
-    Reply {
-        outcome: Outcome::Accepted(0),
-        line: false,
-        core: core,
-    }
-}
-
 impl Card {
-    // Any C, H, S and mode, with any store, marks and tuple buffer.
+    // Any C, H, S and mode, with any store, marks and tuple buffer: rows 1, 2, 3, 5, 4, and power-on.
     pub fn open(
         cylinders: u16,
         heads: u16,
@@ -143,20 +107,26 @@ impl Card {
             heads: heads,
             sectors: sectors,
         };
-        let r = open_reply(geometry, mode, store, marks, tuples);
-        let outcome = r.outcome;
-        let core = r.core;
-        let state = core.state;
-        let phase = core.phase;
-        let buffer = [0u8; 512];
-        Answer {
-            outcome: outcome,
-            line: r.line,
-            card: Card {
-                phase: phase,
-                state: state,
-                buffer: buffer,
-            },
+        if !geometry.fits() {
+            return open_refused(Refusal::GeometryOrMode);
         }
+        if 1 < mode {
+            return open_refused(Refusal::GeometryOrMode);
+        }
+        let total = geometry.total() as usize;
+        if store.len() != 512 * total {
+            return open_refused(Refusal::StoreLength);
+        }
+        if marks.len() != total {
+            return open_refused(Refusal::MarksLength);
+        }
+        if tuples.len() != 256 {
+            return open_refused(Refusal::TupleBufferLength);
+        }
+        if !sectors::marks_fit(marks) {
+            return open_refused(Refusal::MarkAboveTwo);
+        }
+        let core = powered(geometry, mode_of(mode));
+        super::doors::answer(port::accepted(core, 0), [0u8; 512])
     }
 }

@@ -1,6 +1,6 @@
 -- A table that can be held beside the paper: a list of its rows, in the paper's order.
 use Prim.Native.Nat.{ℕ, _/_}
-use mathlib.Core.Bool.{Bool, not, _&&_}
+use mathlib.Core.Bool.{Bool, _&&_}
 use mathlib.Core.List.{List, [], _∷_}
 use lib.Dec.{eqb, leb}
 use Rattle.ground.specs.Choice.{pick}

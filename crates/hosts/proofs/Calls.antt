@@ -9,12 +9,13 @@ use Rattle.answers.specs.declared.Refusal.the-variants.{NotWellMade, StoreLengt
 use Rattle.registers.specs.Machine.{Machine, coreOf}
 use Rattle.registers.specs.WellMade.{wellMade}
 use Rattle.transfers.specs.declared.Way.{Way}
+use Rattle.port.specs.Data.{Effect}
 use Rattle.card.specs.declared.Card.{Card}
 use Rattle.card.specs.declared.Answer.{Answer}
 use Rattle.card.specs.declared.Meaning.{Meaning}
-use Rattle.card.specs.Access.{Access, storeSized, marksSized, tuplesSized, decided, verdictBy, verdictOf, meantBy, meaning}
+use Rattle.card.specs.Access.{Asked, storeSized, marksSized, tuplesSized, decided, verdictBy, verdictOf, meantBy, meaning}
 use Rattle.card.specs.Perform.{perform}
-use Rattle.card.specs.Step.{Stepped, stepped, step}
+use Rattle.card.specs.Step.{step}
 use Rattle.card.specs.Doors.{machineOf, answered, cardOf}
 use Rattle.kept.specs.Sound.{Sound}
 use Rattle.kept.specs.Allowed.{Allowed}
@@ -32,22 +33,22 @@ wrong-by true false k t d e = refl
 wrong-by true true false t d e = refl
 wrong-by true true true t d e = absurd (true≢false e)
 
-wrong-means : (m : Machine) (store marks : List ℕ) (a : Access) → WrongLength (m .state) store marks → meaning (lent store marks m) a ≡ Meaning.Refused (wrongRow m store)
+wrong-means : (m : Machine) (store marks : List ℕ) (a : Asked) → WrongLength (m .state) store marks → meaning (lent store marks m) a ≡ Meaning.Refused (wrongRow m store)
 unfolding meaning verdictOf
 wrong-means m store marks a e =
     wrong-by (wellMade (m .phase) (m .state)) (storeSized (m .state) store) (marksSized (m .state) marks) (tuplesSized (a .tuples)) (decided (m .state) a) e
 
-module _ (c : Card) (store marks : List ℕ) (a : Access) (r : Answer) (store′ marks′ : List ℕ) (e : WrongLength (c .state) store marks) (p : Promised c store marks a r store′ marks′) where
-  wrong-answered : answered r store′ marks′ ≡ stepped (perform (Meaning.Refused (wrongRow (machineOf c store marks) store)) (machineOf c store marks))
+module _ (c : Card) (store marks : List ℕ) (a : Asked) (r : Answer) (store′ marks′ : List ℕ) (e : WrongLength (c .state) store marks) (p : Promised c store marks a r store′ marks′) where
+  wrong-answered : answered r store′ marks′ ≡ perform (Meaning.Refused (wrongRow (machineOf c store marks) store)) (machineOf c store marks)
   unfolding step
-  wrong-answered = p ∙ ap (λ (x : Meaning). stepped (perform x (machineOf c store marks))) (wrong-means (machineOf c store marks) store marks a e)
+  wrong-answered = p ∙ ap (λ (x : Meaning). perform x (machineOf c store marks)) (wrong-means (machineOf c store marks) store marks a e)
 
   -- such a call is refused, with 2 or 3 if the card is well made, and nothing changes: neither the card nor what was lent
   pub wrong-refused : (r .outcome ≡ Outcome.Refused (wrongRow (machineOf c store marks) store)) × (r .card ≡ c) × (store′ ≡ store) × (marks′ ≡ marks)
   unfolding perform
   wrong-refused =
-      let n = ap (λ (s : Stepped). s .next) wrong-answered in
-      (ap (λ (s : Stepped). s .outcome) wrong-answered, ap (λ (m : Machine). cardOf (coreOf m) (m .buffer)) n, ap (λ (m : Machine). m .store) n, ap (λ (m : Machine). m .marks) n)
+      let n = ap (λ (s : Effect). s .next) wrong-answered in
+      (ap (λ (s : Effect). s .outcome) wrong-answered, ap (λ (m : Machine). cardOf (coreOf m) (m .buffer)) n, ap (λ (m : Machine). m .store) n, ap (λ (m : Machine). m .marks) n)
 
 -- ---- calls
 
@@ -57,7 +58,7 @@ pub called-is : (l : List Call) (c : Card) (store marks : List ℕ) (way : Way) 
 unfolding hostedBy step perform note
 called-is [] c store marks way q h e = e
 called-is (Own a ∷ l) c store marks way q h e =
-    ap (λ (s : Stepped). hostedBy way (s .next) (note way (meaning (machineOf c store marks) a) (s .outcome) q) (callMeanings (s .next) l)) (sym (e .3))
+    ap (λ (s : Effect). hostedBy way (s .next) (note way (meaning (machineOf c store marks) a) (s .outcome) q) (callMeanings (s .next) l)) (sym (e .3))
     ∙ called-is l (e .0 .card) (e .1) (e .2) way _ h (e .4)
 called-is (Wrong store₁ marks₁ a ∷ l) c store marks way q h e =
     let m = machineOf c store marks in

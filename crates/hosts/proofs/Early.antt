@@ -8,7 +8,7 @@ use native.Mathlib.Omega.{arith}
 use lib.ListN.{length}
 use Rattle.registers.specs.Machine.{Machine}
 use Rattle.card.specs.declared.Meaning.{Meaning}
-use Rattle.card.specs.Access.{Access}
+use Rattle.card.specs.Access.{Asked}
 use Rattle.card.specs.Step.{step}
 use Rattle.account.specs.Plain.{Plain}
 use Rattle.account.specs.Place.{Place, At, Bad}
@@ -52,6 +52,6 @@ pub means-nothing-early : (m : Machine) (v : ℕ) (l : List Meaning) → Able m 
     length (afterBy m v l .notes .done) < 512 → storeMarksIn (afterBy m v l .machine) ≡ storeMarksIn m
 means-nothing-early m v l k e g h = means-at-every-moment m v l k g ∙ row-none-yet (rowOf v) (plainOf m) (afterBy m v l .notes .done) e h
 
-pub nothing-early : (m : Machine) (a : Access) (v : ℕ) (l : List Access) → AcceptedCommand m a v → dataless (rowOf v) ≡ false → Calm (step m a .next) l →
+pub nothing-early : (m : Machine) (a : Asked) (v : ℕ) (l : List Asked) → AcceptedCommand m a v → dataless (rowOf v) ≡ false → Calm (step m a .next) l →
     length (after m a v l .notes .done) < 512 → storeMarksIn (after m a v l .machine) ≡ storeMarksIn m
 nothing-early m a v l w e g h = at-every-moment m a v l w g ∙ row-none-yet (rowOf v) (plainOf m) (after m a v l .notes .done) e h

@@ -7,7 +7,7 @@ use native.Mathlib.Omega.{arith}
 use lib.ListN.{length, length-append}
 use Rattle.registers.specs.Machine.{Machine}
 use Rattle.transfers.specs.declared.Way.the-variants.{In}
-use Rattle.card.specs.Access.{Access}
+use Rattle.card.specs.Access.{Asked}
 use Rattle.card.specs.Step.{step}
 use Rattle.account.specs.Plain.{Plain, Account}
 use Rattle.account.specs.Rows.{Row, Reads, Writes, Verifies, Erases, Identifies, ReadsBuffer, WritesBuffer, SetsGeometry, Diagnoses, Recalibrates, Seeks, Senses, Others, rowOf}
@@ -29,7 +29,7 @@ due-agrees row p h c x =
     let g = plenty-length in
     sym (ap (λ (y : Account). length (y .moved)) (x .enough plenty)) ∙ due-any row p (d ++ plenty) c (omega arith)
 
-pub moves-due : (m : Machine) (a : Access) (v : ℕ) (l : List Access) → AcceptedCommand m a v → Moves (step m a .next) l → length (after m a v l .notes .done) ≡ due (rowOf v) (plainOf m)
+pub moves-due : (m : Machine) (a : Asked) (v : ℕ) (l : List Asked) → AcceptedCommand m a v → Moves (step m a .next) l → length (after m a v l .notes .done) ≡ due (rowOf v) (plainOf m)
 moves-due m a v l w x = due-agrees (rowOf v) (plainOf m) (after m a v l) (w .typed .count) (agreed m a v l w x)
 
 -- reading takes no data
@@ -53,6 +53,6 @@ reads-alone Others p d e = refl
 pub read-agrees : (row : Row) (p : Plain) (h : Hosted) → wayOf row ≡ In → Agrees (account row p) h → h .notes .done ≡ account row p [] .moved
 read-agrees row p h e x = sym (ap (λ (y : Account). y .moved) (x .account)) ∙ reads-alone row p (h .notes .done) e
 
-pub read-as-due : (m : Machine) (a : Access) (v : ℕ) (l : List Access) → AcceptedCommand m a v → wayOf (rowOf v) ≡ In → Moves (step m a .next) l →
+pub read-as-due : (m : Machine) (a : Asked) (v : ℕ) (l : List Asked) → AcceptedCommand m a v → wayOf (rowOf v) ≡ In → Moves (step m a .next) l →
     after m a v l .notes .done ≡ account (rowOf v) (plainOf m) [] .moved
 read-as-due m a v l w e x = read-agrees (rowOf v) (plainOf m) (after m a v l) e (agreed m a v l w x)

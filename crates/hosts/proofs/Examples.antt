@@ -12,9 +12,9 @@ use Rattle.geometry.specs.Limits.{fits, totalOf, currentFor}
 use Rattle.geometry.specs.Address.{byLba, locateLba, locateChs, locate}
 use Rattle.geometry.specs.Next.{nextChs, nextOf}
 use Rattle.maps.specs.Spaces.{cardAnswers, answersAt}
-use Rattle.maps.specs.Offsets.{memoryAt, within, windowAt, ioAt, offsetAt}
-use Rattle.maps.specs.Places.{misfits, byteAt, tupleAt, aboveThree, optionAt, attributeAt, evenData, portAt, namedAt, placeAt, registerAt}
-use Rattle.maps.specs.Maps.{standsAt}
+use Rattle.maps.specs.Offsets.{memoryAt, contiguousAt, within, windowAt, ioAt, offsetAt}
+use Rattle.maps.specs.Places.{registerPlace, attributePlace, mapPlace, placeAt}
+use Rattle.maps.specs.Rows.{misfits, aboveThree}
 use Rattle.sectors.specs.Marks.{readable, writable, marksFit}
 use Rattle.sectors.specs.Sectors.{sectorOf, withSector, bufferRead, stored}
 use Rattle.registers.specs.WellMade.{indexFits, sresetFits, atRest, statusFits, heldIn, holdFits, wordsFit, sectorsFit, loadFits, runFits, wellMade}
@@ -25,7 +25,7 @@ use Rattle.transfers.specs.Steps.{sectorDone, readSector, nextRead, askSector, 
 use Rattle.port.specs.Halves.{takeOf}
 use Rattle.port.specs.Data.{wordRead, dataRead, wordWritten, dataWritten}
 use Rattle.commands.specs.Table.{commandOf, countOf, commandGiven}
-use Rattle.card.specs.Access.{Access, heldAway, decided, verdictOf, meaning}
+use Rattle.card.specs.Access.{Asked, askedWith, heldAway, decided, verdictOf, meaning}
 use Rattle.card.specs.Perform.{optionWritten, plainCore, registerWritten, perform}
 use Rattle.card.specs.Step.{step, play}
 use Rattle.card.specs.Opening.{opened}
@@ -48,18 +48,18 @@ twoSectors = record { cylinders = 1; heads = 1; sectors = 2 }
 unfoldable pub card : Machine
 card = machineOf (opened twoSectors 0 (replicate 1024 0) (0 ∷ 2 ∷ []) (replicate 256 0xFF) .card) (replicate 1024 0) (0 ∷ 2 ∷ [])
 
-unfoldable pub writeAccess : ℕ → ℕ → ℕ → ℕ → Access
-writeAccess space width address value = record { space = space; width = width; write = true; address = address; value = value; tuples = replicate 256 0xFF }
+unfoldable pub writeAccess : ℕ → ℕ → ℕ → ℕ → Asked
+writeAccess space width address value = askedWith (record { space = space; width = width; write = true; address = address; value = value }) (replicate 256 0xFF)
 
-unfoldable pub times : ℕ → List Access → List Access
+unfoldable pub times : ℕ → List Asked → List Asked
 times zero l = []
 times (suc n) l = l ++ times n l
 
 -- E8H by memory at index 0; 128 words by bytes, the high one first, at 401H and 400H; index 1; 128 words by bytes, the high one first, at I/O 9 and 8
-unfoldable pub commandE8 : Access
+unfoldable pub commandE8 : Asked
 commandE8 = writeAccess 1 1 0x007 0xE8
 
-unfoldable pub two-maps : List Access
+unfoldable pub two-maps : List Asked
 two-maps =
     times 128 (writeAccess 1 1 0x401 0x22 ∷ writeAccess 1 1 0x400 0x11 ∷ [])
     ++ (writeAccess 0 1 0x200 0x01 ∷ times 128 (writeAccess 2 1 0x009 0x44 ∷ writeAccess 2 1 0x008 0x33 ∷ []))
@@ -76,7 +76,7 @@ computed :
     × (getD bufferAfter 1 0 ≡ 0x22)
     × (getD bufferAfter 510 0 ≡ 0x33)
     × (getD bufferAfter 511 0 ≡ 0x44)
-unfolding moves typed bytes twoSectors card writeAccess times commandE8 two-maps bufferAfter play step meaning verdictOf decided heldAway answersAt cardAnswers standsAt attributeAt optionAt aboveThree tupleAt byteAt misfits registerAt placeAt portAt namedAt evenData offsetAt memoryAt ioAt windowAt within wellMade runFits loadFits sectorsFit wordsFit holdFits heldIn statusFits atRest sresetFits indexFits every fits totalOf currentFor locate locateChs locateLba byLba nextOf nextChs perform optionWritten registerWritten plainCore valueRead afterRead registerSet turnOf optionTurned bufferTurned controlTurned dataRead dataWritten wordRead wordWritten takeOf readSector nextRead askSector nextAsked sectorDone sectorTest addressTest sectorStored stored withSector sectorOf bufferRead readable writable marksFit countOf commandOf commandGiven opened zeros
+unfolding moves typed bytes twoSectors card writeAccess times commandE8 two-maps bufferAfter play step meaning verdictOf decided heldAway answersAt cardAnswers placeAt mapPlace attributePlace registerPlace misfits aboveThree offsetAt memoryAt ioAt contiguousAt windowAt within wellMade runFits loadFits sectorsFit wordsFit holdFits heldIn statusFits atRest sresetFits indexFits every fits totalOf currentFor locate locateChs locateLba byLba nextOf nextChs perform optionWritten registerWritten plainCore valueRead afterRead registerSet turnOf optionTurned bufferTurned controlTurned dataRead dataWritten wordRead wordWritten takeOf readSector nextRead askSector nextAsked sectorDone sectorTest addressTest sectorStored stored withSector sectorOf bufferRead readable writable marksFit countOf commandOf commandGiven opened zeros
 computed = (refl, refl, refl, refl, refl, refl, refl, refl)
 
 pub two-maps-agree : Agrees (account (rowOf 0xE8) (plainOf card)) (hosted (wayOf (rowOf 0xE8)) (step card commandE8 .next) noNotes two-maps)
@@ -86,10 +86,10 @@ two-maps-agree = as-the-account card commandE8 0xE8 two-maps (computed .0) (comp
 unfoldable pub cardAtLba0 : Machine
 cardAtLba0 = play card (writeAccess 1 1 0x002 0x02 ∷ writeAccess 1 1 0x003 0x00 ∷ writeAccess 1 1 0x006 0x40 ∷ []) .last
 
-unfoldable pub command30 : Access
+unfoldable pub command30 : Asked
 command30 = writeAccess 1 1 0x007 0x30
 
-unfoldable pub allWords : List Access
+unfoldable pub allWords : List Asked
 allWords = times 512 (writeAccess 1 2 0x000 0x4433 ∷ [])
 
 unfoldable cardAfter : Machine
@@ -104,7 +104,7 @@ faulted :
     × (cardAfter .state .registers .count ≡ 1)
     × (getD (cardAfter .store) 511 0 ≡ 0x44)
     × (getD (cardAfter .store) 512 0 ≡ 0)
-unfolding moves typed bytes twoSectors card writeAccess play times cardAtLba0 command30 allWords cardAfter step meaning verdictOf decided heldAway answersAt cardAnswers standsAt attributeAt optionAt aboveThree tupleAt byteAt misfits registerAt placeAt portAt namedAt evenData offsetAt memoryAt ioAt windowAt within wellMade runFits loadFits sectorsFit wordsFit holdFits heldIn statusFits atRest sresetFits indexFits every fits totalOf currentFor locate locateChs locateLba byLba nextOf nextChs perform optionWritten registerWritten plainCore valueRead afterRead registerSet turnOf optionTurned bufferTurned controlTurned dataRead dataWritten wordRead wordWritten takeOf readSector nextRead askSector nextAsked sectorDone sectorTest addressTest sectorStored stored withSector sectorOf bufferRead readable writable marksFit countOf commandOf commandGiven opened zeros
+unfolding moves typed bytes twoSectors card writeAccess play times cardAtLba0 command30 allWords cardAfter step meaning verdictOf decided heldAway answersAt cardAnswers placeAt mapPlace attributePlace registerPlace misfits aboveThree offsetAt memoryAt ioAt contiguousAt windowAt within wellMade runFits loadFits sectorsFit wordsFit holdFits heldIn statusFits atRest sresetFits indexFits every fits totalOf currentFor locate locateChs locateLba byLba nextOf nextChs perform optionWritten registerWritten plainCore valueRead afterRead registerSet turnOf optionTurned bufferTurned controlTurned dataRead dataWritten wordRead wordWritten takeOf readSector nextRead askSector nextAsked sectorDone sectorTest addressTest sectorStored stored withSector sectorOf bufferRead readable writable marksFit countOf commandOf commandGiven opened zeros
 faulted = (refl, refl, refl, refl, refl, refl, refl, refl)
 
 pub fault-agrees : Agrees (account (rowOf 0x30) (plainOf cardAtLba0)) (hosted (wayOf (rowOf 0x30)) (step cardAtLba0 command30 .next) noNotes allWords)

@@ -12,7 +12,7 @@ use borrow.Author.Tests.{ltb-true, ltb-false}
 use Rattle.geometry.specs.Limits.{totalOf}
 use Rattle.registers.specs.Machine.{Machine}
 use Rattle.card.specs.declared.Meaning.{Meaning}
-use Rattle.card.specs.Access.{Access}
+use Rattle.card.specs.Access.{Asked}
 use Rattle.card.specs.Step.{step}
 use Rattle.account.specs.Plain.{Plain, WriteFault}
 use Rattle.account.specs.Place.{At}
@@ -114,7 +114,7 @@ means-first-ones-stored m v l i n e f g =
     (sym (means-at-every-moment m v l n g ∙ ap (λ (z : Row). soFar z (plainOf m) d) e ∙ soFar-at (plainOf m) i d f))
     (stored-first i k (totalOf (m .state .made .default)) (plainOf m) d (omega arith) (omega arith) (o .1))
 
-pub first-ones-stored : (m : Machine) (a : Access) (v : ℕ) (l : List Access) (i : ℕ) → AcceptedCommand m a v → rowOf v ≡ Writes → first (plainOf m) ≡ At i →
+pub first-ones-stored : (m : Machine) (a : Asked) (v : ℕ) (l : List Asked) (i : ℕ) → AcceptedCommand m a v → rowOf v ≡ Writes → first (plainOf m) ≡ At i →
     Calm (step m a .next) l →
     let h = after m a v l in
     FirstStored i (storedOf i (plainOf m) (h .notes .done)) (plainOf m) (h .notes .done) (storeMarksIn (h .machine))

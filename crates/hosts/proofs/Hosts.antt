@@ -18,7 +18,7 @@ use Rattle.transfers.specs.declared.Way.{Way}
 use Rattle.transfers.specs.declared.Way.the-variants.{In, Out}
 use Rattle.card.specs.declared.Meaning.{Meaning}
 use Rattle.card.specs.declared.Meaning.the-variants.{TupleByte, ReadOption, WriteOption, ReadRegister, WriteRegister, ReadData, WriteData}
-use Rattle.card.specs.Access.{Access, meaning}
+use Rattle.card.specs.Access.{Asked, meaning}
 use Rattle.card.specs.Perform.{perform}
 use Rattle.card.specs.Step.{step}
 use Rattle.account.specs.Rows.{rowOf}
@@ -90,7 +90,7 @@ next-small In b h n w port e = tt
 next-small Out b h n w port e = next-most b h n w port e
 
 -- whatever parts it would like, and whatever it does aside that is allowed and moves no data: every turn sends its own
-pub liked-sends : (way : Way) (b : ℕ → ℕ) (besides : Hosted → List Access) → ((i : ℕ) → b i < 256) →
+pub liked-sends : (way : Way) (b : ℕ → ℕ) (besides : Hosted → List Asked) → ((i : ℕ) → b i < 256) →
     ((h : Hosted) → asks (h .machine) ≡ true → Going meaning way h (besides h) × (onward meaning way h (besides h) .notes ≡ h .notes)) →
     (likes : List Port) (h : Hosted) → Willing meaning way (Sends b way) h (likedTurns way b besides h likes)
 unfolding likedTurns
@@ -118,7 +118,7 @@ still-notes Out (ReadData port) o q e = refl
 still-notes Out (WriteData port v) o q e = absurd (false≢true e)
 
 -- a status read, a refused access, a change of map, data the other way
-pub one-aside : (way : Way) (b : ℕ → ℕ) (x : Hosted → Access) → ((i : ℕ) → b i < 256) →
+pub one-aside : (way : Way) (b : ℕ → ℕ) (x : Hosted → Asked) → ((i : ℕ) → b i < 256) →
     ((h : Hosted) → asks (h .machine) ≡ true → (calm (meaning (h .machine) (x h)) ≡ true) × (still way (meaning (h .machine) (x h)) ≡ true)) →
     (likes : List Port) (h : Hosted) → Willing meaning way (Sends b way) h (likedTurns way b (λ k. x k ∷ []) h likes)
 unfolding hostedBy
@@ -126,13 +126,13 @@ one-aside way b x small f =
     liked-sends way b (λ k. x k ∷ []) small
     (λ h e. ((e, f h e .0, tt), still-notes way (meaning (h .machine) (x h)) (perform (meaning (h .machine) (x h)) (h .machine) .outcome) (h .notes) (f h e .1)))
 
-liked-length : (way : Way) (b : ℕ → ℕ) (besides : Hosted → List Access) (h : Hosted) (likes : List Port) → length (likedTurns way b besides h likes) ≡ length likes
+liked-length : (way : Way) (b : ℕ → ℕ) (besides : Hosted → List Asked) (h : Hosted) (likes : List Port) → length (likedTurns way b besides h likes) ≡ length likes
 unfolding likedTurns
 liked-length way b besides h [] = refl
 liked-length way b besides h (like ∷ l) = ap suc (liked-length way b besides _ l)
 
 -- So after every command there is a host that comes to its end: of words only, say.
-pub not-empty : (m : Machine) (a : Access) (v : ℕ) → AcceptedCommand m a v → (l : List Access) × Moves (step m a .next) l
+pub not-empty : (m : Machine) (a : Asked) (v : ℕ) → AcceptedCommand m a v → (l : List Asked) × Moves (step m a .next) l
 unfolding hostedBy
 not-empty m a v w =
     let way = wayOf (rowOf v) in

@@ -10,17 +10,17 @@ use borrow.Author.Tests.{not-true, ltb-true, eqb-true}
 use Rattle.ground.specs.Choice.{every}
 use Rattle.ground.proofs.Every.{each, and-left, and-right}
 use Rattle.registers.specs.Machine.{Machine}
-use Rattle.card.specs.Access.{Access, meaning}
+use Rattle.card.specs.Access.{Asked, meaning}
 use Rattle.card.specs.Perform.{perform}
 use Rattle.account.specs.Host.{calm, asks, Moves}
 use Rattle.account.specs.Claim.{AllBytes, Typed}
 
 -- the host's conduct as a test
-unfoldable pub moves : Machine → List Access → Bool
+unfoldable pub moves : Machine → List Asked → Bool
 moves m [] = not (asks m)
 moves m (a ∷ l) = let rest = moves (perform (meaning m a) m .next) l in asks m && (calm (meaning m a) && rest)
 
-pub moves-true : (l : List Access) (m : Machine) → moves m l ≡ true → Moves m l
+pub moves-true : (l : List Asked) (m : Machine) → moves m l ≡ true → Moves m l
 unfolding moves
 moves-true [] m e = not-true _ e
 moves-true (a ∷ l) m e =

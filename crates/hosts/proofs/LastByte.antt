@@ -9,7 +9,7 @@ use lib.Seq.{length-take-le, take-append-le, drop-append-seam}
 use Rattle.registers.specs.Machine.{Machine}
 use Rattle.transfers.specs.declared.Way.{Way}
 use Rattle.card.specs.declared.Meaning.{Meaning}
-use Rattle.card.specs.Access.{Access, meaning}
+use Rattle.card.specs.Access.{Asked, meaning}
 use Rattle.card.specs.Perform.{perform}
 use Rattle.card.specs.Step.{step}
 use Rattle.account.specs.Plain.{Plain}
@@ -100,7 +100,7 @@ means-only-at-a-last-byte m v l k b c e =
     ∙ sym (means-at-every-moment m v l b (calm-front l k (commanded v m) c))
 
 -- The same of accesses.
-pub only-at-a-last-byte : (m : Machine) (a : Access) (v : ℕ) (l k : List Access) → AcceptedCommand m a v → Calm (step m a .next) (l ++ k) →
+pub only-at-a-last-byte : (m : Machine) (a : Asked) (v : ℕ) (l k : List Asked) → AcceptedCommand m a v → Calm (step m a .next) (l ++ k) →
     wholeOf (after m a v (l ++ k) .notes .done) ≡ wholeOf (after m a v l .notes .done) → storeMarksIn (after m a v (l ++ k) .machine) ≡ storeMarksIn (after m a v l .machine)
 only-at-a-last-byte m a v l k w =
     let way = wayOf (rowOf v) in

@@ -11,7 +11,7 @@ use Rattle.maps.specs.declared.Port.{Port}
 use Rattle.registers.specs.Machine.{Machine}
 use Rattle.transfers.specs.declared.Way.{Way}
 use Rattle.card.specs.declared.Meaning.{Meaning}
-use Rattle.card.specs.Access.{Access, meaning}
+use Rattle.card.specs.Access.{Asked, meaning}
 use Rattle.card.specs.Perform.{perform}
 use Rattle.card.specs.Step.{step}
 use Rattle.kept.specs.Sound.{Sound}
@@ -77,7 +77,7 @@ choice-taken plain way h c s z k f =
     subst (λ (x : Meaning). Taken way h (c .port) (c .value) x) (sym (choice-means way h c s (z .ground .4) f)) (taken plain way (c .port) (c .value) h z k (f .half) (f .value))
 
 -- a fitting choice of an access is one by its meaning
-pub fitting-chosen : (row : Row) (p : Plain) (way : Way) (h : Hosted) (a : Access) (c : Choice) → Stands row p way h → a ≡ accessOf way c → Fitting way h c →
+pub fitting-chosen : (row : Row) (p : Plain) (way : Way) (h : Hosted) (a : Asked) (c : Choice) → Stands row p way h → a ≡ accessOf way c → Fitting way h c →
     (x : Chosen way h (meaning (h .machine) a)) × (x .port ≡ c .port) × (x .value ≡ c .value)
 fitting-chosen row p way h a c s e f = (
   record {
@@ -91,37 +91,37 @@ fitting-chosen row p way h a c s e f = (
   refl,
 )
 
-ready-chooses : (row : Row) (p : Plain) (way : Way) (h : Hosted) (t : Turn Access) → Stands row p way h → Ready way h t →
+ready-chooses : (row : Row) (p : Plain) (way : Way) (h : Hosted) (t : Turn Asked) → Stands row p way h → Ready way h t →
     let k = onward meaning way h (t .aside) in Going meaning way h (t .aside) × (asks (k .machine) ≡ true → Chosen way k (meaning (k .machine) (t .choice)))
 ready-chooses row p way h t s r =
     let k = onward meaning way h (t .aside) in
     (r .0, λ e. let f = r .1 e in fitting-chosen row p way k (t .choice) (f .0) (reached row p way h (t .aside) s (r .0)) (f .1) (f .2) .0)
 
 -- after a Command write
-pub starts : (m : Machine) (a : Access) (v : ℕ) → AcceptedCommand m a v → Stands (rowOf v) (plainOf m) (wayOf (rowOf v)) (after m a v [])
+pub starts : (m : Machine) (a : Asked) (v : ℕ) → AcceptedCommand m a v → Stands (rowOf v) (plainOf m) (wayOf (rowOf v)) (after m a v [])
 unfolding hostedBy
 starts m a v w =
     let k = able m a v w in
     (sound-kept m a (k .sound), by-meaning (λ x. Rel (wayOf (rowOf v)) (account (rowOf v) (plainOf m)) x noNotes) m a v (w .accepted) (begun m v k))
 
-stands : (m : Machine) (a : Access) (v : ℕ) (l : List Access) → AcceptedCommand m a v → Goes (step m a .next) l → Stands (rowOf v) (plainOf m) (wayOf (rowOf v)) (after m a v l)
+stands : (m : Machine) (a : Asked) (v : ℕ) (l : List Asked) → AcceptedCommand m a v → Goes (step m a .next) l → Stands (rowOf v) (plainOf m) (wayOf (rowOf v)) (after m a v l)
 unfolding hostedBy
 stands m a v l w g = reached (rowOf v) (plainOf m) (wayOf (rowOf v)) (after m a v []) l (starts m a v w) g
 
 -- After a Command write that a card in neither reset accepts, and any accesses that are no command and no reset: where the card asks, it takes every fitting choice.
-pub every-choice : (m : Machine) (a : Access) (v : ℕ) (l : List Access) (c : Choice) → AcceptedCommand m a v → Goes (step m a .next) l →
+pub every-choice : (m : Machine) (a : Asked) (v : ℕ) (l : List Asked) (c : Choice) → AcceptedCommand m a v → Goes (step m a .next) l →
     asks (after m a v l .machine) ≡ true → Fitting (wayOf (rowOf v)) (after m a v l) c → TakenChoice (wayOf (rowOf v)) (after m a v l) c
 every-choice m a v l c w g k f = let s = stands m a v l w g in choice-taken (account (rowOf v) (plainOf m)) (wayOf (rowOf v)) (after m a v l) c (s .0) (s .1) k f
 
 -- And it asks exactly as long as the host has noted less than the account moves.
-pub asks-while-due : (m : Machine) (a : Access) (v : ℕ) (l : List Access) → AcceptedCommand m a v → Goes (step m a .next) l →
+pub asks-while-due : (m : Machine) (a : Asked) (v : ℕ) (l : List Asked) → AcceptedCommand m a v → Goes (step m a .next) l →
     asks (after m a v l .machine) ≡ ltb (noted (after m a v l .notes)) (due (rowOf v) (plainOf m))
 asks-while-due m a v l w =
     by-meaning (λ x. Goes x l → let h = hosted (wayOf (rowOf v)) x noNotes l in asks (h .machine) ≡ ltb (noted (h .notes)) (due (rowOf v) (plainOf m))) m a v (w .accepted)
     (means-asks-while-due m v (meanings (commanded v m) l) (able m a v w))
 
 -- What it has noted is the beginning of the account's data, whatever more it will have.
-pub noted-so-far : (m : Machine) (a : Access) (v : ℕ) (l : List Access) (more : List ℕ) → AcceptedCommand m a v → Goes (step m a .next) l →
+pub noted-so-far : (m : Machine) (a : Asked) (v : ℕ) (l : List Asked) (more : List ℕ) → AcceptedCommand m a v → Goes (step m a .next) l →
     let done = after m a v l .notes .done in
     take (length done) (account (rowOf v) (plainOf m) (done ++ more) .moved) ≡ done
 noted-so-far m a v l more w =
@@ -130,7 +130,7 @@ noted-so-far m a v l more w =
     (λ g. means-noted-so-far m v (meanings (commanded v m) l) (able m a v w) g more)
 
 -- So every host that keeps choosing comes to the end, if it has as many turns as there are bytes.
-pub every-host-ends : (m : Machine) (a : Access) (v : ℕ) (l : List (Turn Access)) → AcceptedCommand m a v → let way = wayOf (rowOf v) in
+pub every-host-ends : (m : Machine) (a : Asked) (v : ℕ) (l : List (Turn Asked)) → AcceptedCommand m a v → let way = wayOf (rowOf v) in
     due (rowOf v) (plainOf m) ≤ length l → Willing meaning way (Ready way) (after m a v []) l → Moves (step m a .next) (turns meaning way (after m a v []) l)
 unfolding hostedBy
 every-host-ends m a v l w d x =

@@ -6,7 +6,7 @@ use mathlib.Core.List.{List, [], _∷_, _++_, append-nil, append-assoc}
 use Rattle.registers.specs.Machine.{Machine}
 use Rattle.commands.specs.Table.{commandOf, dropped, commandGiven}
 use Rattle.card.specs.declared.Meaning.{Meaning}
-use Rattle.card.specs.Access.{Access}
+use Rattle.card.specs.Access.{Asked}
 use Rattle.card.specs.Perform.{perform}
 use Rattle.card.specs.Step.{step}
 use Rattle.account.specs.Plain.{Plain, starts}
@@ -60,7 +60,7 @@ means-at-every-moment m v l k =
     (subst (λ (r : Row). Lies (targetOf r (plainOf m)) (starts (plainOf m)) (commandGiven v m) []) (sym (same-row v)) (begins-lies (commandOf v) (dropped m) (given m k))))
 
 -- The same of a Command write that is accepted, and accesses.
-pub at-every-moment : (m : Machine) (a : Access) (v : ℕ) (l : List Access) → AcceptedCommand m a v → Calm (step m a .next) l →
+pub at-every-moment : (m : Machine) (a : Asked) (v : ℕ) (l : List Asked) → AcceptedCommand m a v → Calm (step m a .next) l →
     storeMarksIn (after m a v l .machine) ≡ soFar (rowOf v) (plainOf m) (after m a v l .notes .done)
 at-every-moment m a v l w =
     by-meaning (λ x. Calm x l → let h = hosted (wayOf (rowOf v)) x noNotes l in storeMarksIn (h .machine) ≡ soFar (rowOf v) (plainOf m) (h .notes .done)) m a v (w .accepted)

@@ -1,34 +1,36 @@
 -- A choice at a data place of the map that is set means data.
 use Prim.Native.Nat.{ℕ, zero, suc, _+_, _%_, _≤_}
-use mathlib.Core.Bool.{Bool, true, false, _&&_, false≢true}
+use mathlib.Core.Bool.{Bool, true, false, _&&_, _||_, false≢true}
 use mathlib.Core.Path.{_≡_, refl, sym, ap, _∙_, subst}
 use native.Mathlib.Omega.{arith}
-use lib.Dec.{eqb, leb, ltb}
+use lib.Dec.{eqb, leb}
 use borrow.Author.Tests.{leb-true, eqb-true, le-ltb}
 use Rattle.ground.specs.Choice.{pick}
+use Rattle.ground.specs.Rows.{firstOf}
 use Rattle.ground.proofs.Every.{each, and-left, and-right}
 use Rattle.maps.specs.declared.Mode.{Mode}
 use Rattle.maps.specs.declared.Mode.the-variants.{PcCard, TrueIde}
 use Rattle.maps.specs.declared.Port.{Port}
-use Rattle.maps.specs.declared.Offset.{Offset}
-use Rattle.maps.specs.declared.Standing.{Standing}
+use Rattle.maps.specs.declared.Place.{Place}
+use Rattle.maps.specs.declared.Place.the-variants.{Bytes, EvenData}
 use Rattle.maps.specs.declared.Target.the-variants.{Data}
 use Rattle.maps.specs.Spaces.{cardAnswers, answersAt}
-use Rattle.maps.specs.Offsets.{memoryAt, within, windowAt, ioAt, offsetAt}
-use Rattle.maps.specs.Places.{misfits, evenData, byteAt, portAt, namedAt, placeAt, registerAt}
-use Rattle.maps.specs.Maps.{standsAt}
+use Rattle.maps.specs.Offsets.{Offset, memoryAt, contiguousAt, within, windowAt, ioAt, offsetAt}
+use Rattle.maps.specs.Places.{registerPlace, mapPlace, placeAt}
+use Rattle.maps.specs.Rows.{misfits, placeTable, moved}
 use Rattle.registers.specs.declared.State.{State}
 use Rattle.registers.specs.State.{sresetIn, indexIn}
 use Rattle.registers.specs.Machine.{Machine}
 use Rattle.registers.specs.WellMade.{indexFits, wellMade}
 use Rattle.transfers.specs.declared.Way.{Way}
 use Rattle.transfers.specs.declared.Way.the-variants.{In, Out}
-use Rattle.card.specs.Access.{heldAway, decided, meaning}
+use Rattle.card.specs.declared.Meaning.{Meaning}
+use Rattle.card.specs.Access.{Asked, standing, heldAway, decided, meaning}
 use Rattle.kept.specs.Sound.{Sound}
 use Rattle.kept.proofs.Decided.{meaning-decided}
 use Rattle.account.specs.Host.{Hosted}
-use Rattle.hosts.specs.Live.{width, most, Small, dataMeaning}
-use Rattle.hosts.specs.Choices.{offsets, dataAt, Choice, accessOf, Fitting}
+use Rattle.hosts.specs.Live.{width, Small, dataMeaning}
+use Rattle.hosts.specs.Choices.{offsets, dataAt, writes, Choice, accessOf, Fitting}
 
 -- what the test of a place tells: the space answers, and the address has such an offset
 pub record Found (is : ℕ → Bool) (mode : Mode) (index space address : ℕ) : Type 0 where
@@ -46,7 +48,7 @@ module _ (is : ℕ → Bool) where
   by-memory false false address p q e = absurd (false≢true e)
 
   by-io : (address : ℕ) → (leb address 0x7FF && is (address % 16)) ≡ true → Found is PcCard 1 2 address
-  unfolding answersAt cardAnswers offsetAt ioAt
+  unfolding answersAt cardAnswers offsetAt ioAt contiguousAt
   by-io address e =
       let p : leb address 0x7FF ≡ true = and-left (leb address 0x7FF) (is (address % 16)) e in
       record { answers = refl; apart = refl; offset = address % 16; stands = rw p; good = and-right (leb address 0x7FF) (is (address % 16)) e }
@@ -72,24 +74,39 @@ module _ (is : ℕ → Bool) where
   found PcCard (suc (suc (suc zero))) space address h e = in-space PcCard 3 space 2 address _ e (by-window PcCard 3 2 0x170 address refl refl refl)
   found PcCard (suc (suc (suc (suc n)))) space address h e = absurd (omega arith)
 
--- at such an offset stands the port, for a byte that is read or one of at most 255
-port-stands : (port : Port) (o : ℕ) (write : Bool) (v : ℕ) → offsets port o ≡ true → (width port ≡ 1 → (write && ltb 0xFF v) ≡ false) →
-    placeAt o (width port) write v ≡ Standing.There (Data port)
-unfolding placeAt evenData portAt misfits namedAt byteAt
-port-stands Port.Even o write v e h = rw (e, h refl)
-port-stands Port.Odd o write v e h = let z : o ≡ 9 = eqb-true o 9 e in rw (z, h refl)
-port-stands Port.Word o write v e h = rw e
+-- at such an offset stands the port
+abbrev placeOf : Port → Place
+placeOf Port.Even = EvenData
+placeOf Port.Odd = Bytes (Data Port.Odd)
+placeOf Port.Word = EvenData
 
-byte-fits : (port : Port) (v : ℕ) → v ≤ most port → width port ≡ 1 → (true && ltb 0xFF v) ≡ false
-byte-fits Port.Even v h e = le-ltb 0xFF v h
-byte-fits Port.Odd v h e = le-ltb 0xFF v h
-byte-fits Port.Word v h e = absurd (omega arith)
+either : (b c : Bool) (x y : Place) → (b || c) ≡ true → pick b x (pick c x y) ≡ x
+either true c x y e = refl
+either false true x y e = refl
+either false false x y e = absurd (false≢true e)
+
+port-stands : (port : Port) (o : ℕ) → offsets port o ≡ true → registerPlace o ≡ placeOf port
+unfolding registerPlace
+port-stands Port.Even o e = either (eqb o 0) (eqb o 8) EvenData _ e
+port-stands Port.Odd o e = ap registerPlace (eqb-true o 9 e)
+port-stands Port.Word o e = either (eqb o 0) (eqb o 8) EvenData _ e
+
+-- and no row applies there to a byte that is read or one of at most 255
+port-means : (way : Way) (port : Port) (a : Asked) → a .access .width ≡ width port → a .access .write ≡ writes way → Small way port (a .access .value) →
+    firstOf (placeTable (placeOf port) (a .access)) Meaning.Refused (standing (moved (placeOf port) (a .access .width)) a) ≡ dataMeaning way port (a .access .value)
+unfolding misfits
+port-means In Port.Even a x y h = rw (x, y)
+port-means In Port.Odd a x y h = rw (x, y)
+port-means In Port.Word a x y h = rw (x, y)
+port-means Out Port.Even a x y h = rw (x, y, le-ltb 0xFF (a .access .value) h)
+port-means Out Port.Odd a x y h = rw (x, y, le-ltb 0xFF (a .access .value) h)
+port-means Out Port.Word a x y h = rw (x, y)
 
 decided-data : (s : State) (way : Way) (c : Choice) → sresetIn (s .option) ≡ false → Found (offsets (c .port)) (s .made .mode) (indexIn (s .option)) (c .space) (c .address) →
     Small way (c .port) (c .value) → decided s (accessOf way c) ≡ dataMeaning way (c .port) (c .value)
-unfolding decided heldAway standsAt registerAt
-decided-data s In c h f v = rw (h, f .answers, f .apart, f .stands, port-stands (c .port) (f .offset) false (c .value) (f .good) (λ e. refl))
-decided-data s Out c h f v = rw (h, f .answers, f .apart, f .stands, port-stands (c .port) (f .offset) true (c .value) (f .good) (byte-fits (c .port) (c .value) v))
+unfolding decided heldAway placeAt mapPlace
+decided-data s way c h f v =
+    rw (h, f .answers, f .apart, f .stands, port-stands (c .port) (f .offset) (f .good)) (port-means way (c .port) (accessOf way c) refl refl v)
 
 index-small : (m : Machine) → wellMade (m .phase) (m .state) ≡ true → indexIn (m .state .option) ≤ 3
 unfolding wellMade indexFits

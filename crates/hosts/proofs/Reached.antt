@@ -12,7 +12,7 @@ use Rattle.transfers.specs.declared.Way.{Way}
 use Rattle.transfers.specs.declared.Way.the-variants.{In, Out}
 use Rattle.card.specs.declared.Meaning.{Meaning}
 use Rattle.card.specs.declared.Meaning.the-variants.{TupleByte, ReadOption, WriteOption, ReadRegister, WriteRegister, ReadData, WriteData}
-use Rattle.card.specs.Access.{Access, meaning}
+use Rattle.card.specs.Access.{Asked, meaning}
 use Rattle.card.specs.Perform.{perform}
 use Rattle.kept.specs.Sound.{Sound}
 use Rattle.kept.proofs.Step.{sound-played}
@@ -113,7 +113,7 @@ module _ {A : Type 0} (means : Machine → A → Meaning) (way : Way) where
 abbrev pub Stands : Row → Plain → Way → Hosted → Type 0
 Stands row p way h = Sound (h .machine) × Rel way (account row p) (h .machine) (h .notes)
 
-pub reached : (row : Row) (p : Plain) (way : Way) (h : Hosted) (l : List Access) → Stands row p way h → Going meaning way h l → Stands row p way (onward meaning way h l)
+pub reached : (row : Row) (p : Plain) (way : Way) (h : Hosted) (l : List Asked) → Stands row p way h → Going meaning way h l → Stands row p way (onward meaning way h l)
 reached row p way h l s g = (
   subst Sound (sym (hosted-plays way (h .machine) (h .notes) l)) (sound-played l (h .machine) (s .0)),
   goes-on (account row p) way (meanings (h .machine) l) (h .machine) (h .notes) (s .1) g,

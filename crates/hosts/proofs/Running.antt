@@ -8,12 +8,13 @@ use lib.ListN.{length}
 use lib.Dec.{ltb}
 use Rattle.answers.specs.declared.Outcome.{Outcome}
 use Rattle.registers.specs.Machine.{Machine}
+use Rattle.port.specs.Data.{Effect}
 use Rattle.card.specs.declared.Card.{Card}
 use Rattle.card.specs.declared.Answer.{Answer}
 use Rattle.card.specs.declared.Meaning.{Meaning}
-use Rattle.card.specs.Access.{Access, meaning}
+use Rattle.card.specs.Access.{Asked, meaning}
 use Rattle.card.specs.Perform.{perform}
-use Rattle.card.specs.Step.{Stepped, step}
+use Rattle.card.specs.Step.{step}
 use Rattle.card.specs.Doors.{machineOf}
 use Rattle.kept.specs.Sound.{Sound}
 use Rattle.kept.proofs.Step.{sound-kept}
@@ -39,7 +40,7 @@ use Rattle.hosts.proofs.Moment.{means-at-every-moment}
 use Rattle.hosts.proofs.Calls.{called-is, sound-called}
 
 -- A card in neither reset, a call that writes a command, and calls after it; d, store′ and marks′ are what the last one left, q what the host has noted of the answers.
-module _ (c : Card) (store marks : List ℕ) (a : Access) (v : ℕ) (l : List Call) (d : Card) (store′ marks′ : List ℕ) (q : Notes) (w : AcceptedCommand (machineOf c store marks) a v)
+module _ (c : Card) (store marks : List ℕ) (a : Asked) (v : ℕ) (l : List Call) (d : Card) (store′ marks′ : List ℕ) (q : Notes) (w : AcceptedCommand (machineOf c store marks) a v)
     (z : Called (wayOf (rowOf v)) c store marks noNotes (Own a ∷ l) (record { machine = machineOf d store′ marks′; notes = q })) where
   -- the machine before, what the calls mean after the command, and the host there
   abbrev before : Machine
@@ -81,7 +82,7 @@ module _ (c : Card) (store marks : List ℕ) (a : Access) (v : ℕ) (l : List Ca
       let s = subst (λ (h : Hosted). Sound (h .machine)) there (sound-called l way (commanded v before) noNotes b) in
       let y = goes-on (account (rowOf v) (plainOf before)) way meant (commanded v before) noNotes (begun before v k) g in
       let t = choice-taken (account (rowOf v) (plainOf before)) way now x s (subst (λ (h : Hosted). Rel way (account (rowOf v) (plainOf before)) (h .machine) (h .notes)) there y) e f in
-      let o : r .outcome ≡ step (now .machine) (accessOf way x) .outcome = ap (λ (u : Stepped). u .outcome) p in
+      let o : r .outcome ≡ step (now .machine) (accessOf way x) .outcome = ap (λ (u : Effect). u .outcome) p in
       (t .answer, o ∙ t .accepted, ap (λ (u : Outcome). note way (meaning (now .machine) (accessOf way x)) u q) o ∙ t .part)
 
   -- and the caller's own arrays hold the sectors whose last byte has moved, and no other.
@@ -90,7 +91,7 @@ module _ (c : Card) (store marks : List ℕ) (a : Access) (v : ℕ) (l : List Ca
       subst (λ (h : Hosted). storeMarksIn (h .machine) ≡ soFar (rowOf v) (plainOf before) (h .notes .done)) there (means-at-every-moment before v meant (able before a v w) g)
 
 -- So every host of calls that keeps choosing, with calls between that lend the wrong store or marks too, comes to the end.
-pub code-every-host-ends : (m : Machine) (a : Access) (v : ℕ) (l : List (Turn Call)) → AcceptedCommand m a v → let way = wayOf (rowOf v) in
+pub code-every-host-ends : (m : Machine) (a : Asked) (v : ℕ) (l : List (Turn Call)) → AcceptedCommand m a v → let way = wayOf (rowOf v) in
     due (rowOf v) (plainOf m) ≤ length l → Willing callMeaning way (ReadyCall way) (after m a v []) l → MovesBy (step m a .next) (callMeanings (step m a .next) (turns callMeaning way (after m a v []) l))
 unfolding hostedBy
 code-every-host-ends m a v l w d x =

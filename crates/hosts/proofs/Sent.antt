@@ -8,7 +8,7 @@ use Rattle.registers.specs.Machine.{Machine}
 use Rattle.transfers.specs.declared.Way.{Way}
 use Rattle.transfers.specs.declared.Way.the-variants.{Out}
 use Rattle.card.specs.declared.Meaning.{Meaning}
-use Rattle.card.specs.Access.{Access, meaning}
+use Rattle.card.specs.Access.{Asked, meaning}
 use Rattle.account.specs.Plain.{Account}
 use Rattle.account.specs.Rows.{rowOf}
 use Rattle.account.specs.Table.{account}
@@ -56,11 +56,11 @@ means-written-as-sent m v b l k o small d w =
     (subst (λ (y : List Meaning). InOrder b (afterBy m v y .notes)) (itself-same (turns itself way h l) (commanded v m)) f)
 
 -- over accesses
-pub sends-ready-too : (b : ℕ → ℕ) (way : Way) (l : List (Turn Access)) (h : Hosted) → Willing meaning way (Sends b way) h l → Willing meaning way (Ready way) h l
+pub sends-ready-too : (b : ℕ → ℕ) (way : Way) (l : List (Turn Asked)) (h : Hosted) → Willing meaning way (Sends b way) h l → Willing meaning way (Ready way) h l
 sends-ready-too b way [] h w = tt
 sends-ready-too b way (t ∷ l) h w = λ e. let r = w e in ((r .0 .0, λ k. let c = r .0 .2 k in (c .0, c .1, c .2)), sends-ready-too b way l (onward meaning way h (turn meaning way h t)) (r .1))
 
-pub written-as-sent : (m : Machine) (a : Access) (v : ℕ) (b : ℕ → ℕ) (l : List (Turn Access)) → AcceptedCommand m a v → let way = wayOf (rowOf v) in way ≡ Out → ((i : ℕ) → b i < 256) →
+pub written-as-sent : (m : Machine) (a : Asked) (v : ℕ) (b : ℕ → ℕ) (l : List (Turn Asked)) → AcceptedCommand m a v → let way = wayOf (rowOf v) in way ≡ Out → ((i : ℕ) → b i < 256) →
     due (rowOf v) (plainOf m) ≤ length l → Willing meaning way (Sends b way) (after m a v []) l → AsSent m v b (after m a v (turns meaning way (after m a v []) l))
 unfolding hostedBy
 written-as-sent m a v b l w o small d z =

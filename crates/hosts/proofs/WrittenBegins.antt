@@ -1,6 +1,5 @@
 -- A command begins: what it has stored is nothing.
 use Prim.Native.Nat.{ℕ, suc, _<_}
-use mathlib.Core.Bool.{true}
 use mathlib.Core.Path.{_≡_, refl, ap, _∙_}
 use mathlib.Core.List.{List, []}
 use native.Mathlib.Nat.{zero-add}

@@ -12,7 +12,7 @@ use Rattle.maps.specs.declared.Port.{Port}
 use Rattle.registers.specs.State.{indexIn}
 use Rattle.transfers.specs.declared.Way.{Way}
 use Rattle.transfers.specs.declared.Way.the-variants.{In, Out}
-use Rattle.card.specs.Access.{Access, meaning}
+use Rattle.card.specs.Access.{Asked, askedWith, meaning}
 use Rattle.account.specs.Host.{Hosted}
 use Rattle.hosts.specs.Live.{fits, width, Small, Taken}
 
@@ -48,8 +48,8 @@ pub record Choice : Type 0 where
   pub tuples : List ℕ
 
 -- the access, the command's way
-abbrev pub accessOf : Way → Choice → Access
-accessOf way c = record { space = c .space; width = width (c .port); write = writes way; address = c .address; value = c .value; tuples = c .tuples }
+abbrev pub accessOf : Way → Choice → Asked
+accessOf way c = askedWith (record { space = c .space; width = width (c .port); write = writes way; address = c .address; value = c .value }) (c .tuples)
 
 -- a choice that the host has: by its notes, by the map that is set, by its value and by what is lent
 pub record Fitting (way : Way) (h : Hosted) (c : Choice) : Type 0 where
@@ -58,6 +58,6 @@ pub record Fitting (way : Way) (h : Hosted) (c : Choice) : Type 0 where
   pub value : Small way (c .port) (c .value)
   pub tuples : length (c .tuples) ≡ 256
 
--- step answers so: `step m a` is `perform (meaning m a) m`, with the line
+-- step answers so: `step m a` is `perform (meaning m a) m`
 abbrev pub TakenChoice : Way → Hosted → Choice → Type 0
 TakenChoice way h c = Taken way h (c .port) (c .value) (meaning (h .machine) (accessOf way c))

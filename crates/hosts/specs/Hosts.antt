@@ -8,7 +8,7 @@ use Rattle.maps.specs.declared.Port.{Port}
 use Rattle.registers.specs.Machine.{Machine}
 use Rattle.transfers.specs.declared.Way.{Way}
 use Rattle.card.specs.declared.Meaning.{Meaning}
-use Rattle.card.specs.Access.{Access, meaning}
+use Rattle.card.specs.Access.{Asked, meaning}
 use Rattle.account.specs.Host.{asks, GoesBy, Hosted, hostedBy, meaningsBy}
 use Rattle.hosts.specs.Live.{fits, Small, dataMeaning}
 use Rattle.hosts.specs.Choices.{Choice, accessOf, Fitting}
@@ -59,7 +59,7 @@ abbrev pub ReadyBy : Way → Hosted → Turn Meaning → Type 0
 ReadyBy way h t = let k = onward itself way h (t .aside) in Going itself way h (t .aside) × (asks (k .machine) ≡ true → Chosen way k (t .choice))
 
 -- the same of accesses, by 01's places
-abbrev pub Ready : Way → Hosted → Turn Access → Type 0
+abbrev pub Ready : Way → Hosted → Turn Asked → Type 0
 Ready way h t =
     let k = onward meaning way h (t .aside) in
     Going meaning way h (t .aside) × (asks (k .machine) ≡ true → (c : Choice) × (t .choice ≡ accessOf way c) × Fitting way k c)

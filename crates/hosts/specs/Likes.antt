@@ -11,7 +11,7 @@ use Rattle.maps.specs.declared.Port.{Port}
 use Rattle.registers.specs.declared.State.{State}
 use Rattle.registers.specs.State.{indexIn}
 use Rattle.transfers.specs.declared.Way.{Way}
-use Rattle.card.specs.Access.{Access, meaning}
+use Rattle.card.specs.Access.{Asked, meaning}
 use Rattle.account.specs.Notes.{Waiting}
 use Rattle.account.specs.Host.{Hosted}
 use Rattle.hosts.specs.Live.{fits}
@@ -55,9 +55,9 @@ choiceIn b like h = choiceAt (portIn (h .machine .state) like (h .notes .waiting
     (nextOf b (h .notes) (portIn (h .machine .state) like (h .notes .waiting)))
 
 -- turns of such a host: what it would like at each, and what it does aside, which may go by all that it and the card have come to
-unfoldable pub likedTurns : Way → (ℕ → ℕ) → (Hosted → List Access) → Hosted → List Port → List (Turn Access)
+unfoldable pub likedTurns : Way → (ℕ → ℕ) → (Hosted → List Asked) → Hosted → List Port → List (Turn Asked)
 likedTurns way b besides h [] = []
 likedTurns way b besides h (like ∷ l) =
-    let t : Turn Access = record { aside = besides h; choice = accessOf way (choiceIn b like (onward meaning way h (besides h))) } in
+    let t : Turn Asked = record { aside = besides h; choice = accessOf way (choiceIn b like (onward meaning way h (besides h))) } in
     let rest = likedTurns way b besides (onward meaning way h (turn meaning way h t)) l in
     t ∷ rest

@@ -7,7 +7,7 @@ use lib.ListN.{length, getD}
 use Rattle.sectors.specs.Sectors.{StoreMarks}
 use Rattle.registers.specs.Machine.{Machine}
 use Rattle.card.specs.declared.Meaning.{Meaning}
-use Rattle.card.specs.Access.{Access}
+use Rattle.card.specs.Access.{Asked}
 use Rattle.card.specs.Perform.{perform}
 use Rattle.account.specs.Plain.{Plain}
 use Rattle.account.specs.Place.{Place, At, Bad}
@@ -23,7 +23,7 @@ abbrev pub CalmBy : Machine → List Meaning → Type 0
 CalmBy m [] = Unit {0}
 CalmBy m (x ∷ l) = (calm x ≡ true) × CalmBy (perform x m .next) l
 
-abbrev pub Calm : Machine → List Access → Type 0
+abbrev pub Calm : Machine → List Asked → Type 0
 Calm m l = CalmBy m (meanings m l)
 
 abbrev pub storeMarksOf : Plain → StoreMarks

@@ -13,7 +13,7 @@ use Rattle.transfers.specs.declared.Way.{Way}
 use Rattle.card.specs.declared.Card.{Card}
 use Rattle.card.specs.declared.Answer.{Answer}
 use Rattle.card.specs.declared.Meaning.{Meaning}
-use Rattle.card.specs.Access.{Access, storeSized, marksSized, meaning}
+use Rattle.card.specs.Access.{Asked, storeSized, marksSized, meaning}
 use Rattle.card.specs.Step.{step}
 use Rattle.card.specs.Doors.{machineOf, answered}
 use Rattle.account.specs.Notes.{Notes, note}
@@ -22,13 +22,13 @@ use Rattle.hosts.specs.Choices.{Choice, accessOf, Fitting}
 use Rattle.hosts.specs.Hosts.{Turn, onward, Going}
 
 -- of `Card::access`: its answer, with the store and the marks that it leaves, is the step
-abbrev pub Promised : Card → List ℕ → List ℕ → Access → Answer → List ℕ → List ℕ → Type 0
+abbrev pub Promised : Card → List ℕ → List ℕ → Asked → Answer → List ℕ → List ℕ → Type 0
 Promised c store marks a r store′ marks′ = answered r store′ marks′ ≡ step (machineOf c store marks) a
 
 -- a call lends the card's own store and marks, or by mistake others
 pub data Call : Type 0 where
-  Own : Access → Call
-  Wrong : List ℕ → List ℕ → Access → Call
+  Own : Asked → Call
+  Wrong : List ℕ → List ℕ → Asked → Call
 
 -- "store, marks … of wrong length"
 abbrev pub WrongLength : State → List ℕ → List ℕ → Type 0

@@ -8,7 +8,7 @@ use Rattle.transfers.specs.declared.Way.{Way}
 use Rattle.transfers.specs.declared.Way.the-variants.{In, Out}
 use Rattle.card.specs.declared.Meaning.{Meaning}
 use Rattle.card.specs.declared.Meaning.the-variants.{TupleByte, ReadOption, WriteOption, ReadRegister, WriteRegister, ReadData, WriteData}
-use Rattle.card.specs.Access.{Access, meaning}
+use Rattle.card.specs.Access.{Asked, meaning}
 use Rattle.account.specs.Notes.{Waiting, None, LowByte, HighByte, Notes}
 use Rattle.account.specs.Host.{asks, Hosted}
 use Rattle.hosts.specs.Choices.{Choice, accessOf, Fitting}
@@ -31,7 +31,7 @@ SendsBy b way h t =
     let k = onward itself way h (t .aside) in
     Going itself way h (t .aside) × (k .notes ≡ h .notes) × (asks (k .machine) ≡ true → (c : Chosen way k (t .choice)) × (c .value ≡ nextOf b (k .notes) (c .port)))
 
-abbrev pub Sends : (ℕ → ℕ) → Way → Hosted → Turn Access → Type 0
+abbrev pub Sends : (ℕ → ℕ) → Way → Hosted → Turn Asked → Type 0
 Sends b way h t =
     let k = onward meaning way h (t .aside) in
     Going meaning way h (t .aside) × (k .notes ≡ h .notes)

@@ -2,25 +2,17 @@
 // here is run: two functions tie the theorems to the code that is.
 use card::Answer;
 use card::Card;
+use maps::Access;
+ghost use Rattle.card.specs.Access.{askedWith};
 ghost use Rattle.card.specs.Doors.{machineOf};
 ghost use Rattle.account.specs.Claim.{Typed};
 ghost use Rattle.hosts.specs.Running.{Promised};
 
 // `Card::access` promises what the theorem takes a call to be.
-fn promised(
-    card: Card,
-    space: u8,
-    width: u8,
-    write: bool,
-    address: u16,
-    value: u16,
-    store: &mut [u8],
-    marks: &mut [u8],
-    tuples: &[u8],
-) -> Answer
-    ensures { λ r. ⌜ Promised card (now (store .entry)) (now (marks .entry)) (record { space = space; width = width; write = write; address = address; value = value; tuples = now (tuples .entry) }) r (now (store .exit)) (now (marks .exit)) ⌝ }
+fn promised(card: Card, access: Access, store: &mut [u8], marks: &mut [u8], tuples: &[u8]) -> Answer
+    ensures { λ r. ⌜ Promised card (now (store .entry)) (now (marks .entry)) (askedWith access (now (tuples .entry))) r (now (store .exit)) (now (marks .exit)) ⌝ }
 {
-    card.access(space, width, write, address, value, store, marks, tuples)
+    card.access(access, store, marks, tuples)
 }
 
 // Every card and every lent store are as the theorem asks, by their types: registers of 8 bits, a buffer of 512, and bytes in both. (That a lent

@@ -1,19 +1,20 @@
 -- What the refusals before an access leave: an option that may be written, and no register written while SRESET holds.
 use Prim.Native.Nat.{ℕ, _*_, _%_, _≤_}
-use mathlib.Core.Bool.{true, false}
-use mathlib.Core.Path.{_≡_, refl}
+use mathlib.Core.Bool.{Bool, true, false}
+use mathlib.Core.Path.{_≡_, refl, sym, subst}
 use native.Mathlib.Omega.{arith}
 use lib.Dec.{eqb}
 use lib.ListN.{length}
 use borrow.Author.Tests.{eqb-true, eq-eqb, ne-eqb, le-leb}
 use Rattle.ground.proofs.Picks.{pick-elim, neither}
 use Rattle.answers.specs.declared.Refusal.the-variants.{NotWellMade, StoreLength, MarksLength, TupleBufferLength, HeldBySreset, SpaceSilent}
+use Rattle.maps.specs.declared.Access.{Access}
 use Rattle.maps.specs.declared.Mode.{Mode}
 use Rattle.maps.specs.declared.Mode.the-variants.{PcCard, TrueIde}
 use Rattle.maps.specs.declared.Target.the-variants.{Tuple, Option, Named, Data}
 use Rattle.maps.specs.declared.Standing.{Standing}
 use Rattle.maps.specs.Spaces.{answersAt}
-use Rattle.maps.specs.Maps.{standsAt}
+use Rattle.maps.proofs.SameOffset.{silent-stands}
 use Rattle.maps.proofs.Standings.{Known, stands-known}
 use Rattle.registers.specs.declared.State.{State}
 use Rattle.registers.specs.State.{sresetIn, indexIn, totalIn}
@@ -21,21 +22,24 @@ use Rattle.registers.specs.Machine.{Machine}
 use Rattle.registers.specs.WellMade.{wellMade, indexFits, sresetFits}
 use Rattle.card.specs.declared.Meaning.{Meaning}
 use Rattle.card.specs.declared.Verdict.{Verdict}
-use Rattle.card.specs.Access.{Access, standing, heldAway, decided, verdictOf, meantBy, meaning}
+use Rattle.card.specs.Access.{Asked, standing, heldAway, decided, verdictOf, meantBy, meaning}
+use Rattle.card.proofs.Decided.{stands, decided-as}
 use Rattle.kept.specs.Allowed.{Allowed}
 
 -- rows 8 and 7, then what stands there
-pub decided-elim : (P : Meaning → Type 0) (s : State) (a : Access) → P (Meaning.Refused HeldBySreset) → P (Meaning.Refused SpaceSilent) →
-    (heldAway (s .option) (a .space) (a .address) ≡ false → answersAt (a .space) (s .made .mode) (indexIn (s .option)) ≡ true →
-    P (standing (standsAt (a .space) (indexIn (s .option)) (a .address) (a .width) (a .write) (a .value)) (a .write) (a .value) (a .tuples))) →
+pub decided-elim : (P : Meaning → Type 0) (s : State) (a : Asked) → P (Meaning.Refused HeldBySreset) → P (Meaning.Refused SpaceSilent) →
+    (heldAway (s .option) (a .access) ≡ false → answersAt (a .access .space) (s .made .mode) (indexIn (s .option)) ≡ true → P (standing (stands s a) a)) →
     P (decided s a)
-unfolding decided
 decided-elim P s a x y f =
-    pick-elim P (heldAway (s .option) (a .space) (a .address)) _ _ (λ h. x)
-    (λ h. pick-elim P (answersAt (a .space) (s .made .mode) (indexIn (s .option))) _ _ (f h) (λ e. y))
+    subst P (sym (decided-as s a))
+    (pick-elim P (heldAway (s .option) (a .access)) _ _ (λ h. x) (λ h. by-answer (answersAt (a .access .space) (s .made .mode) (indexIn (s .option))) refl h))
+  where
+    by-answer : (t : Bool) → answersAt (a .access .space) (s .made .mode) (indexIn (s .option)) ≡ t → heldAway (s .option) (a .access) ≡ false → P (standing (stands s a) a)
+    by-answer true e h = f h e
+    by-answer false e h = subst (λ (z : Standing). P (standing z a)) (sym (silent-stands (s .made .mode) (indexIn (s .option)) (a .access) e)) y
 
 -- rows 12, 2, 3 and 5, then what is decided
-pub meaning-elim : (P : Meaning → Type 0) (m : Machine) (a : Access) →
+pub meaning-elim : (P : Meaning → Type 0) (m : Machine) (a : Asked) →
     P (Meaning.Refused NotWellMade) → P (Meaning.Refused StoreLength) → P (Meaning.Refused MarksLength) → P (Meaning.Refused TupleBufferLength) →
     (wellMade (m .phase) (m .state) ≡ true → length (m .store) ≡ 512 * totalIn (m .state) → length (m .marks) ≡ totalIn (m .state) → length (a .tuples) ≡ 256 →
     P (decided (m .state) a)) →
@@ -51,7 +55,7 @@ meaning-elim P m a x y z u f =
     (λ s. y))
     (λ w. x)
 
-pub meaning-decided : (m : Machine) (a : Access) → wellMade (m .phase) (m .state) ≡ true →
+pub meaning-decided : (m : Machine) (a : Asked) → wellMade (m .phase) (m .state) ≡ true →
     length (m .store) ≡ 512 * totalIn (m .state) → length (m .marks) ≡ totalIn (m .state) → length (a .tuples) ≡ 256 → meaning m a ≡ decided (m .state) a
 unfolding meaning verdictOf
 meaning-decided m a e s k t = rw (e, eq-eqb _ _ s, eq-eqb _ _ k, eq-eqb _ _ t)
@@ -67,31 +71,30 @@ unfolding indexFits
 index-fits v h = le-leb (v % 256 % 64) 3 (omega arith)
 
 -- outside attribute memory nothing is reached while SRESET holds
-free : (option space address : ℕ) → (space ≡ 0 → ⊥) → heldAway option space address ≡ false → sresetIn option ≡ false
+free : (option : ℕ) (a : Access) → (a .space ≡ 0 → ⊥) → heldAway option a ≡ false → sresetIn option ≡ false
 unfolding heldAway
-free option space address n e = neither (sresetIn option) false (rw (ne-eqb space 0 n) at e) .0
+free option a n e = neither (sresetIn option) false (rw (ne-eqb (a .space) 0 n) at e) .0
 
-stands-allowed : (t : Standing) (s : State) (a : Access) → Known (a .space) (a .width) (a .write) (a .value) t →
-    heldAway (s .option) (a .space) (a .address) ≡ false →
-    answersAt (a .space) (s .made .mode) (indexIn (s .option)) ≡ true →
-    Allowed (standing t (a .write) (a .value) (a .tuples)) s
+stands-allowed : (t : Standing) (s : State) (a : Asked) → Known (a .access) t →
+    heldAway (s .option) (a .access) ≡ false →
+    answersAt (a .access .space) (s .made .mode) (indexIn (s .option)) ≡ true →
+    Allowed (standing t a) s
 stands-allowed (Standing.There (Tuple n)) s a f h e = tt
 stands-allowed (Standing.There Option) s a f h e =
-    pick-elim (λ (k : Meaning). Allowed k s) (a .write) _ _
-    (λ w. (index-fits (a .value) (f .1 w), sreset-fits (s .made .mode) (a .space) (indexIn (s .option)) (a .value % 256) (f .0) e))
+    pick-elim (λ (k : Meaning). Allowed k s) (a .access .write) _ _
+    (λ w. (index-fits (a .access .value) (f .1 w), sreset-fits (s .made .mode) (a .access .space) (indexIn (s .option)) (a .access .value % 256) (f .0) e))
     (λ w. tt)
 stands-allowed (Standing.There (Named r)) s a f h e =
-    pick-elim (λ (k : Meaning). Allowed k s) (a .write) _ _
-    (λ w. (free (s .option) (a .space) (a .address) (f .0) h, omega arith))
+    pick-elim (λ (k : Meaning). Allowed k s) (a .access .write) _ _
+    (λ w. (free (s .option) (a .access) (f .0) h, omega arith))
     (λ w. tt)
-stands-allowed (Standing.There (Data port)) s a f h e = pick-elim (λ (k : Meaning). Allowed k s) (a .write) _ _ (λ w. tt) (λ w. tt)
+stands-allowed (Standing.There (Data port)) s a f h e = pick-elim (λ (k : Meaning). Allowed k s) (a .access .write) _ _ (λ w. tt) (λ w. tt)
 stands-allowed (Standing.Refused r) s a f h e = tt
 
-pub decided-allowed : (s : State) (a : Access) → Allowed (decided s a) s
+pub decided-allowed : (s : State) (a : Asked) → Allowed (decided s a) s
 decided-allowed s a =
     decided-elim (λ (k : Meaning). Allowed k s) s a tt tt
-    (λ h e. stands-allowed (standsAt (a .space) (indexIn (s .option)) (a .address) (a .width) (a .write) (a .value)) s a
-    (stands-known (a .space) (indexIn (s .option)) (a .address) (a .width) (a .write) (a .value) _ refl) h e)
+    (λ h e. stands-allowed (stands s a) s a (stands-known (s .made .mode) (indexIn (s .option)) (a .access) _ refl) h e)
 
-pub meaning-allowed : (m : Machine) (a : Access) → Allowed (meaning m a) (m .state)
+pub meaning-allowed : (m : Machine) (a : Asked) → Allowed (meaning m a) (m .state)
 meaning-allowed m a = meaning-elim (λ (k : Meaning). Allowed k (m .state)) m a tt tt tt tt (λ w s k t. decided-allowed (m .state) a)

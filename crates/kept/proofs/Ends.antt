@@ -27,7 +27,7 @@ use Rattle.transfers.specs.Ends.{endStatus, ended, readingEnded}
 use Rattle.transfers.specs.Before.{testedOf, markTested}
 use Rattle.transfers.specs.Steps.{ready, askedFor, sectorDone}
 use Rattle.kept.specs.Sound.{CountFits}
-use Rattle.kept.proofs.Registers.{StateFits, PhaseFits, CoreFits, load-same}
+use Rattle.kept.proofs.Registers.{StateFits, CoreFits, load-same}
 use Rattle.kept.proofs.Resets.{at-rest}
 use Rattle.kept.proofs.Lent.{LengthsKept}
 

@@ -9,7 +9,7 @@ use Rattle.registers.specs.Machine.{Machine}
 use Rattle.registers.specs.WellMade.{wellMade}
 use Rattle.card.specs.declared.Meaning.{Meaning}
 use Rattle.card.specs.declared.Meaning.the-variants.{TupleByte, ReadOption, WriteOption, ReadRegister, WriteRegister, ReadData, WriteData}
-use Rattle.card.specs.Access.{Access, meaning}
+use Rattle.card.specs.Access.{Asked, meaning}
 use Rattle.kept.proofs.Decided.{meaning-elim}
 
 abbrev pub meansRefusal : Meaning → Bool
@@ -26,7 +26,7 @@ no : {A : Type 0} {r : Refusal} (y : Meaning) → meansRefusal y ≡ false → M
 no y n e = absurd (true≢false (ap meansRefusal e ∙ n))
 
 -- rows 12, 2 and 3
-pub lent-facts : (m : Machine) (a : Access) (y : Meaning) → meansRefusal y ≡ false → meaning m a ≡ y →
+pub lent-facts : (m : Machine) (a : Asked) (y : Meaning) → meansRefusal y ≡ false → meaning m a ≡ y →
     (wellMade (m .phase) (m .state) ≡ true) × (length (m .store) ≡ 512 * totalIn (m .state)) × (length (m .marks) ≡ totalIn (m .state))
 lent-facts m a y n =
     meaning-elim

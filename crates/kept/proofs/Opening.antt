@@ -18,9 +18,10 @@ use Rattle.registers.specs.declared.Phase.the-variants.{Idle}
 use Rattle.registers.specs.WellMade.{wellMade, indexFits, sresetFits}
 use Rattle.registers.specs.declared.Made.{Made}
 use Rattle.registers.specs.PowerOn.{powerOn}
+use Rattle.port.specs.Data.{Effect}
 use Rattle.card.specs.declared.Answer.{Answer}
-use Rattle.card.specs.Access.{Access}
-use Rattle.card.specs.Step.{step, Stepped}
+use Rattle.card.specs.Access.{Asked}
+use Rattle.card.specs.Step.{step}
 use Rattle.card.specs.Opening.{modeOf, zeroCard, openRefused, powered, opened}
 use Rattle.card.specs.Doors.{machineOf, refusedBy, optionAnswered, controlAnswered}
 use Rattle.kept.specs.Sound.{Sound}
@@ -90,17 +91,17 @@ unfolding wellMade every fits
 zero-not-well = refl
 
 -- every access to it is refused, whatever is lent, and changes nothing
-pub zero-refused : (a : Access) (store marks : List ℕ) →
-    step (machineOf zeroCard store marks) a ≡ record { outcome = Outcome.Refused NotWellMade; line = false; next = machineOf zeroCard store marks }
+pub zero-refused : (a : Asked) (store marks : List ℕ) →
+    step (machineOf zeroCard store marks) a ≡ record { outcome = Outcome.Refused NotWellMade; next = machineOf zeroCard store marks }
 zero-refused a store marks = not-well-refused (machineOf zeroCard store marks) a zero-not-well
 
-pub zero-twelve : (a : Access) (store marks : List ℕ) → outcomeNumber (step (machineOf zeroCard store marks) a .outcome) ≡ 12
-zero-twelve a store marks = ap (λ (s : Stepped). outcomeNumber (s .outcome)) (zero-refused a store marks)
+pub zero-twelve : (a : Asked) (store marks : List ℕ) → outcomeNumber (step (machineOf zeroCard store marks) a .outcome) ≡ 12
+zero-twelve a store marks = ap (λ (s : Effect). outcomeNumber (s .outcome)) (zero-refused a store marks)
 
-pub zero-option : (v : ℕ) → optionAnswered v zeroCard ≡ refusedBy NotWellMade zeroCard
+pub zero-option : (v : ℕ) → optionAnswered v zeroCard ≡ refusedBy zeroCard NotWellMade
 unfolding optionAnswered
 zero-option v = rw zero-not-well
 
-pub zero-control : (v : ℕ) → controlAnswered v zeroCard ≡ refusedBy NotWellMade zeroCard
+pub zero-control : (v : ℕ) → controlAnswered v zeroCard ≡ refusedBy zeroCard NotWellMade
 unfolding controlAnswered
 zero-control v = rw zero-not-well

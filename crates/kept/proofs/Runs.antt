@@ -1,6 +1,5 @@
 -- Verify and Erase, sector after sector, leave a card at rest, well made.
 use Prim.Native.Nat.{ℕ, zero, suc}
-use mathlib.Core.Bool.{true}
 use mathlib.Core.Path.{_≡_, refl, _∙_}
 use mathlib.Core.List.{List}
 use lib.ListN.{length, length-replicate}

@@ -10,9 +10,9 @@ use Rattle.registers.specs.Values.{registerSet}
 use Rattle.registers.specs.WellMade.{wellMade}
 use Rattle.port.specs.Data.{accepted}
 use Rattle.card.specs.declared.Meaning.the-variants.{WriteRegister}
-use Rattle.card.specs.Access.{Access, meaning}
+use Rattle.card.specs.Access.{Asked, meaning}
 use Rattle.card.specs.Perform.{registerWritten, perform}
-use Rattle.card.specs.Step.{stepped, step}
+use Rattle.card.specs.Step.{step}
 use Rattle.kept.proofs.RegisterElim.{plain-elim, written-elim}
 use Rattle.laws.specs.Bits.{drq}
 use Rattle.laws.specs.Holds.{blocked}
@@ -31,8 +31,8 @@ meant-blocked r v m w d b =
     (λ c. absurd (true≢false (sym b ∙ ap blocked c))))
 
 -- the access is accepted, and leaves the whole machine: phase, state, buffer, store, marks
-pub blocked-write : (m : Machine) (a : Access) (r : Register) (v : ℕ) → meaning m a ≡ WriteRegister r v → blocked r ≡ true → drq (m .state .registers .status) ≡ true →
-    step m a ≡ stepped (accepted 0 m)
+pub blocked-write : (m : Machine) (a : Asked) (r : Register) (v : ℕ) → meaning m a ≡ WriteRegister r v → blocked r ≡ true → drq (m .state .registers .status) ≡ true →
+    step m a ≡ accepted 0 m
 blocked-write m a r v e b d =
     step-by m a (WriteRegister r v) (accepted 0 m) e (meant-blocked r v m (well-meant m a (WriteRegister r v) e refl) d b)
 
@@ -41,5 +41,5 @@ pub meant-drive-address : (v : ℕ) (m : Machine) → perform (WriteRegister Dri
 unfolding perform registerWritten registerSet
 meant-drive-address v m = ap (λ (k : Core). accepted 0 (withCore k m)) (plain-elim (λ (k : Core). k ≡ coreOf m) DriveAddress v (coreOf m) refl (λ e h. refl))
 
-pub drive-address-write : (m : Machine) (a : Access) (v : ℕ) → meaning m a ≡ WriteRegister DriveAddress v → step m a ≡ stepped (accepted 0 m)
+pub drive-address-write : (m : Machine) (a : Asked) (v : ℕ) → meaning m a ≡ WriteRegister DriveAddress v → step m a ≡ accepted 0 m
 drive-address-write m a v e = step-by m a (WriteRegister DriveAddress v) (accepted 0 m) e (meant-drive-address v m)

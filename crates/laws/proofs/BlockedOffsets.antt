@@ -1,23 +1,23 @@
 -- "While DRQ is set, writes to 1..6 and D have no effect.", by the offset that an access reaches in whatever map.
-use Prim.Native.Nat.{ℕ, zero, suc, _≤_}
-use mathlib.Core.Path.{_≡_, refl, sym, ap, subst, _∙_}
-use mathlib.Core.Bool.{Bool, true, false, true≢false, false≢true}
-use mathlib.Core.List.{List}
+use Prim.Native.Nat.{ℕ, zero, suc, _%_, _≤_}
+use mathlib.Core.Path.{_≡_, refl, sym, ap, subst}
+use mathlib.Core.Bool.{Bool, true}
 use native.Mathlib.Omega.{arith}
 use lib.Dec.{eqb, leb}
 use borrow.Author.Tests.{eqb-true, leb-true}
 use Rattle.ground.proofs.Picks.{pick-elim, both-of}
-use Rattle.maps.specs.declared.Target.{Target}
-use Rattle.maps.specs.declared.Target.the-variants.{Tuple, Option, Named, Data}
-use Rattle.maps.specs.declared.Standing.{Standing}
-use Rattle.maps.specs.declared.Standing.the-variants.{There, Refused}
-use Rattle.maps.specs.declared.Offset.the-variants.{At}
-use Rattle.maps.specs.Places.{evenData, namedAt}
+use Rattle.maps.specs.declared.Register.{Register}
+use Rattle.maps.specs.declared.Register.the-variants.{ErrorFeature, SectorCount, SectorNumber, CylinderLow, CylinderHigh, DriveHead}
+use Rattle.maps.specs.declared.Target.the-variants.{Named}
+use Rattle.maps.specs.declared.Place.{Place}
+use Rattle.maps.specs.declared.Place.the-variants.{Bytes}
+use Rattle.maps.specs.Offsets.{At}
+use Rattle.maps.specs.Places.{registerPlace}
+use Rattle.maps.specs.Rows.{moved}
 use Rattle.registers.specs.Machine.{Machine}
-use Rattle.registers.specs.WellMade.{wellMade}
 use Rattle.port.specs.Data.{Effect}
 use Rattle.card.specs.declared.Meaning.{Meaning}
-use Rattle.card.specs.Access.{Access, targeted}
+use Rattle.card.specs.Access.{Asked, standing}
 use Rattle.card.specs.Perform.{perform}
 use Rattle.card.specs.Step.{step}
 use Rattle.laws.specs.Bits.{drq}
@@ -35,40 +35,21 @@ one-to-six P a b c d e f (suc (suc (suc (suc (suc zero))))) l h = e
 one-to-six P a b c d e f (suc (suc (suc (suc (suc (suc zero)))))) l h = f
 one-to-six P a b c d e f (suc (suc (suc (suc (suc (suc (suc n))))))) l h = absurd (omega arith)
 
--- a register that is blocked
-abbrev blocks : Target → Bool
-blocks (Tuple n) = false
-blocks Option = false
-blocks (Named r) = blocked r
-blocks (Data port) = false
-
-abbrev blocksIn : Standing → Bool
-blocksIn (There t) = blocks t
-blocksIn (Refused r) = false
-
-abbrev BlockedAt : ℕ → Type 0
-BlockedAt o = (evenData o ≡ false) × (blocksIn (namedAt o) ≡ true)
-
-blocked-at : (o : ℕ) → blockedAt o ≡ true → BlockedAt o
-unfolding evenData namedAt
-blocked-at o =
-    pick-elim (λ (t : Bool). t ≡ true → BlockedAt o) (eqb o 0xD) _ _
-    (λ e h. subst BlockedAt (sym (eqb-true o 0xD e)) (refl, refl))
+-- a register stands there that is blocked
+blocked-elim : (P : Place → Type 0) (o : ℕ) → ((r : Register) → blocked r ≡ true → P (Bytes (Named r))) → blockedAt o ≡ true → P (registerPlace o)
+unfolding registerPlace
+blocked-elim P o f =
+    let Q : ℕ → Type 0 = λ n. P (registerPlace n) in
+    let one = f ErrorFeature refl in
+    pick-elim (λ (t : Bool). t ≡ true → Q o) (eqb o 0xD) _ _
+    (λ e h. subst Q (sym (eqb-true o 0xD e)) one)
     (λ e h. let l = both-of (leb 1 o) (leb o 6) h in
-    one-to-six BlockedAt (refl, refl) (refl, refl) (refl, refl) (refl, refl) (refl, refl) (refl, refl) o (leb-true _ _ (l .0)) (leb-true _ _ (l .1)))
-
-target-blocked : (t : Target) (value : ℕ) (tuples : List ℕ) (m : Machine) → wellMade (m .phase) (m .state) ≡ true → drq (m .state .registers .status) ≡ true → blocks t ≡ true →
-    perform (targeted t true value tuples) m .next ≡ m
-target-blocked (Tuple n) value tuples m w d b = absurd (false≢true b)
-target-blocked Option value tuples m w d b = absurd (false≢true b)
-target-blocked (Named r) value tuples m w d b = ap (λ (y : Effect). y .next) (meant-blocked r _ m w d b)
-target-blocked (Data port) value tuples m w d b = absurd (false≢true b)
+    one-to-six Q one (f SectorCount refl) (f SectorNumber refl) (f CylinderLow refl) (f CylinderHigh refl) (f DriveHead refl) o (leb-true _ _ (l .0)) (leb-true _ _ (l .1)))
 
 -- accepted or refused
-pub blocked-offset : (m : Machine) (a : Access) (o : ℕ) → offsetOf m a ≡ At o → a .write ≡ true → blockedAt o ≡ true → drq (m .state .registers .status) ≡ true → step m a .next ≡ m
+pub blocked-offset : (m : Machine) (a : Asked) (o : ℕ) → offsetOf m a ≡ At o → a .access .write ≡ true → blockedAt o ≡ true → drq (m .state .registers .status) ≡ true → step m a .next ≡ m
 unfolding step perform
-blocked-offset m a o r w b d =
-    let f = blocked-at o b in
-    reached-elim (λ (x : Meaning). perform x m .next ≡ m) m a o r (λ q. refl)
-    (λ e port. absurd (true≢false (sym e ∙ f .0)))
-    (λ k e t n. rw w (target-blocked t (a .value) (a .tuples) m k d (sym (ap blocksIn n) ∙ f .1)))
+blocked-offset m a o p w b d =
+    reached-elim (λ (x : Meaning). perform x m .next ≡ m) m a o p (λ q. refl)
+    (λ k. blocked-elim (λ (q : Place). perform (standing (moved q (a .access .width)) a) m .next ≡ m) o
+    (λ r l. rw w (ap (λ (y : Effect). y .next) (meant-blocked r (a .access .value % 256) m k d l))) b)

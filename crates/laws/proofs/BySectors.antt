@@ -23,7 +23,7 @@ use Rattle.port.specs.Data.{Effect, accepted, phaseWritten, dataWritten}
 use Rattle.commands.specs.Table.{countOf, commandOf, started, dropped, obeyed, commandGiven}
 use Rattle.card.specs.declared.Meaning.{Meaning}
 use Rattle.card.specs.declared.Meaning.the-variants.{TupleByte, ReadOption, WriteOption, ReadRegister, WriteRegister, ReadData, WriteData}
-use Rattle.card.specs.Access.{Access, meaning}
+use Rattle.card.specs.Access.{Asked, meaning}
 use Rattle.card.specs.Perform.{optionWritten, registerWritten, perform}
 use Rattle.card.specs.Step.{step}
 use Rattle.kept.proofs.DataElim.{data-read-elim}
@@ -104,6 +104,6 @@ meant-sectors (ReadData port) m =
     data-read-elim (λ (x : Effect). Keeps (storeMarksIn m) (x .next)) port m (λ v. refl) refl (λ v part t e. refl) (λ v t e w. refl) (λ v t e. load-read (t .load) (allMoved m))
 meant-sectors (WriteData port v) m = by-hold (m .state .control .held) (phaseWritten (m .phase) port v m) (phaseChanges (m .phase) port v m) m 0 (phase-written (m .phase) port v m)
 
-pub by-sectors : (m : Machine) (a : Access) → storeMarksIn (step m a .next) ≡ changed (changes (meaning m a) m) (storeMarksIn m)
+pub by-sectors : (m : Machine) (a : Asked) → storeMarksIn (step m a .next) ≡ changed (changes (meaning m a) m) (storeMarksIn m)
 unfolding step
 by-sectors m a = meant-sectors (meaning m a) m

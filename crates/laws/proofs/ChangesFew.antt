@@ -31,7 +31,7 @@ use Rattle.port.specs.Halves.{takeOf, withPart}
 use Rattle.commands.specs.Table.{commandOf}
 use Rattle.card.specs.declared.Meaning.{Meaning}
 use Rattle.card.specs.declared.Meaning.the-variants.{TupleByte, ReadOption, WriteOption, ReadRegister, WriteRegister, ReadData, WriteData}
-use Rattle.card.specs.Access.{Access, meaning}
+use Rattle.card.specs.Access.{Asked, meaning}
 use Rattle.card.specs.Perform.{perform}
 use Rattle.card.specs.Step.{step}
 use Rattle.laws.specs.Changes.{Change, changed, storeMarksIn, writes, erasures, commandChanges, registerChanges, loadChanges, takenChanges, phaseChanges, changes}
@@ -82,7 +82,7 @@ pub meant-untouched : (x : Meaning) (m : Machine) → mayChange x ≡ false → 
 unfolding changed
 meant-untouched x m e = meant-sectors x m ∙ ap (λ (l : List Change). changed l (storeMarksIn m)) (no-change x m e)
 
-pub untouched : (m : Machine) (a : Access) → mayChange (meaning m a) ≡ false → storeMarksIn (step m a .next) ≡ storeMarksIn m
+pub untouched : (m : Machine) (a : Asked) → mayChange (meaning m a) ≡ false → storeMarksIn (step m a .next) ≡ storeMarksIn m
 unfolding step
 untouched m a e = meant-untouched (meaning m a) m e
 

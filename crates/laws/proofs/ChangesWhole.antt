@@ -34,7 +34,7 @@ use Rattle.port.specs.Halves.{takeOf, withPart}
 use Rattle.commands.specs.Table.{countOf, commandOf}
 use Rattle.card.specs.declared.Meaning.{Meaning}
 use Rattle.card.specs.declared.Meaning.the-variants.{TupleByte, ReadOption, WriteOption, ReadRegister, WriteRegister, ReadData, WriteData}
-use Rattle.card.specs.Access.{Access, decided, meaning}
+use Rattle.card.specs.Access.{Asked, decided, meaning}
 use Rattle.kept.proofs.Registers.{apart}
 use Rattle.kept.proofs.Decided.{meaning-elim}
 use Rattle.kept.proofs.Lent.{part-length}
@@ -113,7 +113,7 @@ of-meaning (WriteData port v) m c b = pick-elim (Whole (totalIn (m .state))) (m 
 pub meant-whole : (x : Meaning) (m : Machine) → wellMade (m .phase) (m .state) ≡ true → length (m .buffer) ≡ 512 → Whole (totalIn (m .state)) (changes x m)
 meant-whole x m w b = of-meaning x m (apart (m .phase) (m .state) w .0 .2) b
 
-pub changes-whole : (m : Machine) (a : Access) → length (m .buffer) ≡ 512 → Whole (totalIn (m .state)) (changes (meaning m a) m)
+pub changes-whole : (m : Machine) (a : Asked) → length (m .buffer) ≡ 512 → Whole (totalIn (m .state)) (changes (meaning m a) m)
 unfolding changes
 changes-whole m a b =
     meaning-elim (λ (k : Meaning). Whole (totalIn (m .state)) (changes k m)) m a tt tt tt tt

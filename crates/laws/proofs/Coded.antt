@@ -11,7 +11,7 @@ use Rattle.card.specs.declared.Meaning.{Meaning}
 use Rattle.card.specs.declared.Meaning.the-variants.{WriteRegister}
 use Rattle.card.specs.declared.Card.{Card}
 use Rattle.card.specs.declared.Answer.{Answer}
-use Rattle.card.specs.Access.{Access, meaning}
+use Rattle.card.specs.Access.{Asked, meaning}
 use Rattle.card.specs.Perform.{perform}
 use Rattle.card.specs.Step.{step, play}
 use Rattle.card.specs.Opening.{zeroState, opened}
@@ -21,7 +21,7 @@ use Rattle.laws.specs.Coded.{inError, Coded, AllCoded}
 use Rattle.laws.proofs.CodedSteps.{option-coded, control-coded, meant-command-coded, meant-coded}
 
 -- kept by every access
-pub coded-kept : (m : Machine) (a : Access) → Coded (m .state) → Coded (step m a .next .state)
+pub coded-kept : (m : Machine) (a : Asked) → Coded (m .state) → Coded (step m a .next .state)
 unfolding step
 coded-kept m a h = meant-coded (meaning m a) m h
 
@@ -29,17 +29,17 @@ coded-kept m a h = meant-coded (meaning m a) m h
 pub meant-transfer-coded : (x : Meaning) (m : Machine) → m .state .registers .status ≡ 0x58 → Coded (perform x m .next .state)
 meant-transfer-coded x m e = meant-coded x m (λ p. absurd (false≢true (sym (ap inError e) ∙ p)))
 
-pub coded-transfer : (m : Machine) (a : Access) → m .state .registers .status ≡ 0x58 → Coded (step m a .next .state)
+pub coded-transfer : (m : Machine) (a : Asked) → m .state .registers .status ≡ 0x58 → Coded (step m a .next .state)
 unfolding step
 coded-transfer m a e = meant-transfer-coded (meaning m a) m e
 
 -- and so has a Command write that ends in error; a Command write in a Device Control hold has no effect
-pub coded-command : (m : Machine) (a : Access) (v : ℕ) → meaning m a ≡ WriteRegister StatusCommand v → m .state .control .held ≡ false → Coded (step m a .next .state)
+pub coded-command : (m : Machine) (a : Asked) (v : ℕ) → meaning m a ≡ WriteRegister StatusCommand v → m .state .control .held ≡ false → Coded (step m a .next .state)
 unfolding step
 coded-command m a v e h = subst (λ (k : Meaning). Coded (perform k m .next .state)) (sym e) (meant-command-coded v m h)
 
 -- after a list of accesses, and after each of them
-coded-played : (l : List Access) (m : Machine) → Coded (m .state) → Coded (play m l .last .state) × AllCoded (play m l .steps)
+coded-played : (l : List Asked) (m : Machine) → Coded (m .state) → Coded (play m l .last .state) × AllCoded (play m l .steps)
 unfolding play
 coded-played [] m h = (h, tt)
 coded-played (a ∷ l) m h = let k = coded-kept m a h in let r = coded-played l (step m a .next) k in (r .0, (k, r .1))
@@ -51,7 +51,7 @@ coded-opened g mode store marks tuples =
     opened-elim (λ (a : Answer). Coded (a .card .state)) g mode store marks tuples no no no no no (λ f s k e. absurd (false≢true e))
 
 -- from an opened card on, Status 51H or 71H always comes with a code; the store and the marks may have changed since the opening
-pub coded-ever : (g : Geometry) (mode : ℕ) (store marks tuples store′ marks′ : List ℕ) (l : List Access) → AllCoded (play (machineOf (opened g mode store marks tuples .card) store′ marks′) l .steps)
+pub coded-ever : (g : Geometry) (mode : ℕ) (store marks tuples store′ marks′ : List ℕ) (l : List Asked) → AllCoded (play (machineOf (opened g mode store marks tuples .card) store′ marks′) l .steps)
 coded-ever g mode store marks tuples store′ marks′ l = coded-played l (machineOf (opened g mode store marks tuples .card) store′ marks′) (coded-opened g mode store marks tuples) .1
 
 -- the two resets' methods keep it too

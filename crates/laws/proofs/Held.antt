@@ -14,9 +14,9 @@ use Rattle.registers.specs.Values.{valueRead, afterRead}
 use Rattle.port.specs.Data.{accepted, dataRead, dataWritten}
 use Rattle.card.specs.declared.Meaning.{Meaning}
 use Rattle.card.specs.declared.Meaning.the-variants.{ReadRegister, WriteRegister, ReadData, WriteData}
-use Rattle.card.specs.Access.{Access, meaning}
+use Rattle.card.specs.Access.{Asked, meaning}
 use Rattle.card.specs.Perform.{perform}
-use Rattle.card.specs.Step.{stepped, step}
+use Rattle.card.specs.Step.{step}
 use Rattle.kept.proofs.RegisterElim.{written-elim}
 use Rattle.laws.specs.Holds.{lostInHold, byteInHold, dataInHold, afterReading}
 use Rattle.laws.proofs.Meant.{step-by}
@@ -50,14 +50,14 @@ meant-held-data-read Even m h = rw h
 meant-held-data-read Odd m h = rw h
 meant-held-data-read Word m h = rw h
 
-pub register-read : (m : Machine) (a : Access) (r : Register) → meaning m a ≡ ReadRegister r → step m a .next ≡ afterReading r m
+pub register-read : (m : Machine) (a : Asked) (r : Register) → meaning m a ≡ ReadRegister r → step m a .next ≡ afterReading r m
 unfolding step
 register-read m a r e = ap (λ (x : Meaning). perform x m .next) e ∙ meant-read r m
 
-pub held-read : (m : Machine) (a : Access) (r : Register) → meaning m a ≡ ReadRegister r → m .state .control .held ≡ true → step m a ≡ stepped (accepted byteInHold (afterReading r m))
+pub held-read : (m : Machine) (a : Asked) (r : Register) → meaning m a ≡ ReadRegister r → m .state .control .held ≡ true → step m a ≡ accepted byteInHold (afterReading r m)
 held-read m a r e h = step-by m a (ReadRegister r) (accepted byteInHold (afterReading r m)) e (meant-held-read r m h)
 
-pub held-data-read : (m : Machine) (a : Access) (port : Port) → meaning m a ≡ ReadData port → m .state .control .held ≡ true → step m a ≡ stepped (accepted (dataInHold port) m)
+pub held-data-read : (m : Machine) (a : Asked) (port : Port) → meaning m a ≡ ReadData port → m .state .control .held ≡ true → step m a ≡ accepted (dataInHold port) m
 held-data-read m a port e h = step-by m a (ReadData port) (accepted (dataInHold port) m) e (meant-held-data-read port m h)
 
 -- ---- writes
@@ -75,9 +75,9 @@ pub meant-held-data-write : (port : Port) (v : ℕ) (m : Machine) → m .state .
 unfolding perform dataWritten
 meant-held-data-write port v m h = rw h
 
-pub held-write : (m : Machine) (a : Access) (r : Register) (v : ℕ) → meaning m a ≡ WriteRegister r v → m .state .control .held ≡ true → lostInHold r ≡ true →
-    step m a ≡ stepped (accepted 0 m)
+pub held-write : (m : Machine) (a : Asked) (r : Register) (v : ℕ) → meaning m a ≡ WriteRegister r v → m .state .control .held ≡ true → lostInHold r ≡ true →
+    step m a ≡ accepted 0 m
 held-write m a r v e h b = step-by m a (WriteRegister r v) (accepted 0 m) e (meant-held-write r v m h b)
 
-pub held-data-write : (m : Machine) (a : Access) (port : Port) (v : ℕ) → meaning m a ≡ WriteData port v → m .state .control .held ≡ true → step m a ≡ stepped (accepted 0 m)
+pub held-data-write : (m : Machine) (a : Asked) (port : Port) (v : ℕ) → meaning m a ≡ WriteData port v → m .state .control .held ≡ true → step m a ≡ accepted 0 m
 held-data-write m a port v e h = step-by m a (WriteData port v) (accepted 0 m) e (meant-held-data-write port v m h)

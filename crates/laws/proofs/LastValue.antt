@@ -9,11 +9,11 @@ use Rattle.answers.specs.Answers.{refused}
 use Rattle.maps.specs.declared.Register.the-variants.{AlternateControl}
 use Rattle.registers.specs.declared.State.{State}
 use Rattle.registers.specs.Machine.{Machine}
-use Rattle.port.specs.Data.{accepted}
+use Rattle.port.specs.Data.{Effect, accepted}
 use Rattle.card.specs.declared.Meaning.the-variants.{ReadOption}
-use Rattle.card.specs.Access.{Access}
+use Rattle.card.specs.Access.{Asked}
 use Rattle.card.specs.Perform.{perform}
-use Rattle.card.specs.Step.{Stepped, stepped, step, play}
+use Rattle.card.specs.Step.{step, play}
 use Rattle.card.specs.Rows.{atOption, offsetIn}
 use Rattle.laws.specs.Holds.{offsetOf}
 use Rattle.laws.specs.Settings.{Settings, settingsOf, optionSettings, controlAfter, takes, writesOption, NoOptionWrite}
@@ -22,8 +22,8 @@ use Rattle.laws.proofs.ByAddress.{means-option-read}
 use Rattle.laws.proofs.SettingsAt.{settings-at}
 
 -- a read at attribute 200H gives the option and leaves the machine
-pub option-at-200 : (m : Machine) (a : Access) → a .space ≡ 0 → a .address ≡ 0x200 → a .write ≡ false → refused (step m a .outcome) ≡ false →
-    step m a ≡ stepped (accepted (m .state .option) m)
+pub option-at-200 : (m : Machine) (a : Asked) → a .access .space ≡ 0 → a .access .address ≡ 0x200 → a .access .write ≡ false → refused (step m a .outcome) ≡ false →
+    step m a ≡ accepted (m .state .option) m
 unfolding perform
 option-at-200 m a s d w n = step-as m a ReadOption (means-option-read m a s d w n)
 
@@ -37,20 +37,20 @@ option-by true false false v s = refl
 option-by false here control v s = refl
 
 -- an accepted write there sets it, and no other access changes it
-pub option-after : (m : Machine) (a : Access) → step m a .next .state .option ≡ pick (writesOption m a) (a .value) (m .state .option)
+pub option-after : (m : Machine) (a : Asked) → step m a .next .state .option ≡ pick (writesOption m a) (a .access .value) (m .state .option)
 option-after m a =
     ap (λ (k : Settings). k .option) (settings-at m a)
-    ∙ option-by (takes m a) (atOption (a .space) (a .address)) (offsetIn (0xE ∷ []) (offsetOf m a)) (a .value) (m .state)
+    ∙ option-by (takes m a) (atOption (a .access .space) (a .access .address)) (offsetIn (0xE ∷ []) (offsetOf m a)) (a .access .value) (m .state)
 
-option-played : (l : List Access) (m : Machine) → NoOptionWrite m l → play m l .last .state .option ≡ m .state .option
+option-played : (l : List Asked) (m : Machine) → NoOptionWrite m l → play m l .last .state .option ≡ m .state .option
 unfolding play
 option-played [] m n = refl
 option-played (a ∷ l) m n = option-played l (step m a .next) (n .1) ∙ option-after m a ∙ rw (n .0)
 
 -- after an accepted write at 200H, and whatever accesses that write there no more, a read at 200H gives the value written
-pub last-value : (m : Machine) (a : Access) (l : List Access) (b : Access) → writesOption m a ≡ true → NoOptionWrite (step m a .next) l →
+pub last-value : (m : Machine) (a : Asked) (l : List Asked) (b : Asked) → writesOption m a ≡ true → NoOptionWrite (step m a .next) l →
     let n = play (step m a .next) l .last in
-    b .space ≡ 0 → b .address ≡ 0x200 → b .write ≡ false → refused (step n b .outcome) ≡ false → step n b .outcome ≡ Outcome.Accepted (a .value)
+    b .access .space ≡ 0 → b .access .address ≡ 0x200 → b .access .write ≡ false → refused (step n b .outcome) ≡ false → step n b .outcome ≡ Outcome.Accepted (a .access .value)
 last-value m a l b e n s d w f =
-    ap (λ (x : Stepped). x .outcome) (option-at-200 (play (step m a .next) l .last) b s d w f)
+    ap (λ (x : Effect). x .outcome) (option-at-200 (play (step m a .next) l .last) b s d w f)
     ∙ ap (λ (k : ℕ). Outcome.Accepted k) (option-played l (step m a .next) n ∙ option-after m a ∙ rw e)

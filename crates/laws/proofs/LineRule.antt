@@ -1,6 +1,6 @@
 -- The line in each answer is that of the card in the answer: after the access, and also where it is refused.
 use Prim.Native.Nat.{ℕ}
-use mathlib.Core.Path.{_≡_, refl, sym}
+use mathlib.Core.Path.{_≡_, refl, sym, ap, _∙_}
 use mathlib.Core.Bool.{Bool, true, false, not, _&&_, and-true, and-false}
 use mathlib.Core.List.{List}
 use Rattle.ground.specs.Choice.{pick}
@@ -9,14 +9,13 @@ use Rattle.registers.specs.declared.State.{State}
 use Rattle.registers.specs.State.{lineOf}
 use Rattle.registers.specs.Machine.{Machine}
 use Rattle.registers.specs.Resets.{controlWritten}
-use Rattle.card.specs.declared.Meaning.{Meaning}
+use Rattle.port.specs.Data.{Effect}
 use Rattle.card.specs.declared.Card.{Card}
 use Rattle.card.specs.declared.Answer.{Answer}
-use Rattle.card.specs.Access.{Access, meaning}
-use Rattle.card.specs.Perform.{perform}
-use Rattle.card.specs.Step.{stepped, step}
+use Rattle.card.specs.Access.{Asked}
+use Rattle.card.specs.Step.{step}
 use Rattle.card.specs.Opening.{opened}
-use Rattle.card.specs.Doors.{optionAnswered, controlAnswered}
+use Rattle.card.specs.Doors.{answered, optionAnswered, controlAnswered}
 use Rattle.kept.proofs.DoorElim.{optionCard, opened-elim, option-elim, control-elim}
 use Rattle.laws.specs.Line.{lineUp}
 
@@ -27,12 +26,10 @@ by-mask false mark = sym (and-true mark)
 line-of : (s : State) → lineOf s ≡ lineUp s
 line-of s = by-mask (s .control .masked) (s .interrupt)
 
-pub meant-line : (x : Meaning) (m : Machine) → stepped (perform x m) .line ≡ lineUp (perform x m .next .state)
-meant-line x m = line-of (perform x m .next .state)
-
-pub line-rule : (m : Machine) (a : Access) → step m a .line ≡ lineUp (step m a .next .state)
-unfolding step
-line-rule m a = meant-line (meaning m a) m
+-- of an access, by what `Card::access` promises of its answer
+pub line-rule : (m : Machine) (a : Asked) (r : Answer) (store marks : List ℕ) → answered r store marks ≡ step m a → r .line ≡ lineOf (r .card .state) →
+    r .line ≡ lineUp (step m a .next .state)
+line-rule m a r store marks e l = l ∙ line-of (r .card .state) ∙ ap (λ (x : Effect). lineUp (x .next .state)) e
 
 abbrev Told : Answer → Type 0
 Told a = a .line ≡ lineUp (a .card .state)

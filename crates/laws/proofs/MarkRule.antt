@@ -16,7 +16,7 @@ use Rattle.registers.specs.Resets.{turnOf, optionTurned, bitTwo, bitOne, contro
 use Rattle.commands.specs.Table.{commandGiven}
 use Rattle.card.specs.declared.Meaning.{Meaning}
 use Rattle.card.specs.declared.Meaning.the-variants.{TupleByte, ReadOption, WriteOption, ReadRegister, WriteRegister, ReadData, WriteData}
-use Rattle.card.specs.Access.{Access, decided, meaning}
+use Rattle.card.specs.Access.{Asked, decided, meaning}
 use Rattle.card.specs.Perform.{optionWritten, plainCore, registerWritten, perform}
 use Rattle.card.specs.Step.{step}
 use Rattle.kept.proofs.Registers.{apart}
@@ -96,7 +96,7 @@ pub meant-mark : (x : Meaning) (m : Machine) → wellMade (m .phase) (m .state) 
 meant-mark x m w = let f = apart (m .phase) (m .state) w in ruled x m (f .1 .0, f .1 .3)
 
 -- of every card: one that is not well made is refused
-pub mark-rule : (m : Machine) (a : Access) → MarkRule (actOf (meaning m a) (m .state .control .held)) (m .state) (step m a .next .state)
+pub mark-rule : (m : Machine) (a : Asked) → MarkRule (actOf (meaning m a) (m .state .control .held)) (m .state) (step m a .next .state)
 unfolding step perform
 mark-rule m a =
     let z = no-matter (m .state) (m .state) refl in

@@ -5,18 +5,18 @@ use Rattle.registers.specs.Machine.{Machine}
 use Rattle.registers.specs.WellMade.{wellMade}
 use Rattle.port.specs.Data.{Effect}
 use Rattle.card.specs.declared.Meaning.{Meaning}
-use Rattle.card.specs.Access.{Access, meaning}
+use Rattle.card.specs.Access.{Asked, meaning}
 use Rattle.card.specs.Perform.{perform}
-use Rattle.card.specs.Step.{stepped, step}
+use Rattle.card.specs.Step.{step}
 use Rattle.kept.proofs.Fit.{meansRefusal, lent-facts}
 
-pub step-as : (m : Machine) (a : Access) (x : Meaning) → meaning m a ≡ x → step m a ≡ stepped (perform x m)
+pub step-as : (m : Machine) (a : Asked) (x : Meaning) → meaning m a ≡ x → step m a ≡ perform x m
 unfolding step
-step-as m a x e = ap (λ (k : Meaning). stepped (perform k m)) e
+step-as m a x e = ap (λ (k : Meaning). perform k m) e
 
-pub step-by : (m : Machine) (a : Access) (x : Meaning) (y : Effect) → meaning m a ≡ x → perform x m ≡ y → step m a ≡ stepped y
-step-by m a x y e f = step-as m a x e ∙ ap (λ (z : Effect). stepped z) f
+pub step-by : (m : Machine) (a : Asked) (x : Meaning) (y : Effect) → meaning m a ≡ x → perform x m ≡ y → step m a ≡ y
+step-by m a x y e f = step-as m a x e ∙ f
 
 -- what is no refusal is meant to a well-made card
-pub well-meant : (m : Machine) (a : Access) (x : Meaning) → meaning m a ≡ x → meansRefusal x ≡ false → wellMade (m .phase) (m .state) ≡ true
+pub well-meant : (m : Machine) (a : Asked) (x : Meaning) → meaning m a ≡ x → meansRefusal x ≡ false → wellMade (m .phase) (m .state) ≡ true
 well-meant m a x e n = lent-facts m a x n e .0

@@ -12,27 +12,24 @@ use Rattle.maps.specs.declared.Port.{Port}
 use Rattle.maps.specs.declared.Port.the-variants.{Even, Odd, Word}
 use Rattle.maps.specs.declared.Target.the-variants.{Data}
 use Rattle.maps.specs.declared.Standing.the-variants.{There}
-use Rattle.maps.specs.declared.Offset.the-variants.{At}
-use Rattle.maps.specs.Places.{misfits, evenData, portAt, namedAt, placeAt, registerAt}
+use Rattle.maps.specs.Offsets.{At}
+use Rattle.maps.specs.Places.{registerPlace}
+use Rattle.maps.specs.Rows.{moved}
 use Rattle.registers.specs.declared.Phase.{Phase}
 use Rattle.registers.specs.declared.Phase.the-variants.{Idle, DataIn, DataOut}
 use Rattle.registers.specs.Machine.{Machine}
 use Rattle.port.specs.Data.{accepted, absentValue, heldValue, phaseRead, dataRead, phaseWritten, dataWritten}
 use Rattle.card.specs.declared.Meaning.the-variants.{ReadData, WriteData}
-use Rattle.card.specs.Access.{Access, meaning}
+use Rattle.card.specs.Access.{Asked, meaning}
 use Rattle.card.specs.Perform.{perform}
-use Rattle.card.specs.Step.{stepped, step}
+use Rattle.card.specs.Step.{step}
 use Rattle.card.specs.Rows.{among}
 use Rattle.laws.specs.Holds.{offsetOf}
 use Rattle.laws.specs.ByOffset.{portFor, thatWay, nothingRead}
 use Rattle.laws.proofs.Meant.{step-by}
-use Rattle.laws.proofs.ByAddress.{Only, Means, only-byte, offset-means}
+use Rattle.laws.proofs.ByAddress.{Means, offset-means}
 
 -- ---- where data stands
-
-only-port : (word : Bool) → Only (Data (pick word Word Even)) (pick word (There (Data Word)) (There (Data Even)))
-only-port true = refl
-only-port false = refl
 
 data-elim : (P : ℕ → Type 0) (o : ℕ) → P 0 → P 8 → P 9 → among o (0 ∷ 8 ∷ 9 ∷ []) ≡ true → P o
 data-elim P o x y z =
@@ -40,22 +37,20 @@ data-elim P o x y z =
     (λ e. pick-elim (λ (t : Bool). t ≡ true → P o) (eqb o 8) _ _ (λ e h. subst P (sym (eqb-true o 8 e)) y)
     (λ e. pick-elim (λ (t : Bool). t ≡ true → P o) (eqb o 9) _ _ (λ e h. subst P (sym (eqb-true o 9 e)) z) (λ e h. absurd (false≢true h))))
 
-only-data : (o width : ℕ) (write : Bool) (value : ℕ) → among o (0 ∷ 8 ∷ 9 ∷ []) ≡ true → Only (Data (portFor o width)) (registerAt (At o) width write value)
-unfolding registerAt placeAt evenData portAt namedAt
-only-data o width write value =
-    let even = pick-elim (Only (Data (pick (eqb width 2) Word Even))) (misfits true width write value) _ _ (λ e. tt) (λ e. only-port (eqb width 2)) in
-    data-elim (λ (n : ℕ). Only (Data (portFor n width)) (registerAt (At n) width write value)) o even even (only-byte (Data Odd) width write value)
+data-moved : (o width : ℕ) → among o (0 ∷ 8 ∷ 9 ∷ []) ≡ true → moved (registerPlace o) width ≡ There (Data (portFor o width))
+unfolding registerPlace
+data-moved o width = data-elim (λ (n : ℕ). moved (registerPlace n) width ≡ There (Data (portFor n width))) o refl refl refl
 
-data-means : (m : Machine) (a : Access) (o : ℕ) → offsetOf m a ≡ At o → among o (0 ∷ 8 ∷ 9 ∷ []) ≡ true → refused (step m a .outcome) ≡ false →
-    Means (Data (portFor o (a .width))) a (meaning m a)
-data-means m a o p d = offset-means m a o (Data (portFor o (a .width))) p (only-data o (a .width) (a .write) (a .value) d)
+data-means : (m : Machine) (a : Asked) (o : ℕ) → offsetOf m a ≡ At o → among o (0 ∷ 8 ∷ 9 ∷ []) ≡ true → refused (step m a .outcome) ≡ false →
+    Means (Data (portFor o (a .access .width))) a (meaning m a)
+data-means m a o p d = offset-means m a o (Data (portFor o (a .access .width))) (data-moved o (a .access .width) d) p
 
-pub means-data-read : (m : Machine) (a : Access) (o : ℕ) → offsetOf m a ≡ At o → among o (0 ∷ 8 ∷ 9 ∷ []) ≡ true → a .write ≡ false → refused (step m a .outcome) ≡ false →
-    meaning m a ≡ ReadData (portFor o (a .width))
+pub means-data-read : (m : Machine) (a : Asked) (o : ℕ) → offsetOf m a ≡ At o → among o (0 ∷ 8 ∷ 9 ∷ []) ≡ true → a .access .write ≡ false → refused (step m a .outcome) ≡ false →
+    meaning m a ≡ ReadData (portFor o (a .access .width))
 means-data-read m a o p d w f = data-means m a o p d f .0 ∙ rw w
 
-pub means-data-written : (m : Machine) (a : Access) (o : ℕ) → offsetOf m a ≡ At o → among o (0 ∷ 8 ∷ 9 ∷ []) ≡ true → a .write ≡ true → refused (step m a .outcome) ≡ false →
-    meaning m a ≡ WriteData (portFor o (a .width)) (a .value)
+pub means-data-written : (m : Machine) (a : Asked) (o : ℕ) → offsetOf m a ≡ At o → among o (0 ∷ 8 ∷ 9 ∷ []) ≡ true → a .access .write ≡ true → refused (step m a .outcome) ≡ false →
+    meaning m a ≡ WriteData (portFor o (a .access .width)) (a .access .value)
 means-data-written m a o p d w f = data-means m a o p d f .0 ∙ rw w
 
 -- ---- no transfer that way
@@ -83,12 +78,14 @@ pub meant-nothing-written : (port : Port) (v : ℕ) (m : Machine) → m .state .
 unfolding perform dataWritten
 meant-nothing-written port v m h e = ap (λ (t : Bool). pick t (accepted 0 m) (phaseWritten (m .phase) port v m)) h ∙ nothing-written (m .phase) port v m e
 
-pub no-transfer-reads : (m : Machine) (a : Access) (o : ℕ) → offsetOf m a ≡ At o → among o (0 ∷ 8 ∷ 9 ∷ []) ≡ true → a .write ≡ false →
-    m .state .control .held ≡ false → thatWay (m .phase) false ≡ false → refused (step m a .outcome) ≡ false → step m a ≡ stepped (accepted (nothingRead (portFor o (a .width))) m)
+pub no-transfer-reads : (m : Machine) (a : Asked) (o : ℕ) → offsetOf m a ≡ At o → among o (0 ∷ 8 ∷ 9 ∷ []) ≡ true → a .access .write ≡ false →
+    m .state .control .held ≡ false → thatWay (m .phase) false ≡ false → refused (step m a .outcome) ≡ false → step m a ≡ accepted (nothingRead (portFor o (a .access .width))) m
 no-transfer-reads m a o p d w h e f =
-    step-by m a (ReadData (portFor o (a .width))) (accepted (nothingRead (portFor o (a .width))) m) (means-data-read m a o p d w f) (meant-nothing-read (portFor o (a .width)) m h e)
+    let port = portFor o (a .access .width) in
+    step-by m a (ReadData port) (accepted (nothingRead port) m) (means-data-read m a o p d w f) (meant-nothing-read port m h e)
 
-pub no-transfer-writes : (m : Machine) (a : Access) (o : ℕ) → offsetOf m a ≡ At o → among o (0 ∷ 8 ∷ 9 ∷ []) ≡ true → a .write ≡ true →
-    m .state .control .held ≡ false → thatWay (m .phase) true ≡ false → refused (step m a .outcome) ≡ false → step m a ≡ stepped (accepted 0 m)
+pub no-transfer-writes : (m : Machine) (a : Asked) (o : ℕ) → offsetOf m a ≡ At o → among o (0 ∷ 8 ∷ 9 ∷ []) ≡ true → a .access .write ≡ true →
+    m .state .control .held ≡ false → thatWay (m .phase) true ≡ false → refused (step m a .outcome) ≡ false → step m a ≡ accepted 0 m
 no-transfer-writes m a o p d w h e f =
-    step-by m a (WriteData (portFor o (a .width)) (a .value)) (accepted 0 m) (means-data-written m a o p d w f) (meant-nothing-written (portFor o (a .width)) (a .value) m h e)
+    let port = portFor o (a .access .width) in
+    step-by m a (WriteData port (a .access .value)) (accepted 0 m) (means-data-written m a o p d w f) (meant-nothing-written port (a .access .value) m h e)

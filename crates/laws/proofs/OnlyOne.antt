@@ -1,17 +1,17 @@
 -- A promise that gives the result together with all that was lent determines each of them: no second answer, and no second byte, satisfies it.
 use Prim.Native.Nat.{ℕ}
-use mathlib.Core.Path.{_≡_, ap}
+use mathlib.Core.Path.{_≡_, sym, ap, _∙_}
+use mathlib.Core.Bool.{Bool}
 use mathlib.Core.List.{List}
 use Rattle.ground.proofs.OnlyOne.{only-one}
 use Rattle.sectors.specs.Sectors.{StoreMarks, storeMarks}
 use Rattle.registers.specs.declared.Core.{Core}
+use Rattle.registers.specs.State.{lineOf}
 use Rattle.registers.specs.Machine.{Machine, machine}
 use Rattle.port.specs.declared.Done.{Done}
 use Rattle.port.specs.Data.{Effect, effect}
-use Rattle.card.specs.declared.Reply.{Reply}
 use Rattle.card.specs.declared.Answer.{Answer}
-use Rattle.card.specs.Step.{Stepped, replied}
-use Rattle.card.specs.Doors.{answered}
+use Rattle.card.specs.Doors.{answer, answered}
 use Rattle.laws.specs.Lent.{SameLent}
 
 pub only-store-marks : (d : StoreMarks) (s s′ m m′ : List ℕ) → storeMarks s m ≡ d → storeMarks s′ m′ ≡ d → (s ≡ s′) × (m ≡ m′)
@@ -26,11 +26,11 @@ coreIn m = record { phase = m .phase; state = m .state }
 abbrev doneIn : Effect → Done
 doneIn x = record { outcome = x .outcome; core = coreIn (x .next) }
 
-abbrev replyIn : Stepped → Reply
-replyIn x = record { outcome = x .outcome; line = x .line; core = coreIn (x .next) }
+abbrev answerIn : Effect → Answer
+answerIn x = answer (x .outcome) (record { phase = x .next .phase; state = x .next .state; buffer = x .next .buffer })
 
-abbrev answerIn : Stepped → Answer
-answerIn x = record { outcome = x .outcome; line = x .line; card = record { phase = x .next .phase; state = x .next .state; buffer = x .next .buffer } }
+lined : (r : Answer) → r .line ≡ lineOf (r .card .state) → r ≡ answer (r .outcome) (r .card)
+lined r l = ap (λ (b : Bool). record { outcome = r .outcome; line = b; card = r .card }) l
 
 -- what was lent besides
 lent : (x y : Machine) → x ≡ y → SameLent (x .buffer) (y .buffer) (x .store) (y .store) (x .marks) (y .marks)
@@ -46,12 +46,9 @@ only-effect d r r′ b b′ s s′ m m′ p q =
     let e = only-one d (effect r b s m) (effect r′ b′ s′ m′) p q in
     (ap doneIn e, lent (effect r b s m .next) (effect r′ b′ s′ m′ .next) (ap (λ (x : Effect). x .next) e))
 
-pub only-replied : (d : Stepped) (r r′ : Reply) (b b′ s s′ m m′ : List ℕ) → replied r b s m ≡ d → replied r′ b′ s′ m′ ≡ d → (r ≡ r′) × SameLent b b′ s s′ m m′
-only-replied d r r′ b b′ s s′ m m′ p q =
-    let e = only-one d (replied r b s m) (replied r′ b′ s′ m′) p q in
-    (ap replyIn e, lent (replied r b s m .next) (replied r′ b′ s′ m′ .next) (ap (λ (x : Stepped). x .next) e))
-
-pub only-answered : (d : Stepped) (r r′ : Answer) (s s′ m m′ : List ℕ) → answered r s m ≡ d → answered r′ s′ m′ ≡ d → (r ≡ r′) × (s ≡ s′) × (m ≡ m′)
-only-answered d r r′ s s′ m m′ p q =
+-- the line of an answer is promised besides
+pub only-answered : (d : Effect) (r r′ : Answer) (s s′ m m′ : List ℕ) → answered r s m ≡ d → answered r′ s′ m′ ≡ d →
+    r .line ≡ lineOf (r .card .state) → r′ .line ≡ lineOf (r′ .card .state) → (r ≡ r′) × (s ≡ s′) × (m ≡ m′)
+only-answered d r r′ s s′ m m′ p q l l′ =
     let e = only-one d (answered r s m) (answered r′ s′ m′) p q in
-    (ap answerIn e, ap (λ (x : Stepped). x .next .store) e, ap (λ (x : Stepped). x .next .marks) e)
+    (lined r l ∙ ap answerIn e ∙ sym (lined r′ l′), ap (λ (x : Effect). x .next .store) e, ap (λ (x : Effect). x .next .marks) e)

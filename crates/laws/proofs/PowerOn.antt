@@ -17,11 +17,12 @@ use Rattle.registers.specs.State.{withControl}
 use Rattle.registers.specs.Machine.{Machine, machine, core}
 use Rattle.registers.specs.PowerOn.{powerOn, zeros}
 use Rattle.registers.specs.Values.{valueRead}
+use Rattle.port.specs.Data.{Effect}
 use Rattle.card.specs.declared.Meaning.{Meaning}
 use Rattle.card.specs.declared.Meaning.the-variants.{WriteOption, ReadRegister, WriteRegister}
-use Rattle.card.specs.Access.{Access, meaning}
+use Rattle.card.specs.Access.{Asked, meaning}
 use Rattle.card.specs.Perform.{perform}
-use Rattle.card.specs.Step.{Stepped, step}
+use Rattle.card.specs.Step.{step}
 use Rattle.card.specs.declared.Answer.{Answer}
 use Rattle.card.specs.Opening.{powered, modeOf, openRefused, opened}
 use Rattle.card.specs.Doors.{machineOf}
@@ -59,13 +60,13 @@ opened-reads g mode store marks tuples store′ marks′ =
     opened-elim P g mode store marks tuples (z _) (z _) (z _) (z _) (z _)
     (λ f s k e. powered-reads false (record { mode = modeOf mode; default = g }) 0 zeros store′ marks′)
 
-pub sreset-left-reads : (m : Machine) (a : Access) (v : ℕ) → meaning m a ≡ WriteOption v → bitSeven (m .state .option) ≡ true → bitSeven v ≡ false → ReadsPowerOn (step m a .next)
+pub sreset-left-reads : (m : Machine) (a : Asked) (v : ℕ) → meaning m a ≡ WriteOption v → bitSeven (m .state .option) ≡ true → bitSeven v ≡ false → ReadsPowerOn (step m a .next)
 sreset-left-reads m a v x e f =
-    subst ReadsPowerOn (sym (ap (λ (s : Stepped). s .next) (sreset-left m a v x e f))) (powered-reads false (m .state .made) v zeros (m .store) (m .marks))
+    subst ReadsPowerOn (sym (ap (λ (s : Effect). s .next) (sreset-left m a v x e f))) (powered-reads false (m .state .made) v zeros (m .store) (m .marks))
 
-pub control-left-reads : (m : Machine) (a : Access) (v : ℕ) → meaning m a ≡ WriteRegister AlternateControl v → m .state .control .held ≡ true → bitTwo v ≡ false → ReadsPowerOn (step m a .next)
+pub control-left-reads : (m : Machine) (a : Asked) (v : ℕ) → meaning m a ≡ WriteRegister AlternateControl v → m .state .control .held ≡ true → bitTwo v ≡ false → ReadsPowerOn (step m a .next)
 control-left-reads m a v x e f =
-    subst ReadsPowerOn (sym (ap (λ (s : Stepped). s .next) (control-left m a v x e f))) (powered-reads (bitOne v) (m .state .made) (m .state .option) (m .buffer) (m .store) (m .marks))
+    subst ReadsPowerOn (sym (ap (λ (s : Effect). s .next) (control-left m a v x e f))) (powered-reads (bitOne v) (m .state .made) (m .state .option) (m .buffer) (m .store) (m .marks))
 
 -- "buffer zeros, code 00H, default geometry, index 0"
 pub opened-rest : (g : Geometry) (mode : Mode) →

@@ -1,26 +1,22 @@
--- What an access can mean that reaches an offset of the card's map: a refusal, the data port, or what is named there.
+-- What an access can mean that reaches an offset of the card's map: a refusal, or what stands there.
 use Prim.Native.Nat.{ℕ, zero, suc}
-use mathlib.Core.Path.{_≡_, refl}
-use mathlib.Core.Bool.{Bool, true, false}
+use mathlib.Core.Path.{_≡_, sym, subst}
+use mathlib.Core.Bool.{true}
 use native.Mathlib.Omega.{arith}
-use lib.Dec.{eqb}
 use borrow.Author.Tests.{ne-eqb}
-use Rattle.ground.proofs.Picks.{pick-elim}
 use Rattle.answers.specs.declared.Refusal.{Refusal}
-use Rattle.maps.specs.declared.Port.{Port}
-use Rattle.maps.specs.declared.Target.{Target}
-use Rattle.maps.specs.declared.Target.the-variants.{Data}
+use Rattle.maps.specs.declared.Place.{Place}
 use Rattle.maps.specs.declared.Standing.{Standing}
-use Rattle.maps.specs.declared.Standing.the-variants.{There, Refused}
-use Rattle.maps.specs.declared.Offset.the-variants.{At}
-use Rattle.maps.specs.Offsets.{offsetAt}
-use Rattle.maps.specs.Places.{misfits, byteAt, evenData, portAt, namedAt, sized, placeAt, registerAt}
-use Rattle.maps.specs.Maps.{standsAt}
+use Rattle.maps.specs.Spaces.{answersAt}
+use Rattle.maps.specs.Offsets.{At, offsetAt}
+use Rattle.maps.specs.Places.{registerPlace, mapPlace, placeAt}
+use Rattle.maps.specs.Rows.{moved, standsAt}
+use Rattle.maps.proofs.Standings.{stands-elim}
 use Rattle.registers.specs.State.{indexIn}
 use Rattle.registers.specs.Machine.{Machine}
 use Rattle.registers.specs.WellMade.{wellMade}
 use Rattle.card.specs.declared.Meaning.{Meaning}
-use Rattle.card.specs.Access.{Access, targeted, standing, meaning}
+use Rattle.card.specs.Access.{Asked, standing, placeIn, meaning}
 use Rattle.kept.proofs.Decided.{decided-elim, meaning-elim}
 use Rattle.laws.specs.Holds.{offsetOf}
 
@@ -30,26 +26,16 @@ unfolding offsetAt
 not-attribute zero index address o e z = let x : _≡_ {A = ℕ} 0 1 = cc in omega arith
 not-attribute (suc n) index address o e z = omega arith
 
-sized-elim : (P : Standing → Type 0) (s : Standing) (width : ℕ) (write : Bool) (value : ℕ) → ((r : Refusal) → P (Refused r)) → ((t : Target) → s ≡ There t → P (There t)) →
-    P (sized s width write value)
-unfolding byteAt
-sized-elim P (There t) width write value f g = pick-elim P (misfits false width write value) _ _ (λ e. f _) (λ e. g t refl)
-sized-elim P (Refused r) width write value f g = f r
+pub place-reached : (m : Machine) (a : Asked) (o : ℕ) → offsetOf m a ≡ At o → answersAt (a .access .space) (m .state .made .mode) (indexIn (m .state .option)) ≡ true →
+    placeIn (m .state) a ≡ registerPlace o
+unfolding placeAt mapPlace
+place-reached m a o p e = rw (e, ne-eqb (a .access .space) 0 (not-attribute (a .access .space) (indexIn (m .state .option)) (a .access .address) o p), p)
 
-pub place-elim : (P : Standing → Type 0) (o width : ℕ) (write : Bool) (value : ℕ) → ((r : Refusal) → P (Refused r)) → (evenData o ≡ true → (port : Port) → P (There (Data port))) →
-    (evenData o ≡ false → (t : Target) → namedAt o ≡ There t → P (There t)) → P (placeAt o width write value)
-unfolding placeAt portAt
-place-elim P o width write value f d g =
-    pick-elim P (evenData o) _ _
-    (λ e. pick-elim P (misfits true width write value) _ _ (λ x. f _) (λ x. pick-elim P (eqb width 2) _ _ (λ y. d e _) (λ y. d e _)))
-    (λ e. sized-elim P (namedAt o) width write value f (g e))
-
-pub reached-elim : (P : Meaning → Type 0) (m : Machine) (a : Access) (o : ℕ) → offsetOf m a ≡ At o → ((r : Refusal) → P (Meaning.Refused r)) →
-    (evenData o ≡ true → (port : Port) → P (targeted (Data port) (a .write) (a .value) (a .tuples))) →
-    (wellMade (m .phase) (m .state) ≡ true → evenData o ≡ false → (t : Target) → namedAt o ≡ There t → P (targeted t (a .write) (a .value) (a .tuples))) → P (meaning m a)
-unfolding standsAt registerAt
-reached-elim P m a o r f d g =
+pub reached-elim : (P : Meaning → Type 0) (m : Machine) (a : Asked) (o : ℕ) → offsetOf m a ≡ At o → ((r : Refusal) → P (Meaning.Refused r)) →
+    (wellMade (m .phase) (m .state) ≡ true → P (standing (moved (registerPlace o) (a .access .width)) a)) → P (meaning m a)
+unfolding standsAt
+reached-elim P m a o p f g =
     meaning-elim P m a (f _) (f _) (f _) (f _)
     (λ w s k t. decided-elim P (m .state) a (f _) (f _)
-    (λ h e. rw (ne-eqb (a .space) 0 (not-attribute (a .space) (indexIn (m .state .option)) (a .address) o r), r)
-    (place-elim (λ (s : Standing). P (standing s (a .write) (a .value) (a .tuples))) o (a .width) (a .write) (a .value) f d (g w))))
+    (λ h e. stands-elim (λ (x : Standing). P (standing x a)) (placeIn (m .state) a) (a .access) (f _) (f _) (f _) (f _)
+    (λ s u n z. subst (λ (q : Place). P (standing (moved q (a .access .width)) a)) (sym (place-reached m a o p e)) (g w))))

@@ -1,39 +1,46 @@
 -- Row 9 speaks of "a byte write above 255": what a read answers and leaves never depends on the value that came with it.
 use Prim.Native.Nat.{ℕ}
-use mathlib.Core.Path.{_≡_, refl, ap, _∙_}
-use mathlib.Core.Bool.{Bool, true, false, true≢false}
-use mathlib.Core.List.{List}
+use mathlib.Core.Path.{_≡_, refl, sym, ap, _∙_}
+use mathlib.Core.Bool.{false}
+use Rattle.ground.specs.Choice.{pick}
+use Rattle.answers.specs.declared.Refusal.the-variants.{HeldBySreset}
 use Rattle.maps.specs.declared.Target.the-variants.{Tuple, Option, Named, Data}
 use Rattle.maps.specs.declared.Standing.{Standing}
 use Rattle.maps.specs.declared.Standing.the-variants.{There, Refused}
-use Rattle.maps.specs.Maps.{standsAt}
+use Rattle.maps.specs.Rows.{withValue}
 use Rattle.maps.proofs.ReadValue.{read-value}
+use Rattle.registers.specs.declared.State.{State}
 use Rattle.registers.specs.State.{indexIn}
 use Rattle.registers.specs.Machine.{Machine}
 use Rattle.card.specs.declared.Meaning.{Meaning}
-use Rattle.card.specs.Access.{Access, standing, decided, meaning, withValue}
+use Rattle.card.specs.Access.{Asked, askedWith, standing, heldAway, decided, verdictOf, meantBy, meaning}
 use Rattle.card.specs.Perform.{perform}
-use Rattle.card.specs.Step.{stepped, step}
+use Rattle.card.specs.Step.{step}
+use Rattle.card.proofs.Decided.{stands, decided-as}
 
-standing-read : (s : Standing) (v w : ℕ) (tuples : List ℕ) → standing s false v tuples ≡ standing s false w tuples
-standing-read (There (Tuple n)) v w tuples = refl
-standing-read (There Option) v w tuples = refl
-standing-read (There (Named r)) v w tuples = refl
-standing-read (There (Data port)) v w tuples = refl
-standing-read (Refused r) v w tuples = refl
+-- what is asked with another value, all else the same
+abbrev valued : ℕ → Asked → Asked
+valued v a = askedWith (withValue v (a .access)) (a .tuples)
 
-stands-read : (write : Bool) (space index address width v w : ℕ) (tuples : List ℕ) → write ≡ false →
-    standing (standsAt space index address width write v) write v tuples ≡ standing (standsAt space index address width write w) write w tuples
-stands-read true space index address width v w tuples e = absurd (true≢false e)
-stands-read false space index address width v w tuples e =
-    ap (λ (s : Standing). standing s false v tuples) (read-value space index address width v w) ∙ standing-read (standsAt space index address width false w) v w tuples
+standing-read : (s : Standing) (v : ℕ) (a : Asked) → a .access .write ≡ false → standing s (valued v a) ≡ standing s a
+standing-read (There (Tuple n)) v a e = refl
+standing-read (There Option) v a e = rw e
+standing-read (There (Named r)) v a e = rw e
+standing-read (There (Data port)) v a e = rw e
+standing-read (Refused r) v a e = refl
+
+decided-read : (s : State) (v : ℕ) (a : Asked) → a .access .write ≡ false → decided s (valued v a) ≡ decided s a
+unfolding heldAway
+decided-read s v a e =
+    let x = ap (λ (k : Standing). standing k (valued v a)) (read-value (s .made .mode) (indexIn (s .option)) v (a .access) e) ∙ standing-read (stands s a) v a e in
+    decided-as s (valued v a) ∙ ap (pick (heldAway (s .option) (a .access)) (Meaning.Refused HeldBySreset)) x ∙ sym (decided-as s a)
 
 -- a read means the same
-pub read-means : (m : Machine) (a : Access) (v : ℕ) → a .write ≡ false → meaning m (withValue v a) ≡ meaning m a
-unfolding meaning decided
-read-means m a v e = rw (stands-read (a .write) (a .space) (indexIn (m .state .option)) (a .address) (a .width) v (a .value) (a .tuples) e)
+pub read-means : (m : Machine) (a : Asked) (v : ℕ) → a .access .write ≡ false → meaning m (askedWith (withValue v (a .access)) (a .tuples)) ≡ meaning m a
+unfolding meaning
+read-means m a v e = ap (meantBy (verdictOf (m .phase) (m .state) (m .store) (m .marks) (a .tuples))) (decided-read (m .state) v a e)
 
--- and so it answers and leaves the same: outcome, line and machine
-pub read-value-free : (m : Machine) (a : Access) (v : ℕ) → a .write ≡ false → step m (withValue v a) ≡ step m a
+-- and so it answers and leaves the same: outcome and machine
+pub read-value-free : (m : Machine) (a : Asked) (v : ℕ) → a .access .write ≡ false → step m (askedWith (withValue v (a .access)) (a .tuples)) ≡ step m a
 unfolding step
-read-value-free m a v e = ap (λ (x : Meaning). stepped (perform x m)) (read-means m a v e)
+read-value-free m a v e = ap (λ (x : Meaning). perform x m) (read-means m a v e)

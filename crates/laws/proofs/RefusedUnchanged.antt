@@ -1,14 +1,13 @@
--- 01, "Answers": a refused access has value 0 and changes nothing, the line included.
+-- 01, "Answers": a refused access has value 0 and changes nothing.
 use mathlib.Core.Path.{_≡_, refl, ap}
 use Rattle.answers.specs.declared.Outcome.the-variants.{Refused}
 use Rattle.answers.specs.declared.Refusal.{Refusal}
 use Rattle.answers.specs.Answers.{outcomeValue}
-use Rattle.registers.specs.State.{lineOf}
 use Rattle.registers.specs.Machine.{Machine}
 use Rattle.port.specs.Data.{Effect}
 use Rattle.card.specs.declared.Meaning.{Meaning}
 use Rattle.card.specs.declared.Meaning.the-variants.{TupleByte, ReadOption, WriteOption, ReadRegister, WriteRegister, ReadData, WriteData}
-use Rattle.card.specs.Access.{Access, meaning}
+use Rattle.card.specs.Access.{Asked, meaning}
 use Rattle.card.specs.Perform.{perform}
 use Rattle.card.specs.Step.{step}
 use Rattle.answers.proofs.Outcomes.{accepts-not}
@@ -32,8 +31,6 @@ meant-refused (ReadData port) m r e =
 meant-refused (WriteData port v) m r e =
     data-written-elim (Stays m) port v m (λ r e. refl) (λ r e. refl) (λ part t h r e. accepts-not _ r e) (λ part t h w r e. accepts-not _ r e) (λ part t h r e. accepts-not _ r e) r e
 
-pub refused-unchanged : (m : Machine) (a : Access) (r : Refusal) → step m a .outcome ≡ Refused r → Unchanged m (step m a)
+pub refused-unchanged : (m : Machine) (a : Asked) (r : Refusal) → step m a .outcome ≡ Refused r → Unchanged m (step m a)
 unfolding step
-refused-unchanged m a r e =
-    let n = meant-refused (meaning m a) m r e in
-    (ap outcomeValue e, n, ap (λ (x : Machine). lineOf (x .state)) n)
+refused-unchanged m a r e = (ap outcomeValue e, meant-refused (meaning m a) m r e)

@@ -1,7 +1,6 @@
 -- The option and Device Control, which only writes to them change: no command does ("90H …: buffer, geometry, index, mask kept"), and no transfer.
 use Prim.Native.Nat.{ℕ, _-_}
 use mathlib.Core.Path.{_≡_, refl, _∙_}
-use mathlib.Core.Bool.{Bool, true, false}
 use mathlib.Core.List.{List}
 use lib.Dec.{eqb}
 use Rattle.ground.specs.Left.{Left}

@@ -15,7 +15,7 @@ use Rattle.transfers.specs.Steps.{allMoved}
 use Rattle.port.specs.Data.{Effect}
 use Rattle.card.specs.declared.Meaning.{Meaning}
 use Rattle.card.specs.declared.Meaning.the-variants.{TupleByte, ReadOption, WriteOption, ReadRegister, WriteRegister, ReadData, WriteData}
-use Rattle.card.specs.Access.{Access, meaning}
+use Rattle.card.specs.Access.{Asked, meaning}
 use Rattle.card.specs.Perform.{optionWritten, plainCore, registerWritten, perform}
 use Rattle.card.specs.Step.{step}
 use Rattle.kept.proofs.RegisterElim.{read-elim, set-elim, plain-elim}
@@ -74,6 +74,6 @@ meant-settings (WriteData port v) m =
     data-written-elim (λ (e : Effect). settingsOf (e .next .state) ≡ settingsOf (m .state)) port v m refl refl (λ part t e. refl) (λ part t e w. refl)
     (λ part t e. load-written (t .load) (allMoved (partCome part t v m)))
 
-pub settings-rule : (m : Machine) (a : Access) → settingsOf (step m a .next .state) ≡ settingsAfter (meaning m a) (m .state)
+pub settings-rule : (m : Machine) (a : Asked) → settingsOf (step m a .next .state) ≡ settingsAfter (meaning m a) (m .state)
 unfolding step
 settings-rule m a = meant-settings (meaning m a) m

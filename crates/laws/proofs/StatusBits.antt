@@ -17,7 +17,7 @@ use Rattle.registers.specs.WellMade.{atRest, statusFits, heldIn, holdFits, well
 use Rattle.registers.specs.Values.{valueRead}
 use Rattle.card.specs.declared.Meaning.{Meaning}
 use Rattle.card.specs.declared.Meaning.the-variants.{ReadRegister}
-use Rattle.card.specs.Access.{Access, meaning}
+use Rattle.card.specs.Access.{Asked, meaning}
 use Rattle.card.specs.Perform.{perform}
 use Rattle.card.specs.Step.{step}
 use Rattle.kept.proofs.Registers.{apart}
@@ -84,7 +84,7 @@ pub meant-drq : (m : Machine) → wellMade (m .phase) (m .state) ≡ true → dr
 unfolding perform
 meant-drq m w = drq-value (m .phase) (m .state) w
 
-pub drq-read : (m : Machine) (a : Access) → meaning m a ≡ ReadRegister StatusCommand → drq (outcomeValue (step m a .outcome)) ≡ runs (m .phase)
+pub drq-read : (m : Machine) (a : Asked) → meaning m a ≡ ReadRegister StatusCommand → drq (outcomeValue (step m a .outcome)) ≡ runs (m .phase)
 unfolding step
 drq-read m a e =
     ap (λ (x : Meaning). drq (outcomeValue (perform x m .outcome))) e ∙ meant-drq m (well-meant m a (ReadRegister StatusCommand) e refl)

@@ -10,7 +10,7 @@ use Rattle.answers.specs.declared.Outcome.the-variants.{Accepted, Refused}
 use Rattle.answers.proofs.Outcomes.{number-range}
 use Rattle.answers.specs.Answers.{numberOf, outcomeNumber, refused}
 use Rattle.registers.specs.Machine.{Machine}
-use Rattle.card.specs.Access.{Access}
+use Rattle.card.specs.Access.{Asked}
 use Rattle.card.specs.Step.{step}
 
 -- of every outcome: an access's, an opening's, a method's
@@ -18,9 +18,9 @@ pub outcome-number : (o : Outcome) → eqb (outcomeNumber o) 0 ≡ not (refused 
 outcome-number (Accepted value) = refl
 outcome-number (Refused r) = ne-eqb (numberOf r) 0 (λ e. let h = number-range r in omega (arith, h, e))
 
-pub step-number : (m : Machine) (a : Access) → eqb (outcomeNumber (step m a .outcome)) 0 ≡ not (refused (step m a .outcome))
+pub step-number : (m : Machine) (a : Asked) → eqb (outcomeNumber (step m a .outcome)) 0 ≡ not (refused (step m a .outcome))
 step-number m a = outcome-number (step m a .outcome)
 
 -- the number of a refused access is that of its row
-pub refused-number : (m : Machine) (a : Access) (r : Refusal) → step m a .outcome ≡ Refused r → outcomeNumber (step m a .outcome) ≡ numberOf r
+pub refused-number : (m : Machine) (a : Asked) (r : Refusal) → step m a .outcome ≡ Refused r → outcomeNumber (step m a .outcome) ≡ numberOf r
 refused-number m a r e = ap outcomeNumber e

@@ -12,9 +12,9 @@ use Rattle.registers.specs.State.{runs}
 use Rattle.registers.specs.Resets.{restStatus, turnOf, optionTurned, bufferTurned, controlTurned}
 use Rattle.port.specs.Data.{accepted}
 use Rattle.card.specs.declared.Meaning.the-variants.{WriteOption, WriteRegister}
-use Rattle.card.specs.Access.{Access, meaning}
+use Rattle.card.specs.Access.{Asked, meaning}
 use Rattle.card.specs.Perform.{optionWritten, registerWritten, perform}
-use Rattle.card.specs.Step.{stepped, step}
+use Rattle.card.specs.Step.{step}
 use Rattle.laws.specs.Turns.{bitSeven, bitTwo, sresetEntered, sresetLeft, settingTaken, controlEntered, controlLeft, maskTaken}
 use Rattle.laws.proofs.Meant.{step-by}
 
@@ -43,15 +43,15 @@ set-by false v m e f = rw (e, f)
 pub meant-setting : (v : ℕ) (m : Machine) → bitSeven v ≡ bitSeven (m .state .option) → perform (WriteOption v) m ≡ accepted 0 (settingTaken v m)
 meant-setting v m e = set-by (bitSeven (m .state .option)) v m refl e
 
-pub sreset-entered : (m : Machine) (a : Access) (v : ℕ) → meaning m a ≡ WriteOption v → bitSeven (m .state .option) ≡ false → bitSeven v ≡ true →
-    step m a ≡ stepped (accepted 0 (sresetEntered v m))
+pub sreset-entered : (m : Machine) (a : Asked) (v : ℕ) → meaning m a ≡ WriteOption v → bitSeven (m .state .option) ≡ false → bitSeven v ≡ true →
+    step m a ≡ accepted 0 (sresetEntered v m)
 sreset-entered m a v x e f = step-by m a (WriteOption v) (accepted 0 (sresetEntered v m)) x (meant-sreset-entered v m e f)
 
-pub sreset-left : (m : Machine) (a : Access) (v : ℕ) → meaning m a ≡ WriteOption v → bitSeven (m .state .option) ≡ true → bitSeven v ≡ false →
-    step m a ≡ stepped (accepted 0 (sresetLeft v m))
+pub sreset-left : (m : Machine) (a : Asked) (v : ℕ) → meaning m a ≡ WriteOption v → bitSeven (m .state .option) ≡ true → bitSeven v ≡ false →
+    step m a ≡ accepted 0 (sresetLeft v m)
 sreset-left m a v x e f = step-by m a (WriteOption v) (accepted 0 (sresetLeft v m)) x (meant-sreset-left v m e f)
 
-pub setting-taken : (m : Machine) (a : Access) (v : ℕ) → meaning m a ≡ WriteOption v → bitSeven v ≡ bitSeven (m .state .option) → step m a ≡ stepped (accepted 0 (settingTaken v m))
+pub setting-taken : (m : Machine) (a : Asked) (v : ℕ) → meaning m a ≡ WriteOption v → bitSeven v ≡ bitSeven (m .state .option) → step m a ≡ accepted 0 (settingTaken v m)
 setting-taken m a v x e = step-by m a (WriteOption v) (accepted 0 (settingTaken v m)) x (meant-setting v m e)
 
 -- ---- Device Control
@@ -72,13 +72,13 @@ mask-by false v m e f = rw (e, f)
 pub meant-mask : (v : ℕ) (m : Machine) → bitTwo v ≡ m .state .control .held → perform (WriteRegister AlternateControl v) m ≡ accepted 0 (maskTaken v m)
 meant-mask v m e = mask-by (m .state .control .held) v m refl e
 
-pub control-entered : (m : Machine) (a : Access) (v : ℕ) → meaning m a ≡ WriteRegister AlternateControl v → m .state .control .held ≡ false → bitTwo v ≡ true →
-    step m a ≡ stepped (accepted 0 (controlEntered v m))
+pub control-entered : (m : Machine) (a : Asked) (v : ℕ) → meaning m a ≡ WriteRegister AlternateControl v → m .state .control .held ≡ false → bitTwo v ≡ true →
+    step m a ≡ accepted 0 (controlEntered v m)
 control-entered m a v x e f = step-by m a (WriteRegister AlternateControl v) (accepted 0 (controlEntered v m)) x (meant-control-entered v m e f)
 
-pub control-left : (m : Machine) (a : Access) (v : ℕ) → meaning m a ≡ WriteRegister AlternateControl v → m .state .control .held ≡ true → bitTwo v ≡ false →
-    step m a ≡ stepped (accepted 0 (controlLeft v m))
+pub control-left : (m : Machine) (a : Asked) (v : ℕ) → meaning m a ≡ WriteRegister AlternateControl v → m .state .control .held ≡ true → bitTwo v ≡ false →
+    step m a ≡ accepted 0 (controlLeft v m)
 control-left m a v x e f = step-by m a (WriteRegister AlternateControl v) (accepted 0 (controlLeft v m)) x (meant-control-left v m e f)
 
-pub mask-taken : (m : Machine) (a : Access) (v : ℕ) → meaning m a ≡ WriteRegister AlternateControl v → bitTwo v ≡ m .state .control .held → step m a ≡ stepped (accepted 0 (maskTaken v m))
+pub mask-taken : (m : Machine) (a : Asked) (v : ℕ) → meaning m a ≡ WriteRegister AlternateControl v → bitTwo v ≡ m .state .control .held → step m a ≡ accepted 0 (maskTaken v m)
 mask-taken m a v x e = step-by m a (WriteRegister AlternateControl v) (accepted 0 (maskTaken v m)) x (meant-mask v m e)

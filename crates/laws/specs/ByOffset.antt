@@ -5,15 +5,15 @@ use mathlib.Core.Bool.{Bool, true, false, not}
 use lib.Dec.{eqb}
 use Rattle.ground.specs.Choice.{pick}
 use Rattle.answers.specs.Answers.{refused}
-use Rattle.maps.specs.declared.Offset.the-variants.{At}
+use Rattle.maps.specs.Offsets.{At}
 use Rattle.maps.specs.declared.Port.{Port}
 use Rattle.registers.specs.declared.Phase.{Phase}
 use Rattle.registers.specs.declared.Phase.the-variants.{Idle, DataIn, DataOut}
 use Rattle.registers.specs.State.{withCount, withAddress}
 use Rattle.registers.specs.Machine.{Machine}
 use Rattle.port.specs.Data.{accepted}
-use Rattle.card.specs.Access.{Access}
-use Rattle.card.specs.Step.{stepped, step}
+use Rattle.card.specs.Access.{Asked}
+use Rattle.card.specs.Step.{step}
 use Rattle.laws.specs.Holds.{byteInHold, offsetOf, unmarked}
 use Rattle.laws.specs.Turns.{goingOnWith}
 
@@ -22,7 +22,7 @@ use Rattle.laws.specs.Turns.{goingOnWith}
 -- a read of offset o, in whatever map, gives v, in a Device Control hold 80H, and leaves the machine n
 abbrev pub Reads : Machine → ℕ → ℕ → Machine → Type 0
 Reads m o v n =
-    (a : Access) → offsetOf m a ≡ At o → a .write ≡ false → refused (step m a .outcome) ≡ false → step m a ≡ stepped (accepted (pick (m .state .control .held) byteInHold v) n)
+    (a : Asked) → offsetOf m a ≡ At o → a .access .write ≡ false → refused (step m a .outcome) ≡ false → step m a ≡ accepted (pick (m .state .control .held) byteInHold v) n
 
 -- "Drive/Head reads with bits 7 and 5 set; bit 6 selects LBA; bit 4 is stored", and bits 3..0 are the head
 abbrev pub headStored : ℕ → ℕ
@@ -58,7 +58,7 @@ ReadTable m =
 
 -- a write of v at offset o leaves the machine f v
 abbrev pub Writes : Machine → ℕ → (ℕ → Machine) → Type 0
-Writes m o f = (a : Access) → offsetOf m a ≡ At o → a .write ≡ true → refused (step m a .outcome) ≡ false → step m a ≡ stepped (accepted 0 (f (a .value)))
+Writes m o f = (a : Asked) → offsetOf m a ≡ At o → a .access .write ≡ true → refused (step m a .outcome) ≡ false → step m a ≡ accepted 0 (f (a .access .value))
 
 abbrev pub addressed : Machine → ℕ → ℕ → ℕ → ℕ → Machine
 addressed m sector low high head = goingOnWith (withAddress (record { sector = sector; low = low; high = high; head = head }) (m .state)) m

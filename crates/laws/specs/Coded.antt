@@ -9,7 +9,7 @@ use Rattle.registers.specs.declared.State.{State}
 use Rattle.transfers.specs.declared.Tested.{Tested}
 use Rattle.transfers.specs.declared.Tested.the-variants.{Passes, Fails}
 use Rattle.transfers.specs.Ends.{endCode}
-use Rattle.card.specs.Step.{Stepped}
+use Rattle.port.specs.Data.{Effect}
 
 -- an error is read off Status
 abbrev pub inError : ℕ → Bool
@@ -24,6 +24,6 @@ testedCode (Passes spot) = 0
 testedCode (Fails e) = endCode e 0
 
 -- after each access of a list
-abbrev pub AllCoded : List Stepped → Type 0
+abbrev pub AllCoded : List Effect → Type 0
 AllCoded [] = Unit {0}
 AllCoded (s ∷ l) = Coded (s .next .state) × AllCoded l

@@ -11,17 +11,16 @@ use Rattle.maps.specs.declared.Mode.the-variants.{PcCard, TrueIde}
 use Rattle.maps.specs.declared.Register.the-variants.{AlternateControl}
 use Rattle.maps.specs.declared.Target.the-variants.{Named}
 use Rattle.maps.specs.declared.Standing.the-variants.{There}
-use Rattle.maps.specs.Spaces.{answersAt}
-use Rattle.maps.specs.Maps.{standsAt}
+use Rattle.maps.specs.Rows.{standsAt}
 use Rattle.registers.specs.declared.State.{State}
 use Rattle.registers.specs.State.{indexIn}
 use Rattle.card.specs.declared.Meaning.{Meaning}
 use Rattle.card.specs.declared.Meaning.the-variants.{WriteOption, WriteRegister}
-use Rattle.card.specs.Access.{Access}
+use Rattle.card.specs.Access.{Asked, askedWith}
 
 -- "Attribute: … 200H the Configuration Option Register"
-abbrev pub optionAccess : ℕ → List ℕ → Access
-optionAccess v tuples = record { space = 0; width = 1; write = true; address = 0x200; value = v; tuples = tuples }
+abbrev pub optionAccess : ℕ → List ℕ → Asked
+optionAccess v tuples = askedWith (record { space = 0; width = 1; write = true; address = 0x200; value = v }) tuples
 
 -- where Device Control, offset E, stands in the map of a mode and an index: memory or I/O EH, "3F6H/376H is offset E", True IDE 16H
 unfoldable pub controlSpace : Mode → ℕ → ℕ
@@ -32,9 +31,10 @@ unfoldable pub controlAddress : Mode → ℕ → ℕ
 controlAddress PcCard index = pick (eqb index 2) 0x3F6 (pick (eqb index 3) 0x376 0xE)
 controlAddress TrueIde index = 0x16
 
-abbrev pub controlAccess : ℕ → State → List ℕ → Access
+abbrev pub controlAccess : ℕ → State → List ℕ → Asked
 controlAccess v s tuples =
-    record { space = controlSpace (s .made .mode) (indexIn (s .option)); width = 1; write = true; address = controlAddress (s .made .mode) (indexIn (s .option)); value = v; tuples = tuples }
+    let index = indexIn (s .option) in
+    askedWith (record { space = controlSpace (s .made .mode) index; width = 1; write = true; address = controlAddress (s .made .mode) index; value = v }) tuples
 
 -- what the methods mean to a well-made card: 7 in True IDE mode, where attribute memory does not answer, 10, else the write; 8 while SRESET holds, else the write
 abbrev pub optionMeaning : Mode → ℕ → Meaning
@@ -46,7 +46,6 @@ controlMeaning true v = Meaning.Refused HeldBySreset
 controlMeaning false v = WriteRegister AlternateControl v
 
 -- a byte write that reaches Device Control, were the card not held by SRESET
-pub record Reaches (s : State) (a : Access) : Type 0 where
-  pub write : a .write ≡ true
-  pub answers : answersAt (a .space) (s .made .mode) (indexIn (s .option)) ≡ true
-  pub stands : standsAt (a .space) (indexIn (s .option)) (a .address) (a .width) (a .write) (a .value) ≡ There (Named AlternateControl)
+pub record Reaches (s : State) (a : Asked) : Type 0 where
+  pub write : a .access .write ≡ true
+  pub stands : standsAt (s .made .mode) (indexIn (s .option)) (a .access) ≡ There (Named AlternateControl)

@@ -3,14 +3,13 @@ use Prim.Native.Nat.{ℕ}
 use mathlib.Core.Bool.{Bool, true, false}
 use lib.Dec.{eqb, leb}
 use Rattle.ground.specs.Choice.{pick}
-use Rattle.maps.specs.declared.Offset.{Offset}
-use Rattle.maps.specs.Offsets.{offsetAt}
+use Rattle.maps.specs.Offsets.{Offset, offsetAt}
 use Rattle.maps.specs.declared.Port.{Port}
 use Rattle.maps.specs.declared.Register.{Register}
 use Rattle.maps.specs.declared.Register.the-variants.{ErrorFeature, SectorCount, SectorNumber, CylinderLow, CylinderHigh, DriveHead, StatusCommand, AlternateControl, DriveAddress}
 use Rattle.registers.specs.State.{withInterrupt, indexIn}
 use Rattle.registers.specs.Machine.{Machine, core, withCore}
-use Rattle.card.specs.Access.{Access}
+use Rattle.card.specs.Access.{Asked}
 
 -- "While DRQ is set, writes to 1..6 and D have no effect.": Error/Feature stands at 1 and D
 abbrev pub blocked : Register → Bool
@@ -62,8 +61,8 @@ afterReading DriveAddress m = m
 
 -- ---- the same by the offset that an access reaches in the card's map, and by its width
 
-abbrev pub offsetOf : Machine → Access → Offset
-offsetOf m a = offsetAt (a .space) (indexIn (m .state .option)) (a .address)
+abbrev pub offsetOf : Machine → Asked → Offset
+offsetOf m a = offsetAt (a .access .space) (indexIn (m .state .option)) (a .access .address)
 
 -- "writes to 1..6 and D"
 abbrev pub blockedAt : ℕ → Bool

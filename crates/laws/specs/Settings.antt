@@ -13,7 +13,7 @@ use Rattle.registers.specs.declared.State.{State}
 use Rattle.registers.specs.Machine.{Machine}
 use Rattle.card.specs.declared.Meaning.{Meaning}
 use Rattle.card.specs.declared.Meaning.the-variants.{TupleByte, ReadOption, WriteOption, ReadRegister, WriteRegister, ReadData, WriteData}
-use Rattle.card.specs.Access.{Access}
+use Rattle.card.specs.Access.{Asked}
 use Rattle.card.specs.Step.{step}
 use Rattle.card.specs.Rows.{atOption, offsetIn}
 use Rattle.laws.specs.Holds.{offsetOf}
@@ -58,22 +58,22 @@ settingsAfter (WriteData port v) s = settingsOf s
 -- ---- the same by address: attribute 200H and offset E
 
 -- a write that is accepted
-abbrev pub takes : Machine → Access → Bool
-takes m a = a .write && not (refused (step m a .outcome))
+abbrev pub takes : Machine → Asked → Bool
+takes m a = a .access .write && not (refused (step m a .outcome))
 
-abbrev pub settingsTaken : Machine → Access → Settings
+abbrev pub settingsTaken : Machine → Asked → Settings
 settingsTaken m a =
-    pick (atOption (a .space) (a .address)) (optionSettings (a .value) (m .state))
-    (pick (offsetIn (0xE ∷ []) (offsetOf m a)) (record { option = m .state .option; control = controlAfter AlternateControl (a .value) (m .state .control) })
+    pick (atOption (a .access .space) (a .access .address)) (optionSettings (a .access .value) (m .state))
+    (pick (offsetIn (0xE ∷ []) (offsetOf m a)) (record { option = m .state .option; control = controlAfter AlternateControl (a .access .value) (m .state .control) })
     (settingsOf (m .state)))
 
-abbrev pub settingsAt : Machine → Access → Settings
+abbrev pub settingsAt : Machine → Asked → Settings
 settingsAt m a = pick (takes m a) (settingsTaken m a) (settingsOf (m .state))
 
 -- no access of a list writes the option, each with the card as those before it left it
-abbrev pub writesOption : Machine → Access → Bool
-writesOption m a = takes m a && atOption (a .space) (a .address)
+abbrev pub writesOption : Machine → Asked → Bool
+writesOption m a = takes m a && atOption (a .access .space) (a .access .address)
 
-abbrev pub NoOptionWrite : Machine → List Access → Type 0
+abbrev pub NoOptionWrite : Machine → List Asked → Type 0
 NoOptionWrite m [] = Unit {0}
 NoOptionWrite m (a ∷ l) = (writesOption m a ≡ false) × NoOptionWrite (step m a .next) l

@@ -13,7 +13,7 @@ use Rattle.registers.specs.Machine.{Machine, core, withCore}
 use Rattle.transfers.specs.Steps.{idleWith}
 use Rattle.card.specs.declared.Card.{Card}
 use Rattle.card.specs.declared.Meaning.the-variants.{ReadRegister}
-use Rattle.card.specs.Access.{Access, meaning}
+use Rattle.card.specs.Access.{Asked, meaning}
 use Rattle.card.specs.Step.{step}
 use Rattle.card.specs.Opening.{powered}
 use Rattle.card.specs.Doors.{machineOf}
@@ -45,7 +45,7 @@ powerOnValue AlternateControl = 0x50
 powerOnValue DriveAddress = 0x7E
 
 abbrev pub ReadsPowerOn : Machine → Type 0
-ReadsPowerOn m = (a : Access) (r : Register) → meaning m a ≡ ReadRegister r → step m a .outcome ≡ Outcome.Accepted (powerOnValue r)
+ReadsPowerOn m = (a : Asked) (r : Register) → meaning m a ≡ ReadRegister r → step m a .outcome ≡ Outcome.Accepted (powerOnValue r)
 
 -- the machine with another state, and the transfer that runs
 abbrev pub goingOnWith : State → Machine → Machine

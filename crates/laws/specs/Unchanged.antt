@@ -4,14 +4,14 @@ use mathlib.Core.Bool.{false}
 use Rattle.answers.specs.Answers.{outcomeValue}
 use Rattle.registers.specs.State.{lineOf}
 use Rattle.registers.specs.Machine.{Machine}
+use Rattle.port.specs.Data.{Effect}
 use Rattle.card.specs.declared.Card.{Card}
 use Rattle.card.specs.declared.Answer.{Answer}
-use Rattle.card.specs.Step.{Stepped}
 use Rattle.card.specs.Opening.{zeroCard}
 
--- of an access: value 0; phase, state, buffer, store and marks as they came; the line is that of the card as it came
-abbrev pub Unchanged : Machine → Stepped → Type 0
-Unchanged m s = (outcomeValue (s .outcome) ≡ 0) × (s .next ≡ m) × (s .line ≡ lineOf (m .state))
+-- of an access: value 0; phase, state, buffer, store and marks as they came, and so the line
+abbrev pub Unchanged : Machine → Effect → Type 0
+Unchanged m s = (outcomeValue (s .outcome) ≡ 0) × (s .next ≡ m)
 
 -- of a method by value
 abbrev pub SameCard : Card → Answer → Type 0

@@ -1,3 +1,4 @@
+pub mod Numbers
 pub mod ReadValue
 pub mod SameOffset
 pub mod SixFirst

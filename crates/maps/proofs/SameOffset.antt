@@ -1,17 +1,34 @@
--- Outside attribute memory space, index and address matter only through the offset: the same offset means the same in any two maps.
+-- Outside attribute memory space, index and address matter only through the offset: the same offset means the same in any two maps that answer.
 use Prim.Native.Nat.{ℕ}
 use mathlib.Core.Path.{_≡_, sym, ap, _∙_}
-use mathlib.Core.Bool.{Bool}
+use mathlib.Core.Bool.{true, false}
 use borrow.Author.Tests.{ne-eqb}
-use Rattle.maps.specs.declared.Offset.{Offset}
-use Rattle.maps.specs.Offsets.{offsetAt}
-use Rattle.maps.specs.Places.{registerAt}
-use Rattle.maps.specs.Maps.{standsAt}
+use Rattle.answers.specs.declared.Refusal.the-variants.{SpaceSilent}
+use Rattle.maps.specs.declared.Access.{Access}
+use Rattle.maps.specs.declared.Mode.{Mode}
+use Rattle.maps.specs.declared.Standing.the-variants.{Refused}
+use Rattle.maps.specs.Spaces.{answersAt}
+use Rattle.maps.specs.Offsets.{Offset, offsetAt}
+use Rattle.maps.specs.Places.{offsetPlace, mapPlace, placeAt}
+use Rattle.maps.specs.Rows.{misfits, aboveThree, standsAs, standsAt}
 
-pub by-offset : (space index address width : ℕ) (write : Bool) (value : ℕ) → (space ≡ 0 → ⊥) → standsAt space index address width write value ≡ registerAt (offsetAt space index address) width write value
-unfolding standsAt
-by-offset space index address width write value n = simp (ne-eqb _ _ n)
+-- the access at another address, of another space
+abbrev pub movedTo : ℕ → ℕ → Access → Access
+movedTo space address a = record { space = space; width = a .width; write = a .write; address = address; value = a .value }
 
-pub same-offset : (s i a t j b width : ℕ) (write : Bool) (value : ℕ) → (s ≡ 0 → ⊥) → (t ≡ 0 → ⊥) → offsetAt s i a ≡ offsetAt t j b → standsAt s i a width write value ≡ standsAt t j b width write value
-same-offset s i a t j b width write value m n e =
-    by-offset s i a width write value m ∙ ap (λ (o : Offset). registerAt o width write value) e ∙ sym (by-offset t j b width write value n)
+-- a space that does not answer
+pub silent-stands : (mode : Mode) (index : ℕ) (a : Access) → answersAt (a .space) mode index ≡ false → standsAt mode index a ≡ Refused SpaceSilent
+unfolding standsAt placeAt
+silent-stands mode index a e = simp e
+
+pub by-offset : (mode : Mode) (index : ℕ) (a : Access) → answersAt (a .space) mode index ≡ true → (a .space ≡ 0 → ⊥) →
+    standsAt mode index a ≡ standsAs (offsetPlace (offsetAt (a .space) index (a .address))) a
+unfolding standsAt placeAt mapPlace
+by-offset mode index a r n = simp (r, ne-eqb _ _ n)
+
+pub same-offset : (m n : Mode) (i j space address : ℕ) (a : Access) →
+    answersAt (a .space) m i ≡ true → (a .space ≡ 0 → ⊥) → answersAt space n j ≡ true → (space ≡ 0 → ⊥) →
+    offsetAt (a .space) i (a .address) ≡ offsetAt space j address → standsAt m i a ≡ standsAt n j (movedTo space address a)
+unfolding misfits aboveThree
+same-offset m n i j space address a p q r s e =
+    by-offset m i a p q ∙ ap (λ (o : Offset). standsAs (offsetPlace o) a) e ∙ sym (by-offset n j (movedTo space address a) r s)

@@ -1,140 +1,145 @@
 -- What is known of an access by what stands there: what a caller may rely on, and the only refusals that can come.
-use Prim.Native.Nat.{ℕ, _≤_, _/_, _%_}
+use Prim.Native.Nat.{ℕ, _≤_, _%_, _/_}
 use native.Mathlib.Omega.{arith}
-use lib.Dec.{eqb, leb, ltb}
+use lib.Dec.{eqb, leb}
 use mathlib.Core.Path.{_≡_, refl, sym, subst, _∙_}
 use mathlib.Core.Bool.{Bool, true, false, not, _&&_, _||_, true≢false}
 use borrow.Author.Tests.{eqb-true, eqb-false, leb-true, ltb-false}
 use Rattle.ground.specs.Choice.{pick}
 use Rattle.ground.proofs.Picks.{pick-elim, pick-same}
+use Rattle.ground.proofs.Tables.{lookup-elim}
 use Rattle.answers.specs.Answers.{numberOf}
 use Rattle.answers.specs.declared.Refusal.{Refusal}
-use Rattle.answers.specs.declared.Refusal.the-variants.{NoRegister}
+use Rattle.answers.specs.declared.Refusal.the-variants.{SpaceSilent, NoRegister, WidthOrValue, IndexAboveThree}
+use Rattle.maps.specs.declared.Access.{Access}
+use Rattle.maps.specs.declared.Mode.{Mode}
 use Rattle.maps.specs.declared.Register.{Register}
 use Rattle.maps.specs.declared.Port.the-variants.{Even, Odd, Word}
-use Rattle.maps.specs.declared.Target.{Target}
 use Rattle.maps.specs.declared.Target.the-variants.{Tuple, Option, Named, Data}
+use Rattle.maps.specs.declared.Place.{Place}
+use Rattle.maps.specs.declared.Place.the-variants.{Silent, Nothing, Bytes, EvenData}
 use Rattle.maps.specs.declared.Standing.{Standing}
 use Rattle.maps.specs.declared.Standing.the-variants.{There, Refused}
-use Rattle.maps.specs.declared.Offset.{Offset}
-use Rattle.maps.specs.declared.Offset.the-variants.{At, Nowhere}
-use Rattle.maps.specs.Offsets.{offsetAt}
-use Rattle.maps.specs.Places.{misfits, aboveThree, byteAt, tupleAt, optionAt, attributeAt, evenData, portAt, namedAt, sized, placeAt, registerAt}
-use Rattle.maps.specs.Maps.{standsAt}
+use Rattle.maps.specs.Spaces.{answersAt}
+use Rattle.maps.specs.Offsets.{Offset, At, Nowhere, offsetAt}
+use Rattle.maps.specs.Places.{registerTable, registerPlace, offsetPlace, attributePlace, mapPlace, placeAt}
+use Rattle.maps.specs.Rows.{silent, unregistered, evenData, misfits, option, aboveThree, moved, standsAs, standsAt}
+
+-- ---- what stands at a place, by its space
+
+-- an offset names the even data address, the odd place, a register, or nothing
+pub register-elim : (P : Place → Type 0) (offset : ℕ) → P EvenData → P (Bytes (Data Odd)) → ((r : Register) → P (Bytes (Named r))) → P Nothing → P (registerPlace offset)
+unfolding registerPlace
+register-elim P offset even odd r none =
+    lookup-elim P registerTable offset Nothing
+    (λ e. even, (λ e. even, (λ e. odd, (λ e. r _, (λ e. r _, (λ e. r _, (λ e. r _, (λ e. r _, (λ e. r _, (λ e. r _, (λ e. r _, (λ e. r _, (λ e. r _, tt)))))))))))))
+    none
+
+abbrev PlaceKnown : ℕ → Place → Type 0
+PlaceKnown space Silent = Unit {0}
+PlaceKnown space Nothing = Unit {0}
+PlaceKnown space (Bytes (Tuple number)) = (space ≡ 0) × (number ≤ 255)
+PlaceKnown space (Bytes Option) = space ≡ 0
+PlaceKnown space (Bytes (Named register)) = space ≡ 0 → ⊥
+PlaceKnown space (Bytes (Data Even)) = ⊥
+PlaceKnown space (Bytes (Data Odd)) = space ≡ 0 → ⊥
+PlaceKnown space (Bytes (Data Word)) = ⊥
+PlaceKnown space EvenData = space ≡ 0 → ⊥
+
+attribute-known : (space address : ℕ) → space ≡ 0 → PlaceKnown space (attributePlace address)
+unfolding attributePlace
+attribute-known space address z =
+    pick-elim (PlaceKnown space) (leb address 0x1FE) _ _
+    (λ e. pick-elim (PlaceKnown space) (eqb (address % 2) 0) (Bytes (Tuple (address / 2))) Nothing
+    (λ f. (z, let l : address ≤ 0x1FE = leb-true _ _ e in omega arith))
+    (λ f. tt))
+    (λ e. pick-elim (PlaceKnown space) (eqb address 0x200) (Bytes Option) Nothing (λ f. z) (λ f. tt))
+
+offset-known : (o : Offset) (space : ℕ) → (space ≡ 0 → ⊥) → PlaceKnown space (offsetPlace o)
+offset-known (At o) space n = register-elim (PlaceKnown space) o n n (λ r. n) tt
+offset-known Nowhere space n = tt
+
+place-known : (mode : Mode) (index : ℕ) (a : Access) → PlaceKnown (a .space) (placeAt mode index a)
+unfolding placeAt mapPlace
+place-known mode index a =
+    pick-elim (PlaceKnown (a .space)) (answersAt (a .space) mode index) _ _
+    (λ e. pick-elim (PlaceKnown (a .space)) (eqb (a .space) 0) _ _
+    (λ z. attribute-known (a .space) (a .address) (eqb-true _ _ z))
+    (λ z. offset-known (offsetAt (a .space) index (a .address)) (a .space) (eqb-false _ _ z)))
+    (λ e. tt)
+
+-- ---- what an access finds there
 
 -- a byte access, its value a byte if it is a write
-pub record Byte (width : ℕ) (write : Bool) (value : ℕ) : Type 0 where
-  pub one : width ≡ 1
-  pub small : write ≡ true → value ≤ 255
+pub record Byte (a : Access) : Type 0 where
+  pub one : a .width ≡ 1
+  pub small : a .write ≡ true → a .value ≤ 255
 
--- rows 6, 9 and 10 of the answers
+-- rows 7, 6, 9 and 10 of the answers
 abbrev pub ofMaps : Refusal → Bool
-ofMaps refusal = eqb (numberOf refusal) 6 || (eqb (numberOf refusal) 9 || eqb (numberOf refusal) 10)
+ofMaps r = eqb (numberOf r) 7 || (eqb (numberOf r) 6 || (eqb (numberOf r) 9 || eqb (numberOf r) 10))
 
-abbrev pub Known : ℕ → ℕ → Bool → ℕ → Standing → Type 0
-Known space width write value (There (Tuple number)) = (space ≡ 0) × (number ≤ 255) × (write ≡ false) × Byte width write value
-Known space width write value (There Option) = (space ≡ 0) × (write ≡ true → value % 64 ≤ 3) × Byte width write value
-Known space width write value (There (Named register)) = (space ≡ 0 → ⊥) × Byte width write value
-Known space width write value (There (Data Even)) = (space ≡ 0 → ⊥) × Byte width write value
-Known space width write value (There (Data Odd)) = (space ≡ 0 → ⊥) × Byte width write value
-Known space width write value (There (Data Word)) = (space ≡ 0 → ⊥) × (width ≡ 2)
-Known space width write value (Refused refusal) = ofMaps refusal ≡ true
+abbrev pub Known : Access → Standing → Type 0
+Known a (There (Tuple number)) = (a .space ≡ 0) × (number ≤ 255) × (a .write ≡ false) × Byte a
+Known a (There Option) = (a .space ≡ 0) × (a .write ≡ true → a .value % 64 ≤ 3) × Byte a
+Known a (There (Named register)) = (a .space ≡ 0 → ⊥) × Byte a
+Known a (There (Data Even)) = (a .space ≡ 0 → ⊥) × Byte a
+Known a (There (Data Odd)) = (a .space ≡ 0 → ⊥) × Byte a
+Known a (There (Data Word)) = (a .space ≡ 0 → ⊥) × (a .width ≡ 2)
+Known a (Refused refusal) = ofMaps refusal ≡ true
+
+-- the rows in turn
+pub stands-elim : (P : Standing → Type 0) (p : Place) (a : Access) →
+    P (Refused SpaceSilent) → P (Refused NoRegister) → P (Refused WidthOrValue) → P (Refused IndexAboveThree) →
+    (silent p ≡ false → unregistered p (a .write) ≡ false → misfits (evenData p) a ≡ false → (option p && aboveThree a) ≡ false → P (moved p (a .width))) →
+    P (standsAs p a)
+stands-elim P p a seven six nine ten f =
+    pick-elim P (silent p) _ _ (λ e. seven)
+    (λ s. pick-elim P (unregistered p (a .write)) _ _ (λ e. six)
+    (λ u. pick-elim P (misfits (evenData p) a) _ _ (λ e. nine)
+    (λ m. pick-elim P (option p && aboveThree a) _ _ (λ e. ten) (f s u m))))
 
 -- what is left when row 9 does not apply and no word is taken
-byte-fits : (even : Bool) (width : ℕ) (write : Bool) (value : ℕ) → pick (eqb width 2) (not even) true ≡ true → misfits even width write value ≡ false → Byte width write value
+byte-fits : (even : Bool) (a : Access) → pick (eqb (a .width) 2) (not even) true ≡ true → misfits even a ≡ false → Byte a
 unfolding misfits
-byte-fits even width write value one =
-    pick-elim (λ (t : Bool). t ≡ false → Byte width write value) (eqb width 1) _ _
-    (λ e f. record { one = eqb-true _ _ e; small = λ w. ltb-false 255 value (rw w at f) })
+byte-fits even a one =
+    pick-elim (λ (t : Bool). t ≡ false → Byte a) (eqb (a .width) 1) _ _
+    (λ e f. record { one = eqb-true _ _ e; small = λ w. ltb-false 255 (a .value) (rw w at f) })
     (λ e f. absurd (true≢false (sym one ∙ f)))
 
-byte-at-known : (target : Target) (space width : ℕ) (write : Bool) (value : ℕ) → (Byte width write value → Known space width write value (There target)) → Known space width write value (byteAt target width write value)
-unfolding byteAt
-byte-at-known target space width write value f =
-    pick-elim (Known space width write value) (misfits false width write value) _ _
-    (λ e. refl)
-    (λ e. f (byte-fits false width write value (pick-same (eqb width 2) true) e))
+single : (a : Access) → misfits false a ≡ false → Byte a
+single a = byte-fits false a (pick-same (eqb (a .width) 2) true)
 
-tuple-known : (number space width : ℕ) (write : Bool) (value : ℕ) → space ≡ 0 → number ≤ 255 → Known space width write value (tupleAt number width write value)
-unfolding tupleAt
-tuple-known number space width true value z l = refl
-tuple-known number space width false value z l = byte-at-known (Tuple number) space width false value (λ b. (z, l, refl, b))
+moved-known : (p : Place) (a : Access) → PlaceKnown (a .space) p →
+    silent p ≡ false → unregistered p (a .write) ≡ false → misfits (evenData p) a ≡ false → (option p && aboveThree a) ≡ false → Known a (moved p (a .width))
+unfolding aboveThree
+moved-known Silent a k s u m o = absurd (true≢false s)
+moved-known Nothing a k s u m o = absurd (true≢false u)
+moved-known (Bytes (Tuple number)) a k s u m o = (k .0, k .1, u, single a m)
+moved-known (Bytes Option) a k s u m o = (k, λ w. ltb-false 3 (a .value % 64) (rw w at o), single a m)
+moved-known (Bytes (Named register)) a k s u m o = (k, single a m)
+moved-known (Bytes (Data Even)) a k s u m o = absurd k
+moved-known (Bytes (Data Odd)) a k s u m o = (k, single a m)
+moved-known (Bytes (Data Word)) a k s u m o = absurd k
+moved-known EvenData a k s u m o =
+    pick-elim (λ (p : _). Known a (There (Data p))) (eqb (a .width) 2) _ _
+    (λ f. (k, eqb-true _ _ f))
+    (λ f. (k, byte-fits true a (simp f) m))
 
-option-known : (space width : ℕ) (write : Bool) (value : ℕ) → space ≡ 0 → Known space width write value (optionAt width write value)
-unfolding optionAt aboveThree
-option-known space width write value z =
-    pick-elim (Known space width write value) (misfits false width write value) _ _
-    (λ e. refl)
-    (λ e. pick-elim (Known space width write value) (write && ltb 3 (value % 64)) _ _
-    (λ a. refl)
-    (λ a. (z, λ w. ltb-false 3 (value % 64) (rw w at a), byte-fits false width write value (pick-same (eqb width 2) true) e)))
-
-attribute-known : (space address width : ℕ) (write : Bool) (value : ℕ) → space ≡ 0 → Known space width write value (attributeAt address width write value)
-unfolding attributeAt
-attribute-known space address width write value z =
-    pick-elim (Known space width write value) (leb address 0x1FE) _ _
-    (λ e. pick-elim (Known space width write value) (eqb (address % 2) 0) _ _
-    (λ f. tuple-known (address / 2) space width write value z (let l : address ≤ 0x1FE = leb-true _ _ e in omega arith))
-    (λ f. refl))
-    (λ e. pick-elim (Known space width write value) (eqb address 0x200) _ _
-    (λ f. option-known space width write value z)
-    (λ f. refl))
-
-port-known : (space width : ℕ) (write : Bool) (value : ℕ) → (space ≡ 0 → ⊥) → Known space width write value (portAt width write value)
-unfolding portAt
-port-known space width write value n =
-    pick-elim (Known space width write value) (misfits true width write value) _ _
-    (λ e. refl)
-    (λ e. pick-elim (Known space width write value) (eqb width 2) _ _
-    (λ f. (n, eqb-true _ _ f))
-    (λ f. (n, byte-fits true width write value (simp f) e)))
-
--- offsets other than 0 and 8 name the odd place, a register, or nothing
-pub named-elim : (P : Standing → Type 0) (offset : ℕ) → P (There (Data Odd)) → ((register : Register) → P (There (Named register))) → P (Refused NoRegister) → P (namedAt offset)
-unfolding namedAt
-named-elim P offset h r n =
-    pick-elim P (eqb offset 9) _ _ (λ e. h)
-    (λ e. pick-elim P (eqb offset 1) _ _ (λ e. r _)
-    (λ e. pick-elim P (eqb offset 0xD) _ _ (λ e. r _)
-    (λ e. pick-elim P (eqb offset 2) _ _ (λ e. r _)
-    (λ e. pick-elim P (eqb offset 3) _ _ (λ e. r _)
-    (λ e. pick-elim P (eqb offset 4) _ _ (λ e. r _)
-    (λ e. pick-elim P (eqb offset 5) _ _ (λ e. r _)
-    (λ e. pick-elim P (eqb offset 6) _ _ (λ e. r _)
-    (λ e. pick-elim P (eqb offset 7) _ _ (λ e. r _)
-    (λ e. pick-elim P (eqb offset 0xE) _ _ (λ e. r _)
-    (λ e. pick-elim P (eqb offset 0xF) _ _ (λ e. r _) (λ e. n)))))))))))
-
-register-known : (offset : Offset) (space width : ℕ) (write : Bool) (value : ℕ) → (space ≡ 0 → ⊥) → Known space width write value (registerAt offset width write value)
-unfolding registerAt placeAt
-register-known (At offset) space width write value n =
-    pick-elim (Known space width write value) (evenData offset) _ _
-    (λ e. port-known space width write value n)
-    (λ e. named-elim (λ (s : Standing). Known space width write value (sized s width write value)) offset
-    (byte-at-known (Data Odd) space width write value (λ b. (n, b)))
-    (λ register. byte-at-known (Named register) space width write value (λ b. (n, b)))
-    refl)
-register-known Nowhere space width write value n = refl
-
-standing-known : (space index address width : ℕ) (write : Bool) (value : ℕ) → Known space width write value (standsAt space index address width write value)
+pub stands-known : (mode : Mode) (index : ℕ) (a : Access) (s : Standing) → standsAt mode index a ≡ s → Known a s
 unfolding standsAt
-standing-known space index address width write value =
-    pick-elim (Known space width write value) (eqb space 0) _ _
-    (λ e. attribute-known space address width write value (eqb-true _ _ e))
-    (λ e. register-known (offsetAt space index address) space width write value (eqb-false _ _ e))
-
-pub stands-known : (space index address width : ℕ) (write : Bool) (value : ℕ) (s : Standing) → standsAt space index address width write value ≡ s → Known space width write value s
-stands-known space index address width write value s e = subst (Known space width write value) e (standing-known space index address width write value)
+stands-known mode index a s e =
+    subst (Known a) e (stands-elim (Known a) (placeAt mode index a) a refl refl refl refl (moved-known (placeAt mode index a) a (place-known mode index a)))
 
 -- the Configuration Option Register stands in attribute memory only, and is written with a byte whose index is at most 3
-pub option-written : (space index address width value : ℕ) → standsAt space index address width true value ≡ There Option → (space ≡ 0) × (value % 64 ≤ 3) × (value ≤ 255)
-option-written space index address width value e =
-    let f = stands-known space index address width true value _ e in
-    (f .0, f .1 refl, f .2 .small refl)
+pub option-written : (mode : Mode) (index : ℕ) (a : Access) → a .write ≡ true → standsAt mode index a ≡ There Option → (a .space ≡ 0) × (a .value % 64 ≤ 3) × (a .value ≤ 255)
+option-written mode index a w e =
+    let f = stands-known mode index a _ e in
+    (f .0, f .1 w, f .2 .small w)
 
-pub option-space : (space index address width : ℕ) (write : Bool) (value : ℕ) → standsAt space index address width write value ≡ There Option → space ≡ 0
-option-space space index address width write value e = stands-known space index address width write value _ e .0
+pub option-space : (mode : Mode) (index : ℕ) (a : Access) → standsAt mode index a ≡ There Option → a .space ≡ 0
+option-space mode index a e = stands-known mode index a _ e .0
 
 -- no other refusal comes from the maps
-pub refused-rows : (space index address width : ℕ) (write : Bool) (value : ℕ) (refusal : Refusal) → standsAt space index address width write value ≡ Refused refusal → ofMaps refusal ≡ true
-refused-rows space index address width write value refusal e = stands-known space index address width write value _ e
+pub refused-rows : (mode : Mode) (index : ℕ) (a : Access) (r : Refusal) → standsAt mode index a ≡ Refused r → ofMaps r ≡ true
+refused-rows mode index a r e = stands-known mode index a _ e

@@ -1,4 +1,4 @@
 pub mod Spaces
 pub mod Offsets
 pub mod Places
-pub mod Maps
+pub mod Rows

@@ -3,17 +3,27 @@ use Prim.Native.Nat.{ℕ, _+_, _-_, _%_}
 use lib.Dec.{eqb, leb}
 use mathlib.Core.Bool.{Bool, _&&_}
 use Rattle.ground.specs.Choice.{pick}
-use Rattle.maps.specs.declared.Offset.{Offset}
-use Rattle.maps.specs.declared.Offset.the-variants.{At, Nowhere}
+
+-- an address's offset in its map; `Nowhere` at an address that the map does not list
+pub data Offset : Type 0 where
+  At : ℕ → Offset
+  Nowhere : Offset
+
+-- as the code has it: nothing stands at offset A
+abbrev pub offsetNumber : Offset → ℕ
+offsetNumber (At o) = o
+offsetNumber Nowhere = 0xA
 
 -- Index 0, memory: 000H..3FFH by the low four bits; 400H..7FFH is data, even as offset 8, odd as offset 9.
-unfoldable pub memoryAt : ℕ → ℕ → Offset
-memoryAt index address =
-    pick (eqb index 0)
-    (pick (leb address 0x3FF) (At (address % 16))
+unfoldable pub memoryAt : ℕ → Offset
+memoryAt address =
+    pick (leb address 0x3FF) (At (address % 16))
     (pick (leb address 0x7FF) (At (8 + address % 2))
-    Nowhere))
-    Nowhere
+    Nowhere)
+
+-- Index 1, I/O 000H..7FFH by the low four bits.
+unfoldable pub contiguousAt : ℕ → Offset
+contiguousAt address = pick (leb address 0x7FF) (At (address % 16)) Nowhere
 
 unfoldable pub within : ℕ → ℕ → ℕ → Bool
 within first last address = leb first address && leb address last
@@ -26,11 +36,10 @@ windowAt first last alternate drive address =
     (pick (eqb address drive) (At 0xF)
     Nowhere))
 
--- Index 1, I/O 000H..7FFH by the low four bits. Index 2: 1F0H..1F7H, 3F6H, 3F7H. Index 3: 170H..177H, 376H, 377H.
--- 3F6H/376H is offset E, 3F7H/377H offset F.
+-- Index 2: 1F0H..1F7H, 3F6H, 3F7H. Index 3: 170H..177H, 376H, 377H. 3F6H/376H is offset E, 3F7H/377H offset F.
 unfoldable pub ioAt : ℕ → ℕ → Offset
 ioAt index address =
-    pick (eqb index 1) (pick (leb address 0x7FF) (At (address % 16)) Nowhere)
+    pick (eqb index 1) (contiguousAt address)
     (pick (eqb index 2) (windowAt 0x1F0 0x1F7 0x3F6 0x3F7 address)
     (pick (eqb index 3) (windowAt 0x170 0x177 0x376 0x377 address)
     Nowhere))
@@ -38,7 +47,7 @@ ioAt index address =
 -- True IDE (H): 00H..07H first select; 16H, 17H are offsets E, F.
 unfoldable pub offsetAt : ℕ → ℕ → ℕ → Offset
 offsetAt space index address =
-    pick (eqb space 1) (memoryAt index address)
+    pick (eqb space 1) (pick (eqb index 0) (memoryAt address) Nowhere)
     (pick (eqb space 2) (ioAt index address)
     (pick (eqb space 3) (windowAt 0x00 0x07 0x16 0x17 address)
     Nowhere))

@@ -6,12 +6,16 @@ use Rattle.ground.specs.Choice.{pick}
 use Rattle.maps.specs.declared.Mode.{Mode}
 use Rattle.maps.specs.declared.Mode.the-variants.{PcCard, TrueIde}
 
--- attribute, memory and I/O only in mode 0, memory only at index 0, I/O only at 1..3
+-- I/O only at 1..3
+abbrev pub ioAnswers : ℕ → Bool
+ioAnswers index = leb 1 index && leb index 3
+
+-- attribute, memory and I/O only in mode 0, memory only at index 0
 unfoldable pub cardAnswers : ℕ → ℕ → Bool
 cardAnswers space index =
     pick (eqb space 0) true
     (pick (eqb space 1) (eqb index 0)
-    (pick (eqb space 2) (leb 1 index && leb index 3)
+    (pick (eqb space 2) (ioAnswers index)
     false))
 
 -- True IDE space only in mode 1, no other space ever

@@ -6,8 +6,8 @@ use Rattle.geometry.specs.Next.{nextChs, nextOf}
 use Rattle.geometry.specs.Shape.{reshaped}
 use Rattle.maps.specs.Spaces.{cardAnswers, answersAt}
 use Rattle.maps.specs.Offsets.{memoryAt, within, windowAt, ioAt, offsetAt}
-use Rattle.maps.specs.Places.{misfits, byteAt, tupleAt, aboveThree, optionAt, attributeAt, evenData, portAt, namedAt, placeAt, registerAt}
-use Rattle.maps.specs.Maps.{standsAt}
+use Rattle.maps.specs.Places.{registerPlace, attributePlace, mapPlace, placeAt}
+use Rattle.maps.specs.Rows.{misfits, aboveThree}
 use Rattle.sectors.specs.Marks.{readable, writable, marksFit}
 use Rattle.sectors.specs.Sectors.{sectorOf, withSector, bufferRead, stored}
 use Rattle.identify.specs.Words.{identifyWord, identifyByte, identifyBytes}
@@ -38,7 +38,7 @@ unfolding every fits totalOf currentFor locate locateChs locateLba byLba seek re
 of-geometry = tt
 
 of-maps : Unit {0}
-unfolding answersAt cardAnswers standsAt attributeAt optionAt aboveThree tupleAt byteAt misfits registerAt placeAt portAt namedAt evenData offsetAt memoryAt ioAt windowAt within
+unfolding answersAt cardAnswers placeAt mapPlace attributePlace registerPlace misfits aboveThree offsetAt memoryAt ioAt windowAt within
 of-maps = tt
 
 of-well-made : Unit {0}

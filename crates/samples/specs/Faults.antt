@@ -6,16 +6,16 @@ use Rattle.ground.specs.Choice.{pick}
 use Rattle.answers.specs.declared.Outcome.the-variants.{Accepted}
 use Rattle.geometry.specs.declared.Address.{Address}
 use Rattle.registers.specs.declared.State.{State}
-use Rattle.registers.specs.State.{lineOf, withAddress}
+use Rattle.registers.specs.State.{withAddress}
 use Rattle.registers.specs.Machine.{Machine, machine, core, coreOf, withCore}
-use Rattle.card.specs.Access.{Access}
-use Rattle.card.specs.Step.{Stepped}
+use Rattle.port.specs.Data.{Effect}
+use Rattle.card.specs.Access.{Asked, askedWith}
 
 -- an access to memory at another address
-abbrev pub elsewhere : (ℕ → ℕ) → Access → Access
+abbrev pub elsewhere : (ℕ → ℕ) → Asked → Asked
 elsewhere f a =
-    pick (eqb (a .space) 1)
-    (record { space = a .space; width = a .width; write = a .write; address = f (a .address); value = a .value; tuples = a .tuples })
+    pick (eqb (a .access .space) 1)
+    (askedWith (record { space = 1; width = a .access .width; write = a .access .write; address = f (a .access .address); value = a .access .value }) (a .tuples))
     a
 
 -- the machine with another state, with another address in its registers, with other sectors and marks
@@ -32,11 +32,11 @@ abbrev pub withLent : List ℕ → List ℕ → Machine → Machine
 withLent store marks m = machine (coreOf m) (m .buffer) store marks
 
 -- a step that answers another value, one that leaves another machine, one that leaves another state
-abbrev pub answersWith : ℕ → Stepped → Stepped
-answersWith value s = record { outcome = Accepted value; line = s .line; next = s .next }
+abbrev pub answersWith : ℕ → Effect → Effect
+answersWith value s = record { outcome = Accepted value; next = s .next }
 
-abbrev pub leaving : Machine → Stepped → Stepped
-leaving m s = record { outcome = s .outcome; line = lineOf (m .state); next = m }
+abbrev pub leaving : Machine → Effect → Effect
+leaving m s = record { outcome = s .outcome; next = m }
 
-abbrev pub altered : (State → State) → Stepped → Stepped
+abbrev pub altered : (State → State) → Effect → Effect
 altered f s = leaving (withState (f (s .next .state)) (s .next)) s

@@ -11,7 +11,7 @@ use Rattle.registers.specs.State.{runs}
 use Rattle.registers.specs.Machine.{Machine}
 use Rattle.card.specs.declared.Meaning.{Meaning}
 use Rattle.card.specs.declared.Meaning.the-variants.{TupleByte, ReadOption, WriteOption, ReadRegister, WriteRegister, ReadData, WriteData}
-use Rattle.card.specs.Access.{Access, meaning}
+use Rattle.card.specs.Access.{Asked, meaning}
 use Rattle.card.specs.Step.{step}
 
 -- 01, "Offsets"; Error/Feature is also at D
@@ -49,26 +49,26 @@ opcodeIn (ReadData p) = 0x100
 opcodeIn (WriteData p v) = 0x100
 
 -- the access reads the register at an offset
-abbrev pub readsAt : ℕ → Machine → Access → Bool
+abbrev pub readsAt : ℕ → Machine → Asked → Bool
 readsAt offset m a = eqb (readIn (meaning m a)) offset
 
 -- it gives a command; any command; one that moves sectors: 20H 21H, 30H 31H, 40H 41H, C0H
-abbrev pub gives : ℕ → Machine → Access → Bool
+abbrev pub gives : ℕ → Machine → Asked → Bool
 gives opcode m a = eqb (opcodeIn (meaning m a)) opcode
 
-abbrev pub givesAny : Machine → Access → Bool
+abbrev pub givesAny : Machine → Asked → Bool
 givesAny m a = ltb (opcodeIn (meaning m a)) 0x100
 
-abbrev pub givesSectors : Machine → Access → Bool
+abbrev pub givesSectors : Machine → Asked → Bool
 givesSectors m a = gives 0x20 m a || gives 0x21 m a || gives 0x30 m a || gives 0x31 m a || gives 0x40 m a || gives 0x41 m a || gives 0xC0 m a
 
 -- it gives a command, or comes while one moves its data
-abbrev pub inCommand : Machine → Access → Bool
+abbrev pub inCommand : Machine → Asked → Bool
 inCommand m a = givesAny m a || runs (m .phase)
 
 -- a command ended in IDNF with this code; this access ends one so
 abbrev pub idnfIn : ℕ → State → Bool
 idnfIn code s = eqb (s .registers .status) 0x51 && (eqb (s .registers .error) 0x10 && eqb (s .code) code)
 
-abbrev pub endsInIdnf : ℕ → Machine → Access → Bool
+abbrev pub endsInIdnf : ℕ → Machine → Asked → Bool
 endsInIdnf code m a = inCommand m a && idnfIn code (step m a .next .state)

@@ -6,9 +6,10 @@ use lib.ListN.{replicate}
 use lib.Dec.{eqb}
 use Rattle.answers.specs.Answers.{outcomeNumber, outcomeValue}
 use Rattle.geometry.specs.declared.Geometry.{Geometry}
+use Rattle.registers.specs.State.{lineOf}
 use Rattle.registers.specs.Machine.{Machine}
-use Rattle.card.specs.Access.{Access}
-use Rattle.card.specs.Step.{Stepped}
+use Rattle.port.specs.Data.{Effect}
+use Rattle.card.specs.Access.{Asked, askedWith}
 use Rattle.card.specs.Opening.{opened}
 use Rattle.card.specs.Doors.{machineOf}
 use Rattle.ground.specs.Lists.{listed}
@@ -26,7 +27,7 @@ levelFits Down up = not up
 
 -- an access, and what it must answer
 pub record Line : Type 0 where
-  pub access : Access
+  pub access : Asked
   pub number : ℕ
   pub value : ℕ
   pub level : Level
@@ -58,7 +59,7 @@ opening mode = machineOf (opened geometry mode store marks tuples .card) store m
 
 abbrev pub reads : ℕ → ℕ → ℕ → ℕ → Line
 reads space width address value = record {
-  access = record { space = space; width = width; write = false; address = address; value = 0; tuples = tuples };
+  access = askedWith (record { space = space; width = width; write = false; address = address; value = 0 }) tuples;
   number = 0;
   value = value;
   level = Either;
@@ -66,7 +67,7 @@ reads space width address value = record {
 
 abbrev pub writes : ℕ → ℕ → ℕ → ℕ → Line
 writes space width address value = record {
-  access = record { space = space; width = width; write = true; address = address; value = value; tuples = tuples };
+  access = askedWith (record { space = space; width = width; write = true; address = address; value = value }) tuples;
   number = 0;
   value = 0;
   level = Either;
@@ -80,9 +81,9 @@ abbrev pub leavesDown : Line → Line
 leavesDown l = record { access = l .access; number = l .number; value = l .value; level = Down }
 
 -- do the answers of a machine agree with the lines?
-unfoldable pub agrees : (Machine → Access → Stepped) → Machine → List Line → Bool
+unfoldable pub agrees : (Machine → Asked → Effect) → Machine → List Line → Bool
 agrees turn m [] = true
 agrees turn m (l ∷ more) =
     let s = turn m (l .access) in
     let rest = agrees turn (s .next) more in
-    eqb (outcomeNumber (s .outcome)) (l .number) && (eqb (outcomeValue (s .outcome)) (l .value) && (levelFits (l .level) (s .line) && rest))
+    eqb (outcomeNumber (s .outcome)) (l .number) && (eqb (outcomeValue (s .outcome)) (l .value) && (levelFits (l .level) (lineOf (s .next .state)) && rest))

@@ -7,8 +7,8 @@ use lib.ListN.{length, replicate}
 use Rattle.answers.specs.declared.Outcome.{Outcome}
 use Rattle.answers.specs.Answers.{outcomeNumber, outcomeValue}
 use Rattle.registers.specs.Machine.{Machine}
-use Rattle.card.specs.Access.{Access}
-use Rattle.card.specs.Step.{Stepped}
+use Rattle.port.specs.Data.{Effect}
+use Rattle.card.specs.Access.{Asked}
 use Rattle.tuples.specs.declared.Entry.{Entry}
 use Rattle.tuples.specs.Chain.{noEntry}
 use Rattle.tuples.specs.Read.{listPlaces, readOutcome, readList}
@@ -38,14 +38,14 @@ readsAs r entries =
     && (eqb (outcomeValue (r .outcome)) (length entries)
     && sameEntries entries (r .list))
 
-unfoldable pub holdsOf : (Machine → Access → Stepped) → (List ℕ → List Entry → Reading) → Sample → Bool
+unfoldable pub holdsOf : (Machine → Asked → Effect) → (List ℕ → List Entry → Reading) → Sample → Bool
 holdsOf turn read (Accesses mode lines) = agrees turn (opening mode) lines
 holdsOf turn read (Tuples bytes entries) = readsAs (read (filledUp bytes) (replicate listPlaces noEntry)) entries
 
-unfoldable pub allOf : (Machine → Access → Stepped) → (List ℕ → List Entry → Reading) → List Sample → Bool
+unfoldable pub allOf : (Machine → Asked → Effect) → (List ℕ → List Entry → Reading) → List Sample → Bool
 allOf turn read [] = true
 allOf turn read (s ∷ l) = let rest = allOf turn read l in holdsOf turn read s && rest
 
 -- the samples as a demand on any machine and any tuple reader
-unfoldable pub passes : (Machine → Access → Stepped) → (List ℕ → List Entry → Reading) → Bool
+unfoldable pub passes : (Machine → Asked → Effect) → (List ℕ → List Entry → Reading) → Bool
 passes turn read = allOf turn read samples

@@ -14,8 +14,9 @@ use Rattle.registers.specs.declared.Phase.the-variants.{Idle, DataIn, DataOut}
 use Rattle.registers.specs.State.{withCode, withAddress, totalIn}
 use Rattle.registers.specs.Machine.{Machine}
 use Rattle.commands.specs.Table.{commandGiven}
-use Rattle.card.specs.Access.{Access, meaning}
-use Rattle.card.specs.Step.{Stepped, step}
+use Rattle.port.specs.Data.{Effect}
+use Rattle.card.specs.Access.{Asked, meaning}
+use Rattle.card.specs.Step.{step}
 use Rattle.samples.specs.Kinds.{opcodeIn, givesAny, givesSectors, inCommand, idnfIn, endsInIdnf}
 use Rattle.samples.specs.Faults.{addressIn, atAddress, withLent, leaving, altered}
 
@@ -30,23 +31,23 @@ forth m = withLent (firstLast 512 (m .store)) (firstLast 1 (m .marks)) m
 abbrev pub back : Machine → Machine
 back m = withLent (firstLast (length (m .store) - 512) (m .store)) (firstLast (length (m .marks) - 1) (m .marks)) m
 
-unfoldable pub oneTooFar : Machine → Access → Stepped
+unfoldable pub oneTooFar : Machine → Asked → Effect
 oneTooFar m a = let s = step (forth m) a in pick (inCommand m a && not (byLba (addressIn m))) (leaving (back (s .next)) s) (step m a)
 
 -- "s 1..S": here 0 is taken for 1
 abbrev pub fromOne : Address → Address
 fromOne a = record { sector = 1; low = a .low; high = a .high; head = a .head }
 
-unfoldable pub takesSectorZero : Machine → Access → Stepped
+unfoldable pub takesSectorZero : Machine → Asked → Effect
 takesSectorZero m a =
     pick (givesSectors m a && (not (byLba (addressIn m)) && eqb (addressIn m .sector) 0)) (step (atAddress (fromOne (addressIn m)) m) a) (step m a)
 
 -- "Otherwise bad cylinder or LBA: 2FH.": here a bad cylinder is 21H
-unfoldable pub badCylinder21 : Machine → Access → Stepped
+unfoldable pub badCylinder21 : Machine → Asked → Effect
 badCylinder21 m a = let s = step m a in pick (endsInIdnf 0x2F m a && not (byLba (addressIn (s .next)))) (altered (withCode 0x21) s) s
 
 -- "Bad head or sector: code 21H. Otherwise …": here the cylinder is tested first
-unfoldable pub cylinderFirst : Machine → Access → Stepped
+unfoldable pub cylinderFirst : Machine → Asked → Effect
 cylinderFirst m a =
     let s = step m a in
     pick (endsInIdnf 0x21 m a && leb (m .state .current .cylinders) (cylinderOf (addressIn (s .next)))) (altered (withCode 0x2F) s) s
@@ -65,14 +66,14 @@ movedBy Idle = 0x100
 movedBy (DataIn t) = 0x20
 movedBy (DataOut t) = 0x30
 
-unfoldable pub pastEndAsZero : Machine → Access → Stepped
+unfoldable pub pastEndAsZero : Machine → Asked → Effect
 pastEndAsZero m a =
     let s = step m a in
     let opcode = pick (givesAny m a) (opcodeIn (meaning m a)) (movedBy (m .phase)) in
     pick (endsInIdnf 0x2F m a) (leaving (fromSectorZero 256 opcode (s .next)) s) s
 
 -- LBA "below N": here a command's first sector is below the current C·H·S
-unfoldable pub lbaBelowCurrent : Machine → Access → Stepped
+unfoldable pub lbaBelowCurrent : Machine → Asked → Effect
 lbaBelowCurrent m a =
     let here = addressIn m in
     pick (givesSectors m a && (byLba here && leb (capacityOf (m .state .current)) (lbaOf here)))

@@ -14,7 +14,7 @@ use Rattle.answers.specs.declared.Refusal.the-variants.{GeometryOrMode}
 use Rattle.geometry.specs.Limits.{capacityOf}
 use Rattle.registers.specs.Machine.{Machine}
 use Rattle.card.specs.declared.Card.{Card}
-use Rattle.card.specs.Access.{Access}
+use Rattle.card.specs.Access.{Asked}
 use Rattle.card.specs.Step.{play, step}
 use Rattle.card.specs.Doors.{machineOf}
 use Rattle.card.specs.Opening.{opened}
@@ -56,13 +56,13 @@ script-short (suc n) bound part tuples at h g =
     (λ e. turn-short (nextRecord part at) bound part tuples (scriptFrom n part tuples) at h (leb-false _ _ e) refl (λ next k. script-short n bound part tuples next h k))
 
 -- no more text than a line of 15 bytes for each access
-lines-length : (l : List Access) (m : Machine) (number : ℕ) → number + length l ≤ 10000 → length (linesOf number l (play m l .steps)) ≤ 15 * length l
+lines-length : (l : List Asked) (m : Machine) (number : ℕ) → number + length l ≤ 10000 → length (linesOf number l (play m l .steps)) ≤ 15 * length l
 unfolding play
 lines-length [] m number h = omega arith
 lines-length (a ∷ l) m number h =
     let o = step m a .outcome in
     let w : wrapped (number + 1) ≡ number + 1 = mod-eq-of-lt (omega arith) in
-    let f = line-length number (a .write) o (shownValue o (a .write) (a .value)) (omega arith) in
+    let f = line-length number (a .access .write) o (shownValue o (a .access .write) (a .access .value)) (omega arith) in
     let g = subst (λ (n : ℕ). length (linesOf n l (play (step m a .next) l .steps)) ≤ 15 * length l) (sym w) (lines-length l (step m a .next) (number + 1) (omega arith)) in
     let e = length-append (lineText number a o) (linesOf (wrapped (number + 1)) l (play (step m a .next) l .steps)) in
     omega arith

@@ -6,9 +6,10 @@ use native.Mathlib.Omega.{arith}
 use lib.ListN.{length}
 use borrow.Author.Tests.{le-leb, lt-leb}
 use Rattle.registers.specs.Machine.{Machine}
-use Rattle.card.specs.Access.{Access}
-use Rattle.card.specs.Step.{Stepped, play, step}
-use Rattle.maps.specs.declared.Access as maps
+use Rattle.port.specs.Data.{Effect}
+use Rattle.card.specs.Access.{Asked, askedWith}
+use Rattle.card.specs.Step.{play, step}
+use Rattle.maps.specs.declared.Access.{Access}
 use Rattle.records.specs.declared.After.{After}
 use Rattle.records.specs.declared.Break.{Break}
 use Rattle.session.specs.declared.Ending.{Ending}
@@ -16,7 +17,7 @@ use Rattle.session.specs.declared.Ending.the-variants.{Whole, Broken}
 use Rattle.records.specs.Record.{nextRecord, sizeOf}
 use Rattle.text.specs.Text.{bad}
 use Rattle.text.specs.Output.{Output, put}
-use Rattle.session.specs.Run.{Script, ends, goesOn, accessOf, scriptFrom, wrapped, lineText, endText, Result, resultOf, Shown, shownAt}
+use Rattle.session.specs.Run.{Script, ends, goesOn, scriptFrom, wrapped, lineText, endText, Result, resultOf, Shown, shownAt}
 use Rattle.text.proofs.Outputs.{put-then}
 
 -- the part's end, a broken record, an access
@@ -30,8 +31,8 @@ script-stop : (n k : ℕ) (part tuples : List ℕ) (at : ℕ) (why : Break) → 
 unfolding scriptFrom
 script-stop n k part tuples at why h g e = rw h (simp (lt-leb _ _ g, e))
 
-script-access : (n k : ℕ) (part tuples : List ℕ) (at : ℕ) (q : maps.Access) → n ≡ suc k → at < length part → nextRecord part at ≡ After.Access q →
-    scriptFrom n part tuples at ≡ goesOn (accessOf q tuples) (scriptFrom k part tuples (at + sizeOf (q .write)))
+script-access : (n k : ℕ) (part tuples : List ℕ) (at : ℕ) (q : Access) → n ≡ suc k → at < length part → nextRecord part at ≡ After.Access q →
+    scriptFrom n part tuples at ≡ goesOn (askedWith q tuples) (scriptFrom k part tuples (at + sizeOf (q .write)))
 unfolding scriptFrom
 script-access n k part tuples at q h g e = rw h (simp (lt-leb _ _ g, e))
 
@@ -48,7 +49,7 @@ result-ends : (first number done : ℕ) (m : Machine) (at : ℕ) (e : Ending) �
 unfolding resultOf play
 result-ends first number done m at e = let z : done + 0 ≡ done = omega arith in rw z
 
-result-goes-on : (first number done : ℕ) (m : Machine) (a : Access) (s : Script) →
+result-goes-on : (first number done : ℕ) (m : Machine) (a : Asked) (s : Script) →
     resultOf first number done m (goesOn a s) ≡ ahead (lineText number a (step m a .outcome)) (resultOf first (wrapped (number + 1)) (done + 1) (step m a .next) s)
 unfolding resultOf play
 result-goes-on first number done m a s =
@@ -81,16 +82,16 @@ pub lines-stop : (o : Output) (first number done at : ℕ) (part tuples : List �
 lines-stop o first number done at part tuples m why h g e =
     lines-ended o first number done at part tuples m (Broken why) (script-stop (length part - done) (length part - (done + 1)) part tuples at why (omega arith) g e)
 
-pub lines-turn : (o o′ : Output) (first number done at : ℕ) (part tuples : List ℕ) (m : Machine) (q : maps.Access) (s : Stepped) →
-    done ≤ at → at < length part → nextRecord part at ≡ After.Access q → s ≡ step m (accessOf q tuples) →
-    o′ ≡ put o (lineText number (accessOf q tuples) (s .outcome)) →
+pub lines-turn : (o o′ : Output) (first number done at : ℕ) (part tuples : List ℕ) (m : Machine) (q : Access) (s : Effect) →
+    done ≤ at → at < length part → nextRecord part at ≡ After.Access q → s ≡ step m (askedWith q tuples) →
+    o′ ≡ put o (lineText number (askedWith q tuples) (s .outcome)) →
     toCome o′ first (wrapped (number + 1)) (done + 1) (s .next) part tuples (at + sizeOf (q .write)) ≡ toCome o first number done m part tuples at
 lines-turn o o′ first number done at part tuples m q s h g e f p =
-    let a = accessOf q tuples in
+    let a = askedWith q tuples in
     let rest = scriptFrom (length part - (done + 1)) part tuples (at + sizeOf (q .write)) in
-    let after : Stepped → Result = λ (s : Stepped). resultOf first (wrapped (number + 1)) (done + 1) (s .next) rest in
+    let after : Effect → Result = λ (s : Effect). resultOf first (wrapped (number + 1)) (done + 1) (s .next) rest in
     ap (λ (x : Output). shownAt x (after s)) p
-    ∙ ap (λ (s : Stepped). shownAt (put o (lineText number a (s .outcome))) (after s)) f
+    ∙ ap (λ (s : Effect). shownAt (put o (lineText number a (s .outcome))) (after s)) f
     ∙ sym (shown-ahead o (lineText number a (step m a .outcome)) (after (step m a)))
     ∙ ap (shownAt o) (sym (result-goes-on first number done m a rest))
     ∙ ap (λ (s : Script). shownAt o (resultOf first number done m s)) (sym (script-access (length part - done) (length part - (done + 1)) part tuples at q (omega arith) g e))

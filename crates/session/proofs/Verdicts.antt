@@ -12,14 +12,15 @@ use Rattle.answers.specs.declared.Refusal.the-variants.{NotWellMade, StoreLengt
 use Rattle.registers.specs.State.{totalIn}
 use Rattle.registers.specs.Machine.{Machine}
 use Rattle.registers.specs.WellMade.{wellMade}
-use Rattle.card.specs.Access.{Access, verdictBy, verdictOf}
-use Rattle.card.specs.Step.{Stepped, step, fitStep}
+use Rattle.port.specs.Data.{Effect}
+use Rattle.card.specs.Access.{Asked, verdictBy, verdictOf}
+use Rattle.card.specs.Perform.{perform}
+use Rattle.card.specs.Step.{step, fitStep, byVerdict}
 use Rattle.card.proofs.Verdicts.{verdict-step}
 use Rattle.kept.specs.Sound.{CountFits, Sound}
 use Rattle.kept.proofs.Step.{fit-step-sound}
 use Rattle.card.specs.declared.Verdict.{Verdict}
 use Rattle.card.specs.declared.Verdict.the-variants.{Fit, Refused}
-use Rattle.card.specs.Verdict.{byVerdict}
 
 not-fit : (r : Refusal) → Fit ≡ Refused r → ⊥
 not-fit r e = let z : _≡_ {A = ℕ} 0 1 = cc in omega arith
@@ -44,14 +45,15 @@ sound-fit : (m : Machine) (tuples : List ℕ) → Sound m → length tuples ≡ 
 unfolding verdictOf
 sound-fit m tuples s t = sym (rw (s .made, eq-eqb _ _ (s .store), eq-eqb _ _ (s .marks), eq-eqb _ _ t) refl)
 
-verdict-kept : (v : Verdict) (m : Machine) (a : Access) → VerdictIs v m (a .tuples) → CountFits (m .state) → length (m .buffer) ≡ 512 → VerdictIs v (byVerdict v m a .next) (a .tuples)
+verdict-kept : (v : Verdict) (m : Machine) (a : Asked) → VerdictIs v m (a .tuples) → CountFits (m .state) → length (m .buffer) ≡ 512 → VerdictIs v (byVerdict v m a .next) (a .tuples)
+unfolding perform
 verdict-kept Fit m a e b l =
     let h = fit-sound m (a .tuples) e b l in
     sound-fit (fitStep m a .next) (a .tuples) (fit-step-sound m a (h .0)) (h .1)
 verdict-kept (Refused r) m a e b l = e
 
 -- what an access of a run leaves is the card's step, and the verdict stands
-pub steady : (v : Verdict) (m : Machine) (a : Access) (s : Stepped) → VerdictIs v m (a .tuples) → CountFits (m .state) → length (m .buffer) ≡ 512 → s ≡ byVerdict v m a →
+pub steady : (v : Verdict) (m : Machine) (a : Asked) (s : Effect) → VerdictIs v m (a .tuples) → CountFits (m .state) → length (m .buffer) ≡ 512 → s ≡ byVerdict v m a →
     (s ≡ step m a) × VerdictIs v (s .next) (a .tuples)
 steady v m a s e b l f =
     (f ∙ ap (λ (x : Verdict). byVerdict x m a) e ∙ verdict-step m a, rw f (verdict-kept v m a e b l))

@@ -7,10 +7,10 @@ use Rattle.ground.specs.Choice.{pick}
 use Rattle.answers.specs.Answers.{numberOf, outcomeNumber}
 use Rattle.answers.specs.declared.Outcome.{Outcome}
 use Rattle.registers.specs.Machine.{Machine}
-use Rattle.card.specs.Access.{Access}
-use Rattle.card.specs.Step.{Stepped, Played, play}
+use Rattle.port.specs.Data.{Effect}
+use Rattle.card.specs.Access.{Asked, askedWith}
+use Rattle.card.specs.Step.{Played, play}
 use Rattle.card.specs.Doors.{machineOf}
-use Rattle.maps.specs.declared.Access as maps
 use Rattle.records.specs.declared.After.{After}
 use Rattle.session.specs.declared.Ending.{Ending}
 use Rattle.session.specs.declared.Ending.the-variants.{Whole, Broken, Unopened}
@@ -22,21 +22,18 @@ use Rattle.text.specs.Output.{Output, output, put, heldIn}
 
 -- what the records of a part ask for: its accesses, and the place where it ends and how
 pub record Script : Type 0 where
-  pub accesses : List Access
+  pub accesses : List Asked
   pub place : ℕ
   pub end : Ending
 
 abbrev pub ends : ℕ → Ending → Script
 ends place e = record { accesses = []; place = place; end = e }
 
-abbrev pub goesOn : Access → Script → Script
+abbrev pub goesOn : Asked → Script → Script
 goesOn a s = record { accesses = a ∷ s .accesses; place = s .place; end = s .end }
 
-abbrev pub accessOf : maps.Access → List ℕ → Access
-accessOf a tuples = record { space = a .space; width = a .width; write = a .write; address = a .address; value = a .value; tuples = tuples }
-
 abbrev pub byAfter : After → (ℕ → Script) → List ℕ → ℕ → Script
-byAfter (After.Access a) rest tuples at = goesOn (accessOf a tuples) (rest (at + sizeOf (a .write)))
+byAfter (After.Access a) rest tuples at = goesOn (askedWith a tuples) (rest (at + sizeOf (a .write)))
 byAfter (After.Stop why) rest tuples at = ends at (Broken why)
 
 -- at most so many accesses, from a place on: "accesses before it stand", and nothing after it
@@ -49,10 +46,10 @@ scriptFrom (suc most) part tuples at =
 abbrev pub wrapped : ℕ → ℕ
 wrapped n = n % 2 ^ 64
 
-abbrev pub lineText : ℕ → Access → Outcome → List ℕ
-lineText number a o = line number (a .write) (outcomeNumber o) (shownValue o (a .write) (a .value))
+abbrev pub lineText : ℕ → Asked → Outcome → List ℕ
+lineText number a o = line number (a .access .write) (outcomeNumber o) (shownValue o (a .access .write) (a .access .value))
 
-abbrev pub linesOf : ℕ → List Access → List Stepped → List ℕ
+abbrev pub linesOf : ℕ → List Asked → List Effect → List ℕ
 linesOf number [] steps = []
 linesOf number (a ∷ l) [] = []
 linesOf number (a ∷ l) (s ∷ steps) = lineText number a (s .outcome) ++ linesOf (wrapped (number + 1)) l steps
@@ -75,7 +72,7 @@ pub record Result : Type 0 where
   pub machine : Machine
   pub session : Session
 
-abbrev pub sessionBy : List Stepped → ℕ → ℕ → ℕ → Script → Session
+abbrev pub sessionBy : List Effect → ℕ → ℕ → ℕ → Script → Session
 sessionBy steps first number done s =
     record {
       place = wrapped (first + s .place);

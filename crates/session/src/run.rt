@@ -4,9 +4,9 @@ use super::Ran;
 use super::Told;
 use answers::Outcome;
 use card::Card;
-use card::Reply;
 use card::Verdict;
 use maps::Access;
+use port::Done;
 use records::After;
 use registers::Core;
 use text::digits::LineNumber;
@@ -15,14 +15,15 @@ ghost use Prim.Native.Nat.{_+_, _<_};
 ghost use lib.ListN.{length};
 ghost use Rattle.ground.specs.Choice.{pick};
 ghost use Rattle.registers.specs.Machine.{machine};
-ghost use Rattle.card.specs.Step.{replied, step};
+ghost use Rattle.port.specs.Data.{effect};
+ghost use Rattle.card.specs.Step.{step};
 ghost use Rattle.card.specs.Doors.{machineOf, cardOf};
 ghost use Rattle.answers.specs.Answers.{outcomeNumber};
 ghost use Rattle.text.specs.Text.{line, shownValue};
 ghost use Rattle.text.specs.Digits.{lineNumber, hexTable};
 ghost use Rattle.text.specs.Output.{output, put};
-ghost use Rattle.session.specs.Run.{wrapped, accessOf, scriptFrom, resultOf, shownAt, shown, ranAs};
-ghost use Rattle.card.specs.Access.{verdictOf};
+ghost use Rattle.session.specs.Run.{wrapped, scriptFrom, resultOf, shownAt, shown, ranAs};
+ghost use Rattle.card.specs.Access.{askedWith, verdictOf};
 
 fn written_or_read(write: bool, value: u16, read: u16) -> u16
     ensures { λ r. ⌜ r ≡ pick write value read ⌝ }
@@ -77,26 +78,14 @@ fn answer(
     store: &mut [u8],
     marks: &mut [u8],
     tuples: &[u8],
-) -> Reply
+) -> Done
     requires { ⌜ verdict ≡ verdictOf (core .phase) (core .state) (now store) (now marks) (now tuples) ⌝ }
-    ensures { λ r. ⌜ replied r (now (buffer .exit)) (now (store .exit)) (now (marks .exit)) ≡ step (machine core (now (buffer .entry)) (now (store .entry)) (now (marks .entry))) (accessOf access (now (tuples .entry))) ⌝ }
+    ensures { λ r. ⌜ effect r (now (buffer .exit)) (now (store .exit)) (now (marks .exit)) ≡ step (machine core (now (buffer .entry)) (now (store .entry)) (now (marks .entry))) (askedWith access (now (tuples .entry))) ⌝ }
     ensures { λ r. ⌜ verdict ≡ verdictOf (r .core .phase) (r .core .state) (now (store .exit)) (now (marks .exit)) (now (tuples .entry)) ⌝ }
 {
     ground::length_known(buffer);
     count_known(core);
-    card::by_verdict(
-        verdict,
-        core,
-        access.space,
-        access.width,
-        access.write,
-        access.address,
-        access.value,
-        buffer,
-        store,
-        marks,
-        tuples,
-    )
+    card::step::by_verdict(verdict, core, access, buffer, store, marks, tuples)
 }
 
 // The line of an access, by its number's last digits.
@@ -195,7 +184,7 @@ pub(crate) fn run_from(
         phase: phase,
         state: state,
     };
-    let verdict = card::verdict_of(core, store, marks, tuples);
+    let verdict = card::access::verdict_of(core, store, marks, tuples);
     lines(
         verdict,
         card,

@@ -5,6 +5,7 @@ use crate::words::Words;
 use crate::words::low;
 use card::Answer;
 use card::Card;
+use maps::Access;
 
 // The A line.
 fn answer_line(answer: Answer) {
@@ -25,18 +26,8 @@ fn open(w: Words, store: &[u8], marks: &[u8], tuples: &[u8]) -> Card {
     answer.card
 }
 
-fn access(
-    card: Card,
-    space: u8,
-    width: u8,
-    write: bool,
-    address: u16,
-    value: u16,
-    store: &mut [u8],
-    marks: &mut [u8],
-    tuples: &[u8],
-) -> Card {
-    let answer = card.access(space, width, write, address, value, store, marks, tuples);
+fn access(card: Card, access: Access, store: &mut [u8], marks: &mut [u8], tuples: &[u8]) -> Card {
+    let answer = card.access(access, store, marks, tuples);
     answer_line(answer);
     answer.card
 }
@@ -68,17 +59,14 @@ fn accesses(card: Card, w: Words, store: &mut [u8], marks: &mut [u8], tuples: &[
     let mut value = w.w5;
     let mut i: u16 = 0;
     while i < n {
-        c = access(
-            c,
-            space,
-            width,
-            w.w3 != 0,
-            w.w4,
-            value,
-            store,
-            marks,
-            tuples,
-        );
+        let asked = Access {
+            space: space,
+            width: width,
+            value: value,
+            address: w.w4,
+            write: w.w3 != 0,
+        };
+        c = access(c, asked, store, marks, tuples);
         value = next_value(value, width, w.w7);
         i += 1;
     }

@@ -1,4 +1,4 @@
-use borrow.Author.Tests.{eq-eqb, ne-eqb}
+use borrow.Author.Tests.{ne-eqb}
 use borrow.Author.Needs.{needs}
 use Rattle.records.proofs.kind_at.Statement.{statement}
 use Rattle.records.proofs.kind_at.Tie as tie

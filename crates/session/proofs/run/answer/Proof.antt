@@ -1,5 +1,5 @@
+use Rattle.card.specs.Access.{askedWith}
 use Rattle.registers.specs.Machine.{machine}
-use Rattle.session.specs.Run.{accessOf}
 use Rattle.session.proofs.Verdicts.{steady}
 use borrow.Author.Needs.{needs}
 use Rattle.session.proofs.run.answer.Statement.{statement}
@@ -28,7 +28,7 @@ returns c =
     let c14 = c9 .before .before .before .before .before in
     let a = c14 .args in
     let m = machine (a .core) (a .buffer .now) (a .store .now) (a .marks .now) in
-    steady (a .verdict) m (accessOf (a .access) (a .tuples .now)) _ (c14 .pre) (c8 .count-known .ensures) (c9 .length-known .ensures) (c4 .by-verdict .ensures)
+    steady (a .verdict) m (askedWith (a .access) (a .tuples .now)) _ (c14 .pre) (c8 .count-known .ensures) (c9 .length-known .ensures) (c4 .by-verdict .ensures)
 
 pub answer-spec : {M : Type 1} → statement M
 answer-spec =

@@ -13,7 +13,7 @@ use Rattle.records.specs.Record.{nextRecord}
 use Rattle.records.proofs.Fits.{access-fits}
 use Rattle.text.specs.Text.{bad}
 use Rattle.text.specs.Digits.{lineNumber, nextNumber}
-use Rattle.text.specs.Output.{Output, output, put}
+use Rattle.text.specs.Output.{output, put}
 use Rattle.text.proofs.Numerals.{next-number, own-number}
 use Rattle.session.specs.Run.{wrapped, scriptFrom, resultOf, shownAt}
 use Rattle.session.proofs.Runs.{toCome, stopsAt, lines-end, lines-stop, lines-turn}
