@@ -2,7 +2,7 @@
 import sessions
 
 OFF_LINE = 0.01  # of the whole cost: access numbers grow by a digit, and their text with them
-MOST = {"words": 240, "bytes": 240, "polling": None, "errors": None}  # instructions an access, by session; None: no bound
+MOST = {"words": 155, "bytes": 180, "polling": 152, "errors": 190}  # instructions an access, by session; None: no bound
 
 
 class Fault(Exception):
