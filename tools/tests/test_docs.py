@@ -143,15 +143,15 @@ def test_must_fail_edits_that_the_docs_name_are_there():
 
 
 def test_proofs_stand_where_the_docs_say():
-    """proofs/m/f for `f` of src/m.rt, proofs/f for one of lib.rt or main.rt, proofs/T/f for the method `T::f`."""
+    """proofs/m/f for `f` of src/m.rt, proofs/f for one of lib.rt or main.rt, proofs/T/f for the method `T::f`, proofs/m/T/f where T stands in src/m.rt."""
     for path in glob.glob("crates/*/proofs/**/Proof.antt", recursive=True):
         crate, place = path.split("/proofs/")
         *inside, name, _ = place.split("/")
-        method = inside and not inside[0].islower()
+        method = inside and not inside[-1].islower()
         text = ""
         for module in ["*"] if method else inside or ["lib", "main"]:
             for source in glob.glob(f"{crate}/src/{module}.rt"):
                 with open(source, encoding="utf-8") as file:
                     text += file.read()
         begins = rf"^{'    ' if method else ''}(pub(\(crate\))? )?(extern \"C\" )?fn {name}\b"
-        assert len(inside) < 2 and re.search(begins, text, re.M), path
+        assert len(inside) < 2 + bool(method) and re.search(begins, text, re.M), path

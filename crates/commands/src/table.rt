@@ -215,7 +215,7 @@ fn obey(
     }
 }
 
-// A Command write: the transfer is allMoved and the interrupt mark cleared, then the command's own effect.
+// A Command write: the transfer is dropped and the interrupt mark cleared, then the command's own effect.
 pub fn command_given(
     state: State,
     opcode: u8,
