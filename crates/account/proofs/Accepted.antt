@@ -5,11 +5,11 @@ use native.Mathlib.Nat.{div-le-self}
 use native.Mathlib.Omega.{arith}
 use Rattle.ground.proofs.Picks.{neither}
 use Rattle.ground.proofs.Every.{each}
-use Rattle.geometry.proofs.Limits.{fits-facts, total-fits, current-facts}
+use Rattle.geometry.proofs.LimitFacts.{fits-facts, total-fits, current-facts}
 use Rattle.maps.specs.declared.Register.the-variants.{StatusCommand}
 use Rattle.registers.specs.State.{sresetIn, totalIn}
 use Rattle.registers.specs.Machine.{Machine}
-use Rattle.registers.specs.WellMade.{heldIn, wellMade}
+use Rattle.registers.specs.WellMade.{inReset, wellMade}
 use Rattle.card.specs.declared.Meaning.the-variants.{WriteRegister}
 use Rattle.card.specs.Access.{Asked}
 use Rattle.kept.proofs.Fit.{lent-facts}
@@ -23,7 +23,7 @@ able m a v w =
     record { sound = record { made = l .0; store = l .1; marks = l .2; buffer = t .buffer; count = t .count }; free = w .free; typed = t }
 
 pub given : (m : Machine) → Able m → Given m
-unfolding wellMade heldIn
+unfolding wellMade inReset
 given m b =
     let s = b .sound in
     let t = b .typed in

@@ -18,11 +18,11 @@ use Rattle.commands.specs.Runs.{verifyFrom, eraseFrom}
 use Rattle.transfers.specs.declared.Way.the-variants.{In, Out}
 use Rattle.account.specs.Plain.{silent}
 use Rattle.account.specs.Course.{courseOf}
-use Rattle.account.specs.Runs.{readSectors, writeSectors, verifySectors, eraseSectors}
+use Rattle.account.specs.Sweeps.{readSectors, writeSectors, verifySectors, eraseSectors}
 use Rattle.account.specs.Table.{asked, fromFirst}
 use Rattle.account.specs.Host.{plainOf, plainIn}
 use Rattle.account.specs.Notes.{None}
-use Rattle.account.proofs.Place.{asPlace}
+use Rattle.account.proofs.Addressed.{asAddressed}
 use Rattle.account.proofs.Seats.{courseIn, Shaped, Seated, Where, seat-room, seat-address}
 use Rattle.account.proofs.Verifying.{verify-is}
 use Rattle.account.proofs.Erasing.{erase-is, erasedPlain}
@@ -50,7 +50,7 @@ where-first i s h e = e ∙ (rw (lt-ltb i (courseIn s .room) (seat-room s i h e)
 
 module _ (n : ℕ) (m : Machine) (b : Bytes (m .state .registers .address)) (c : m .state .registers .count ≡ suc n % 256) where
   pub read-begins : (l : Located) (d : List ℕ) → Ground In m → locatedIn (m .state) ≡ l →
-      rest (readSector (suc n) m) d ≡ fromFirst (asPlace l) silent (λ i. readSectors (courseOf (plainOf m)) i (suc n) (plainOf m)) (plainOf m)
+      rest (readSector (suc n) m) d ≡ fromFirst (asAddressed l) silent (λ i. readSectors (courseOf (plainOf m)) i (suc n) (plainOf m)) (plainOf m)
   unfolding readSector sectorTest addressTest restAt
   read-begins (Located.Good spot) d g e =
       read-rest n (courseIn (m .state)) (spot .index) m d (g .0) (g .1) (seated n (spot .index) (m .state) b c e) (where-first (spot .index) (m .state) (g .0) e)
@@ -66,7 +66,7 @@ module _ (n : ℕ) (m : Machine) (b : Bytes (m .state .registers .address)) (c :
   read-begins-between Located.BadLba g e = rw e (g, refl)
 
   pub write-begins : (l : Located) (d : List ℕ) → Ground Out m → locatedIn (m .state) ≡ l →
-      rest (withCore (askSector (suc n) First (m .state)) m) d ≡ fromFirst (asPlace l) silent (λ i. writeSectors (courseOf (plainOf m)) i (suc n) (plainOf m) d) (plainOf m)
+      rest (withCore (askSector (suc n) First (m .state)) m) d ≡ fromFirst (asAddressed l) silent (λ i. writeSectors (courseOf (plainOf m)) i (suc n) (plainOf m) d) (plainOf m)
   unfolding askSector addressTest restAt
   write-begins (Located.Good spot) d g e =
       ask-rest n First (courseIn (m .state)) (spot .index) (m .state) (m .buffer) (m .store) (m .marks) d (seated n (spot .index) (m .state) b c e) (where-first (spot .index) (m .state) (g .0) e)
@@ -84,7 +84,7 @@ module _ (n : ℕ) (m : Machine) (b : Bytes (m .state .registers .address)) (c :
 
   pub verify-begins : (l : Located) → Ground In m → locatedIn (m .state) ≡ l →
       plainIn (verifyFrom (suc n) (m .state) (m .marks) .state) (m .buffer) (m .store) (m .marks)
-      ≡ fromFirst (asPlace l) (λ q. q) (λ i. verifySectors (courseOf (plainOf m)) i (suc n) (plainOf m)) (plainOf m)
+      ≡ fromFirst (asAddressed l) (λ q. q) (λ i. verifySectors (courseOf (plainOf m)) i (suc n) (plainOf m)) (plainOf m)
   unfolding verifyFrom sectorTest addressTest
   verify-begins (Located.Good spot) g e =
       verify-is n (courseIn (m .state)) (spot .index) (m .state) (m .buffer) (m .store) (m .marks) (g .0) (seated n (spot .index) (m .state) b c e) (where-first (spot .index) (m .state) (g .0) e)
@@ -94,7 +94,7 @@ module _ (n : ℕ) (m : Machine) (b : Bytes (m .state .registers .address)) (c :
 
   pub erase-begins : (l : Located) → Ground In m → locatedIn (m .state) ≡ l →
       erasedPlain (eraseFrom (suc n) (m .state) (m .store) (m .marks)) (m .buffer)
-      ≡ fromFirst (asPlace l) (λ q. q) (λ i. eraseSectors (courseOf (plainOf m)) i (suc n) (plainOf m)) (plainOf m)
+      ≡ fromFirst (asAddressed l) (λ q. q) (λ i. eraseSectors (courseOf (plainOf m)) i (suc n) (plainOf m)) (plainOf m)
   unfolding eraseFrom sectorStored sectorTest addressTest
   erase-begins (Located.Good spot) g e =
       erase-is n (courseIn (m .state)) (spot .index) (m .state) (m .buffer) (m .store) (m .marks) (g .0) (g .1)

@@ -22,15 +22,16 @@ use Rattle.transfers.specs.declared.Way.the-variants.{In, Out}
 use Rattle.transfers.specs.Steps.{readSector, askSector}
 use Rattle.commands.specs.Runs.{verifyFrom, eraseFrom}
 use Rattle.commands.specs.Table.{countOf, reshapedEnded}
+use Rattle.account.specs.Numbers.{codeGeometry}
 use Rattle.account.specs.Plain.{sectorsOf, withCurrent, Well, Aborted, ends, Account, silent}
-use Rattle.account.specs.Place.{At}
+use Rattle.account.specs.Addressed.{At}
 use Rattle.account.specs.Course.{courseOf}
-use Rattle.account.specs.Runs.{readSectors, writeSectors, verifySectors, eraseSectors}
+use Rattle.account.specs.Sweeps.{readSectors, writeSectors, verifySectors, eraseSectors}
 use Rattle.account.specs.Table.{asked, first, fromFirst, reads, writes, verifies, erases, shaped, setsGeometry, account}
 use Rattle.account.specs.Host.{plainOf, plainIn}
 use Rattle.account.specs.Notes.{None, noNotes}
 use Rattle.account.specs.Claim.{AllBytes}
-use Rattle.account.proofs.Place.{asPlace, good-at, place-is}
+use Rattle.account.proofs.Addressed.{asAddressed, good-at, addressed-is}
 use Rattle.account.proofs.Seats.{Shaped}
 use Rattle.account.proofs.Stored.{LentFor}
 use Rattle.account.proofs.Settled.{Settled}
@@ -62,8 +63,8 @@ pub settled-ground : (way : Way) (s : State) (k : Core) (b t x y z w : List ℕ)
 settled-ground way s k b t x y z w h g l q = rw (h .1, h .2, h .3, h .4) (g .0, l, q, g .3, g .4)
 
 -- the first address: N is C·H·S
-pub first-is : (m : Machine) → Shaped (m .state .made) (m .state .current) → first (plainOf m) ≡ asPlace (locatedIn (m .state))
-first-is m h = rw (h .1) (place-is (m .state .registers .address) (m .state .current) (sectorsOf (m .state .made .default)))
+pub first-is : (m : Machine) → Shaped (m .state .made) (m .state .current) → first (plainOf m) ≡ asAddressed (locatedIn (m .state))
+first-is m h = rw (h .1) (addressed-is (m .state .registers .address) (m .state .current) (sectorsOf (m .state .made .default)))
 
 pub first-at : (m : Machine) (i : ℕ) → Shaped (m .state .made) (m .state .current) → first (plainOf m) ≡ At i → locatedIn (m .state) ≡ goodAt i
 first-at m i h e = good-at (locatedIn (m .state)) i (sym (first-is m h) ∙ e)
@@ -75,7 +76,7 @@ count-is s = refl
 pub read-all : (m : Machine) (d : List ℕ) → Ground In m → Eight (m .state) → reads (plainOf m) ≡ rest (readSector (countOf (m .state)) m) d
 read-all m d g h =
     rw (count-is (m .state), first-is m (g .0))
-    (asked-elim (λ (n : ℕ). fromFirst (asPlace (locatedIn (m .state))) silent (λ i. readSectors (courseOf (plainOf m)) i n (plainOf m)) (plainOf m) ≡ rest (readSector n m) d)
+    (asked-elim (λ (n : ℕ). fromFirst (asAddressed (locatedIn (m .state))) silent (λ i. readSectors (courseOf (plainOf m)) i n (plainOf m)) (plainOf m) ≡ rest (readSector n m) d)
     (m .state .registers .count) (h .0)
     (λ n e. sym (read-begins n m (h .1) e (locatedIn (m .state)) d g refl)))
 
@@ -87,7 +88,7 @@ read-all-between m g h =
 pub write-all : (m : Machine) (d : List ℕ) → Ground Out m → Eight (m .state) → writes (plainOf m) d ≡ rest (withCore (askSector (countOf (m .state)) First (m .state)) m) d
 write-all m d g h =
     rw (count-is (m .state), first-is m (g .0))
-    (asked-elim (λ (n : ℕ). fromFirst (asPlace (locatedIn (m .state))) silent (λ i. writeSectors (courseOf (plainOf m)) i n (plainOf m) d) (plainOf m)
+    (asked-elim (λ (n : ℕ). fromFirst (asAddressed (locatedIn (m .state))) silent (λ i. writeSectors (courseOf (plainOf m)) i n (plainOf m) d) (plainOf m)
     ≡ rest (withCore (askSector n First (m .state)) m) d)
     (m .state .registers .count) (h .0)
     (λ n e. sym (write-begins n m (h .1) e (locatedIn (m .state)) d g refl)))
@@ -101,25 +102,25 @@ write-all-between m f g h =
 pub verify-all : (m : Machine) → Ground In m → Eight (m .state) → verifies (plainOf m) ≡ plainIn (verifyFrom (countOf (m .state)) (m .state) (m .marks) .state) (m .buffer) (m .store) (m .marks)
 verify-all m g h =
     rw (count-is (m .state), first-is m (g .0))
-    (asked-elim (λ (n : ℕ). fromFirst (asPlace (locatedIn (m .state))) (λ q. q) (λ i. verifySectors (courseOf (plainOf m)) i n (plainOf m)) (plainOf m)
+    (asked-elim (λ (n : ℕ). fromFirst (asAddressed (locatedIn (m .state))) (λ q. q) (λ i. verifySectors (courseOf (plainOf m)) i n (plainOf m)) (plainOf m)
     ≡ plainIn (verifyFrom n (m .state) (m .marks) .state) (m .buffer) (m .store) (m .marks))
     (m .state .registers .count) (h .0)
     (λ n e. sym (verify-begins n m (h .1) e (locatedIn (m .state)) g refl)))
 
 pub erase-all : (m : Machine) → Ground In m → Eight (m .state) →
     erases (plainOf m)
-    ≡ plainIn (eraseFrom (countOf (m .state)) (m .state) (m .store) (m .marks) .result .state) (m .buffer)
-    (eraseFrom (countOf (m .state)) (m .state) (m .store) (m .marks) .store) (eraseFrom (countOf (m .state)) (m .state) (m .store) (m .marks) .marks)
+    ≡ plainIn (eraseFrom (countOf (m .state)) (m .state) (m .store) (m .marks) .outcome .state) (m .buffer)
+    (eraseFrom (countOf (m .state)) (m .state) (m .store) (m .marks) .next .store) (eraseFrom (countOf (m .state)) (m .state) (m .store) (m .marks) .next .marks)
 erase-all m g h =
     rw (count-is (m .state), first-is m (g .0))
-    (asked-elim (λ (n : ℕ). fromFirst (asPlace (locatedIn (m .state))) (λ q. q) (λ i. eraseSectors (courseOf (plainOf m)) i n (plainOf m)) (plainOf m)
-    ≡ plainIn (eraseFrom n (m .state) (m .store) (m .marks) .result .state) (m .buffer) (eraseFrom n (m .state) (m .store) (m .marks) .store) (eraseFrom n (m .state) (m .store) (m .marks) .marks))
+    (asked-elim (λ (n : ℕ). fromFirst (asAddressed (locatedIn (m .state))) (λ q. q) (λ i. eraseSectors (courseOf (plainOf m)) i n (plainOf m)) (plainOf m)
+    ≡ plainIn (eraseFrom n (m .state) (m .store) (m .marks) .outcome .state) (m .buffer) (eraseFrom n (m .state) (m .store) (m .marks) .next .store) (eraseFrom n (m .state) (m .store) (m .marks) .next .marks))
     (m .state .registers .count) (h .0)
     (λ n e. sym (erase-begins n m (h .1) e (locatedIn (m .state)) g refl)))
 
 -- 91H
 set-by : (a v : Bool) (g : Geometry) (s : State) (b t k : List ℕ) →
-    pick (a || v) (ends (Aborted 0x21) (plainIn s b t k)) (ends Well (withCurrent g (plainIn s b t k)))
+    pick (a || v) (ends (Aborted codeGeometry) (plainIn s b t k)) (ends Well (withCurrent g (plainIn s b t k)))
     ≡ plainIn (reshapedEnded (pick a Reshaped.Refused (pick v Reshaped.Refused (Reshaped.Taken g))) s .state) b t k
 set-by true v g s b t k = refl
 set-by false true g s b t k = refl

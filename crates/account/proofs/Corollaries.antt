@@ -13,11 +13,11 @@ use Rattle.commands.specs.declared.Command.the-variants.{Read, Write, Verify, E
 use Rattle.commands.specs.Table.{commandOf, obeyed, started, countOf, dropped, commandGiven}
 use Rattle.card.specs.Access.{Asked}
 use Rattle.card.specs.Step.{step}
-use Rattle.account.specs.Plain.{Plain, Ending, Well, NotFound, Unreadable, WriteFault, Aborted, ends, starts, Account, silent}
-use Rattle.account.specs.Place.{Place, At, Bad}
-use Rattle.account.specs.Rows.{Row, Reads, rowOf}
+use Rattle.account.specs.Plain.{Plain, Finish, Well, NotFound, Unreadable, WriteFault, Aborted, ends, starts, Account, silent}
+use Rattle.account.specs.Addressed.{Addressed, At, Bad}
+use Rattle.account.specs.CommandRows.{CommandRow, Reads, rowOf}
 use Rattle.account.specs.Course.{courseOf}
-use Rattle.account.specs.Runs.{readRun, readSectors}
+use Rattle.account.specs.Sweeps.{readSweep, readSectors}
 use Rattle.account.specs.Table.{asked, first, fromFirst, account}
 use Rattle.account.specs.Host.{plainOf, asks, Hosted, Moves}
 use Rattle.account.specs.Claim.{Agrees}
@@ -63,7 +63,7 @@ pub no-host-needed : (m : Machine) (a : Asked) (v : ℕ) → AcceptedCommand m a
 no-host-needed m a v w e = by-meaning (λ x. asks x ≡ false) m a v (w .accepted) (means-no-host-needed m v (able m a v w) e)
 
 -- A read never changes the store or the marks.
-pub ends-store : (e : Ending) (p : Plain) → (ends e p .store ≡ p .store) × (ends e p .marks ≡ p .marks)
+pub ends-store : (e : Finish) (p : Plain) → (ends e p .store ≡ p .store) × (ends e p .marks ≡ p .marks)
 ends-store Well p = (refl, refl)
 ends-store (NotFound code) p = (refl, refl)
 ends-store Unreadable p = (refl, refl)
@@ -73,9 +73,9 @@ ends-store (Aborted code) p = (refl, refl)
 abbrev pub Untouched : Plain → Plain → Type 0
 Untouched p q = (q .store ≡ p .store) × (q .marks ≡ p .marks)
 
-read-untouched : (l : Place) (n : ℕ) (p : Plain) → Untouched p (fromFirst l silent (λ i. readSectors (courseOf p) i n p) p .left)
+read-untouched : (l : Addressed) (n : ℕ) (p : Plain) → Untouched p (fromFirst l silent (λ i. readSectors (courseOf p) i n p) p .left)
 unfolding readSectors
-read-untouched (At i) n p = ends-store (readRun (courseOf p) (p .marks) i n .ending) _
+read-untouched (At i) n p = ends-store (readSweep (courseOf p) (p .marks) i n .finish) _
 read-untouched (Bad code) n p = (refl, refl)
 
 reads-untouched : (p : Plain) (d : List ℕ) → Untouched p (account Reads p d .left)
@@ -84,7 +84,7 @@ reads-untouched p d = read-untouched (first (starts p)) (asked (p .registers .co
 
 pub reads-agree : (p : Plain) (v : ℕ) (h : Hosted) → rowOf v ≡ Reads → Agrees (account (rowOf v) p) h → Untouched p (plainOf (h .machine))
 reads-agree p v h e g =
-    let u = ap (λ (r : Row). account r p (h .notes .done)) e in
+    let u = ap (λ (r : CommandRow). account r p (h .notes .done)) e in
     let z = reads-untouched p (h .notes .done) in
     (ap (λ (y : Account). y .left .store) (sym (g .account) ∙ u) ∙ z .0, ap (λ (y : Account). y .left .marks) (sym (g .account) ∙ u) ∙ z .1)
 

@@ -9,9 +9,10 @@ use lib.ListN.{length, take, drop, set, getD, replicate, length-drop, length-set
 use lib.Seq.{getD-set-other, length-take-le, getD-append-add, getD-take, getD-drop}
 use borrow.Author.Tests.{ltb-true}
 use Rattle.ground.specs.Choice.{pick}
-use Rattle.account.specs.Plain.{Ending, Well, NotFound, Unreadable, WriteFault, Aborted}
+use Rattle.account.specs.Numbers.{codeCylinderOrLba}
+use Rattle.account.specs.Plain.{Finish, Well, NotFound, Unreadable, WriteFault, Aborted}
 use Rattle.account.specs.Course.{Course}
-use Rattle.account.specs.Runs.{Run, tried, runFrom, tests, putSector, replaced, blanked, cleared}
+use Rattle.account.specs.Sweeps.{Sweep, tried, sweepFrom, tests, putSector, replaced, blanked, cleared}
 use Rattle.account.specs.Follows.{SameOutside}
 use Rattle.account.proofs.Stored.{put-length}
 
@@ -65,17 +66,17 @@ cleared-same (suc k) i s =
     let z = cleared-same k (i + 1) (set s i 0) in
     (λ x y. z .0 x (omega arith) ∙ getD-set-other s i x 0 0 (omega arith), λ x y. z .1 x (omega arith) ∙ getD-set-other s i x 0 0 (omega arith), z .2 ∙ length-set s i 0)
 
--- ---- a run does sectors of its room only, and not more than are asked for
+-- ---- a sweep does sectors of its room only, and not more than are asked for
 
-tried-most : (e : Ending) (n i : ℕ) (r : Run) → tried e n i r .done ≤ suc (r .done)
+tried-most : (e : Finish) (n i : ℕ) (r : Sweep) → tried e n i r .done ≤ suc (r .done)
 tried-most Well n i r = omega arith
 tried-most (NotFound code) n i r = omega arith
 tried-most Unreadable n i r = omega arith
 tried-most WriteFault n i r = omega arith
 tried-most (Aborted code) n i r = omega arith
 
-inside-by : (b : Bool) (x : Ending) (c : Course) (n i : ℕ) (r : Run) → ltb i (c .room) ≡ b → i ≤ c .room → (i + 1 ≤ c .room → i + 1 + r .done ≤ c .room) →
-    i + tried (pick b x (NotFound 0x2F)) n i r .done ≤ c .room
+inside-by : (b : Bool) (x : Finish) (c : Course) (n i : ℕ) (r : Sweep) → ltb i (c .room) ≡ b → i ≤ c .room → (i + 1 ≤ c .room → i + 1 + r .done ≤ c .room) →
+    i + tried (pick b x (NotFound codeCylinderOrLba)) n i r .done ≤ c .room
 inside-by true x c n i r e h f =
     let l : i < c .room = ltb-true i (c .room) e in
     let z = f (omega arith) in
@@ -83,16 +84,16 @@ inside-by true x c n i r e h f =
     omega arith
 inside-by false x c n i r e h f = omega arith
 
-pub run-inside : (forbids : ℕ → Bool) (e : Ending) (c : Course) (marks : List ℕ) (n i : ℕ) → i ≤ c .room → i + runFrom (tests forbids e c marks) i n .done ≤ c .room
-unfolding runFrom tests
-run-inside forbids e c marks zero i h = omega arith
-run-inside forbids e c marks (suc n) i h =
-    inside-by (ltb i (c .room)) (pick (forbids (getD marks i 0)) e Well) c (suc n) i (runFrom (tests forbids e c marks) (i + 1) n) refl h (λ l. run-inside forbids e c marks n (i + 1) l)
+pub sweep-inside : (forbids : ℕ → Bool) (e : Finish) (c : Course) (marks : List ℕ) (n i : ℕ) → i ≤ c .room → i + sweepFrom (tests forbids e c marks) i n .done ≤ c .room
+unfolding sweepFrom tests
+sweep-inside forbids e c marks zero i h = omega arith
+sweep-inside forbids e c marks (suc n) i h =
+    inside-by (ltb i (c .room)) (pick (forbids (getD marks i 0)) e Well) c (suc n) i (sweepFrom (tests forbids e c marks) (i + 1) n) refl h (λ l. sweep-inside forbids e c marks n (i + 1) l)
 
-pub run-most : (test : ℕ → Ending) (n i : ℕ) → runFrom test i n .done ≤ n
-unfolding runFrom
-run-most test zero i = omega arith
-run-most test (suc n) i =
-    let z = run-most test n (i + 1) in
-    let y = tried-most (test i) (suc n) i (runFrom test (i + 1) n) in
+pub sweep-most : (test : ℕ → Finish) (n i : ℕ) → sweepFrom test i n .done ≤ n
+unfolding sweepFrom
+sweep-most test zero i = omega arith
+sweep-most test (suc n) i =
+    let z = sweep-most test n (i + 1) in
+    let y = tried-most (test i) (suc n) i (sweepFrom test (i + 1) n) in
     omega arith

@@ -18,8 +18,8 @@ use Rattle.transfers.specs.declared.Way.the-variants.{In, Out}
 use Rattle.transfers.specs.Steps.{idleWith}
 use Rattle.commands.specs.Runs.{verifyFrom, eraseFrom}
 use Rattle.commands.specs.Table.{commandOf, started, countOf, factsOf, reshapedEnded, soughtEnd, obeyed}
-use Rattle.account.specs.Plain.{withBuffer, starts, ends, Ending, Well, silent, moving}
-use Rattle.account.specs.Rows.{Row, rowOf}
+use Rattle.account.specs.Plain.{withBuffer, starts, ends, Finish, Well, silent, moving}
+use Rattle.account.specs.CommandRows.{CommandRow, rowOf}
 use Rattle.account.specs.Words.{identifyData}
 use Rattle.account.specs.Table.{diagnoses, account}
 use Rattle.account.specs.Host.{plainOf}
@@ -53,8 +53,8 @@ begins Erase m h =
     let x = idleWith (started (m .state)) m in
     let k = eraseFrom (countOf (x .state)) (x .state) (m .store) (m .marks) in
     let z = erase-settled (countOf (x .state)) (totalOf (m .state .made .default)) (x .state) (m .store) (m .marks) (h .0 .1) in
-    over _ Out (k .result) (m .buffer) (k .store) (k .marks) (z .0 .0)
-    (settled-ground Out (x .state) (k .result) (m .buffer) (m .store) (m .marks) (m .buffer) (k .store) (k .marks) (z .0) (outward m (h .0)) (z .1) tt)
+    over _ Out (k .outcome) (m .buffer) (k .next .store) (k .next .marks) (z .0 .0)
+    (settled-ground Out (x .state) (k .outcome) (m .buffer) (m .store) (m .marks) (m .buffer) (k .next .store) (k .next .marks) (z .0) (outward m (h .0)) (z .1) tt)
     (λ d. ap silent (erase-all x (h .0) (h .1)))
 begins Identify m h =
     let e : identifyBytes (factsOf (started (m .state))) ≡ identifyData (plainOf m) = identify-is (m .state) (m .buffer) (m .store) (m .marks) (h .0 .0 .1) in
@@ -85,7 +85,7 @@ begins Seek m h =
     record {
       account = λ d.
           ap silent
-          (ap (λ (e : Ending). ends e (starts (plainOf m))) (seek-is (m .state) (m .buffer) (m .store) (m .marks) (h .0 .0))
+          (ap (λ (e : Finish). ends e (starts (plainOf m))) (seek-is (m .state) (m .buffer) (m .store) (m .marks) (h .0 .0))
           ∙ sym (starts-ends (soughtEnd (seek (s .registers .address) (s .current) (totalIn s))) (m .state) (m .buffer) (m .store) (m .marks)));
       ground = h .0;
       waits = refl;
@@ -95,4 +95,4 @@ begins Other m h = record { account = λ d. ap silent (sym (starts-ends End.NoSu
 
 -- by the account's own row of the code
 pub begins-row : (v : ℕ) (m : Machine) → Given m → Rel (wayOf (rowOf v)) (account (rowOf v) (plainOf m)) (obeyed (commandOf v) (started (m .state)) m) noNotes
-begins-row v m h = subst (λ (r : Row). Rel (wayOf r) (account r (plainOf m)) (obeyed (commandOf v) (started (m .state)) m) noNotes) (sym (same-row v)) (begins (commandOf v) m h)
+begins-row v m h = subst (λ (r : CommandRow). Rel (wayOf r) (account r (plainOf m)) (obeyed (commandOf v) (started (m .state)) m) noNotes) (sym (same-row v)) (begins (commandOf v) m h)

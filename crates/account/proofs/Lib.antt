@@ -1,5 +1,5 @@
 pub mod SameRow
-pub mod Place
+pub mod Addressed
 pub mod Names
 pub mod Seats
 pub mod Tried

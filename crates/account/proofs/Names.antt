@@ -16,7 +16,7 @@ use Rattle.geometry.specs.declared.Located.{Located}
 use Rattle.geometry.specs.Limits.{currentFor}
 use Rattle.geometry.specs.Address.{byLba, headOf, cylinderOf, lbaOf, chsIndex, locateLba, locateChs, locate}
 use Rattle.geometry.specs.Next.{atLba, atChs, nextChs, nextOf}
-use Rattle.geometry.proofs.Limits.{Small, current-small}
+use Rattle.geometry.proofs.LimitFacts.{Small, current-small}
 use Rattle.geometry.proofs.Inside.{Chs, chs-facts, lba-facts}
 use Rattle.geometry.proofs.Kept.{Bytes}
 use Rattle.geometry.proofs.Bounds.{row-more}

@@ -10,10 +10,10 @@ use Rattle.transfers.specs.declared.Way.the-variants.{In}
 use Rattle.card.specs.Access.{Asked}
 use Rattle.card.specs.Step.{step}
 use Rattle.account.specs.Plain.{Plain, starts, WriteFault, Account, silent}
-use Rattle.account.specs.Place.{Place, At, Bad}
-use Rattle.account.specs.Rows.{Row, Writes, Erases, rowOf}
+use Rattle.account.specs.Addressed.{Addressed, At, Bad}
+use Rattle.account.specs.CommandRows.{CommandRow, Writes, Erases, rowOf}
 use Rattle.account.specs.Course.{courseOf}
-use Rattle.account.specs.Runs.{Run, tests, unwritable, writeRun, writeSectors, eraseSectors}
+use Rattle.account.specs.Sweeps.{Sweep, tests, unwritable, writeSweep, writeSectors, eraseSectors}
 use Rattle.account.specs.Table.{asked, first, fromFirst, account}
 use Rattle.account.specs.Host.{plainOf, Hosted, Moves}
 use Rattle.account.specs.Claim.{Agrees}
@@ -24,7 +24,7 @@ use Rattle.account.proofs.Commands.{first-at}
 use Rattle.account.proofs.Accepted.{given, able}
 use Rattle.account.proofs.Theorem.{agreed}
 use Rattle.account.proofs.Corollaries.{ends-store}
-use Rattle.account.proofs.Elsewhere.{replaced-same, blanked-same, cleared-same, run-inside, run-most}
+use Rattle.account.proofs.Elsewhere.{replaced-same, blanked-same, cleared-same, sweep-inside, sweep-most}
 
 -- fewer sectors than those named
 wider : (s t u : List ℕ) (low high more : ℕ) → high ≤ more → u ≡ t → SameOutside low high s t → SameOutside low more s u
@@ -35,31 +35,31 @@ module _ (n total : ℕ) (o : Plain) (s : length (o .store) ≡ 512 * total) (r 
   abbrev p : Plain
   p = starts o
 
-  abbrev runOf : ℕ → Run
-  runOf i = writeRun (courseOf p) (p .marks) i n
+  abbrev sweepOf : ℕ → Sweep
+  sweepOf i = writeSweep (courseOf p) (p .marks) i n
 
-  write-named : (l : Place) (d : List ℕ) → ((i : ℕ) → l ≡ At i → (i ≤ courseOf p .room) × (512 * runOf i .done ≤ length d)) →
+  write-named : (l : Addressed) (d : List ℕ) → ((i : ℕ) → l ≡ At i → (i ≤ courseOf p .room) × (512 * sweepOf i .done ≤ length d)) →
       OnlyNamed l n o (fromFirst l silent (λ i. writeSectors (courseOf p) i n p d) p .left)
   unfolding writeSectors
   write-named (At i) d h =
-      let k = runOf i in
+      let k = sweepOf i in
       let f = h i refl in
-      let x = run-inside unwritable WriteFault (courseOf p) (p .marks) n i (f .0) in
-      let y = run-most (tests unwritable WriteFault (courseOf p) (p .marks)) n i in
-      let e = ends-store (k .ending) _ in (
+      let x = sweep-inside unwritable WriteFault (courseOf p) (p .marks) n i (f .0) in
+      let y = sweep-most (tests unwritable WriteFault (courseOf p) (p .marks)) n i in
+      let e = ends-store (k .finish) _ in (
         wider (p .store) _ _ (512 * i) (512 * (i + k .done)) (512 * (i + n)) (omega arith) (e .0)
             (replaced-same (k .done) i total d (p .store) (f .1) (omega arith) s),
         wider (p .marks) _ _ i (i + k .done) (i + n) (omega arith) (e .1) (cleared-same (k .done) i (p .marks)),
       )
   write-named (Bad code) d h = (refl, refl)
 
-  erase-named : (l : Place) → ((i : ℕ) → l ≡ At i → i ≤ courseOf p .room) → OnlyNamed l n o (fromFirst l (λ q. q) (λ i. eraseSectors (courseOf p) i n p) p)
+  erase-named : (l : Addressed) → ((i : ℕ) → l ≡ At i → i ≤ courseOf p .room) → OnlyNamed l n o (fromFirst l (λ q. q) (λ i. eraseSectors (courseOf p) i n p) p)
   unfolding eraseSectors
   erase-named (At i) h =
-      let k = runOf i in
-      let x = run-inside unwritable WriteFault (courseOf p) (p .marks) n i (h i refl) in
-      let y = run-most (tests unwritable WriteFault (courseOf p) (p .marks)) n i in
-      let e = ends-store (k .ending) _ in (
+      let k = sweepOf i in
+      let x = sweep-inside unwritable WriteFault (courseOf p) (p .marks) n i (h i refl) in
+      let y = sweep-most (tests unwritable WriteFault (courseOf p) (p .marks)) n i in
+      let e = ends-store (k .finish) _ in (
         wider (p .store) _ _ (512 * i) (512 * (i + k .done)) (512 * (i + n)) (omega arith) (e .0)
             (blanked-same (k .done) i total (p .store) (omega arith) s),
         wider (p .marks) _ _ i (i + k .done) (i + n) (omega arith) (e .1) (cleared-same (k .done) i (p .marks)),
@@ -80,7 +80,7 @@ writes-named m done g =
     let l : length d ≡ length done + 512 * n = length-append done (replicate (512 * n) 0) ∙ ap (λ (k : ℕ). length done + k) (length-replicate (512 * n) 0) in
     write-named n (totalOf (m .state .made .default)) (plainOf m) (g .1 .0) (room-total (courseIn (m .state)) (m .state) (g .0) refl) (first (plainOf m)) d
     (λ i e.
-    let y = run-most (tests unwritable WriteFault (courseOf (plainOf m)) (m .marks)) n i in
+    let y = sweep-most (tests unwritable WriteFault (courseOf (plainOf m)) (m .marks)) n i in
     let z = first-inside m i g e in
     (omega arith, omega arith))
 
@@ -95,13 +95,13 @@ pub writes-agree : (m : Machine) (v : ℕ) (h : Hosted) → Able m → rowOf v �
     OnlyNamed (first (plainOf m)) (asked (m .state .registers .count)) (plainOf m) (plainOf (h .machine))
 writes-agree m v h k e x =
     let n = asked (m .state .registers .count) in
-    let u = ap (λ (r : Row). account r (plainOf m) (h .notes .done ++ replicate (512 * n) 0)) e in
+    let u = ap (λ (r : CommandRow). account r (plainOf m) (h .notes .done ++ replicate (512 * n) 0)) e in
     subst (λ (q : Account). OnlyNamed (first (plainOf m)) n (plainOf m) (q .left)) (sym u ∙ x .enough (replicate (512 * n) 0)) (writes-named m (h .notes .done) (given m k .0))
 
 pub erases-agree : (m : Machine) (v : ℕ) (h : Hosted) → Able m → rowOf v ≡ Erases → Agrees (account (rowOf v) (plainOf m)) h →
     OnlyNamed (first (plainOf m)) (asked (m .state .registers .count)) (plainOf m) (plainOf (h .machine))
 erases-agree m v h k e x =
-    let u = ap (λ (r : Row). account r (plainOf m) (h .notes .done)) e in
+    let u = ap (λ (r : CommandRow). account r (plainOf m) (h .notes .done)) e in
     subst (λ (q : Account). OnlyNamed (first (plainOf m)) (asked (m .state .registers .count)) (plainOf m) (q .left)) (sym u ∙ x .account) (erases-named m (h .notes .done) (given m k .0))
 
 pub write-changes-only-named : (m : Machine) (a : Asked) (v : ℕ) (l : List Asked) → AcceptedCommand m a v → rowOf v ≡ Writes → Moves (step m a .next) l →

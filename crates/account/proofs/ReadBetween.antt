@@ -25,9 +25,9 @@ use Rattle.port.specs.Data.{withPhase}
 use Rattle.transfers.specs.declared.Way.the-variants.{In}
 use Rattle.sectors.specs.Sectors.{sectorOf}
 use Rattle.kept.proofs.Lent.{sector-length}
-use Rattle.account.specs.Plain.{Ending}
+use Rattle.account.specs.Plain.{Finish}
 use Rattle.account.specs.Course.{Course}
-use Rattle.account.specs.Runs.{sectorAt}
+use Rattle.account.specs.Sweeps.{sectorAt}
 use Rattle.account.specs.Host.{plainOf}
 use Rattle.account.specs.Notes.{None, Waiting}
 use Rattle.account.specs.Claim.{AllBytes}
@@ -53,7 +53,7 @@ pub read-between : (n : ℕ) (c : Course) (i : ℕ) (m : Machine) → Ground In 
 unfolding readSector sectorOf
 read-between n c i m g q w =
     read-tested c i (m .state) (m .marks)
-    (λ (x : Tested) (e : Ending). Between In (readTested x (suc n) m) None)
+    (λ (x : Tested) (e : Finish). Between In (readTested x (suc n) m) None)
     w
     (λ r.
     let o = room-total c (m .state) (g .0) (q .2) in

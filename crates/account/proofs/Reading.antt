@@ -17,21 +17,22 @@ use Rattle.registers.specs.declared.Load.{Load}
 use Rattle.registers.specs.declared.Load.the-variants.{Sectors, Buffer}
 use Rattle.registers.specs.declared.Transfer.{Transfer}
 use Rattle.registers.specs.declared.Phase.the-variants.{DataIn}
+use Rattle.registers.specs.Status.{dataStatus}
 use Rattle.registers.specs.State.{locatedIn}
 use Rattle.registers.specs.Machine.{Machine}
 use Rattle.transfers.specs.declared.Tested.{Tested}
 use Rattle.transfers.specs.Steps.{idleWith, sectorDone, readTested, readSector, nextRead, loadRead, allMoved}
 use Rattle.port.specs.Halves.{nextWord}
 use Rattle.port.specs.Data.{withPhase}
-use Rattle.account.specs.Plain.{Plain, Ending, Unreadable, moving, withBuffer}
+use Rattle.account.specs.Plain.{Plain, Finish, Unreadable, moving, withBuffer}
 use Rattle.account.specs.Course.{Course}
-use Rattle.account.specs.Runs.{tried, runFrom, tests, unreadable, sectorsFrom, lastSector, sectorAt, readDone, readSectors}
+use Rattle.account.specs.Sweeps.{tried, sweepFrom, tests, unreadable, sectorsFrom, lastSector, sectorAt, readDone, readSectors}
 use Rattle.account.specs.Host.{plainOf}
 use Rattle.account.proofs.Seats.{Shaped, Seated, Where, courseIn, onward, done-on, seat-next, room-total}
-use Rattle.account.proofs.Tried.{stops-run, stops-ends, read-tested}
+use Rattle.account.proofs.Tried.{stops-sweep, stops-ends, read-tested}
 use Rattle.account.proofs.Stored.{LentFor}
 use Rattle.account.proofs.Verifying.{where-good, seated-last}
-use Rattle.account.proofs.Rest.{bare, here, doneIn, restAt, rest, run-status, Loaded}
+use Rattle.account.proofs.Rest.{bare, here, doneIn, restAt, rest, sweep-status, Loaded}
 
 pub sector-read : (n i : ℕ) (store buffer : List ℕ) → i < n → length store ≡ 512 * n → bufferRead store i buffer ≡ sectorAt store i
 unfolding bufferRead sectorOf
@@ -42,24 +43,24 @@ sector-read n i store buffer h e =
 -- a sector to be read
 pub read-rest : (n : ℕ) (c : Course) (i : ℕ) (m : Machine) (d : List ℕ) → Shaped (m .state .made) (m .state .current) → LentFor (totalOf (m .state .made .default)) (m .store) (m .marks) →
     Seated c i (suc n) (m .state) → Where c i (m .state) → rest (readSector (suc n) m) d ≡ readSectors c i (suc n) (plainOf m)
-unfolding readSector readSectors runFrom restAt doneIn sectorsFrom lastSector
+unfolding readSector readSectors sweepFrom restAt doneIn sectorsFrom lastSector
 read-rest n c i m d h l q w =
     read-tested c i (m .state) (m .marks)
-    (λ (x : Tested) (e : Ending). rest (readTested x (suc n) m) d ≡ readDone c i (tried e (suc n) i (runFrom (tests unreadable Unreadable c (m .marks)) (i + 1) n)) (plainOf m))
+    (λ (x : Tested) (e : Finish). rest (readTested x (suc n) m) d ≡ readDone c i (tried e (suc n) i (sweepFrom (tests unreadable Unreadable c (m .marks)) (i + 1) n)) (plainOf m))
     w
     (λ r.
     let o = room-total c (m .state) h (q .2) in
-    let v = runFrom (tests unreadable Unreadable c (m .marks)) (i + 1) n in
+    let v = sweepFrom (tests unreadable Unreadable c (m .marks)) (i + 1) n in
     rw (sector-read (totalOf (m .state .made .default)) i (m .store) (m .buffer) (omega arith) (l .0), where-good c i (m .state) w r, q .2, sub-one (suc n))
     (ap (λ (x : Plain). record { moved = sectorAt (m .store) i ++ sectorsFrom (m .store) (i + 1) (v .done); left = x })
-    (run-status c v 0x58 (withBuffer (lastSector (m .store) (i + 1) (v .done) (sectorAt (m .store) i)) (plainOf m)))))
-    (λ f z. rw (stops-run f z c (suc n) i (runFrom (tests unreadable Unreadable c (m .marks)) (i + 1) n) (plainOf m), stops-ends f z c (suc n) i (m .state) (m .buffer) (m .store) (m .marks) q))
+    (sweep-status c v dataStatus (withBuffer (lastSector (m .store) (i + 1) (v .done) (sectorAt (m .store) i)) (plainOf m)))))
+    (λ f z. rw (stops-sweep f z c (suc n) i (sweepFrom (tests unreadable Unreadable c (m .marks)) (i + 1) n) (plainOf m), stops-ends f z c (suc n) i (m .state) (m .buffer) (m .store) (m .marks) q))
 
 -- the last byte of sector i has gone
 next-rest : (n : ℕ) (c : Course) (i : ℕ) (m : Machine) (d : List ℕ) → Shaped (m .state .made) (m .state .current) → LentFor (totalOf (m .state .made .default)) (m .store) (m .marks) →
     Seated c i (suc n) (m .state) → locatedIn (m .state) ≡ goodAt i → rest (nextRead n m) d ≡ readSectors c (i + 1) n (plainOf m)
 unfolding nextRead
-next-rest zero c i m d h l q e = unfold sectorDone restAt readSectors runFrom sectorsFrom lastSector in rw (seated-last c i 1 (m .state) q)
+next-rest zero c i m d h l q e = unfold sectorDone restAt readSectors sweepFrom sectorsFrom lastSector in rw (seated-last c i 1 (m .state) q)
 next-rest (suc n) c i m d h l q e =
     let z = seat-next c (suc n) i (m .state) h e (q .2) in
     let y = read-rest n c (i + 1) (idleWith (onward (suc n) (m .state)) m) d h l (z .0) (z .1) in

@@ -19,9 +19,9 @@ use Rattle.registers.specs.State.{sresetIn, locatedIn}
 use Rattle.registers.specs.Machine.{Machine}
 use Rattle.transfers.specs.declared.Way.{Way}
 use Rattle.transfers.specs.declared.Way.the-variants.{In, Out}
-use Rattle.account.specs.Plain.{Plain, withBuffer, withStore, withStatus, Ending, Well, NotFound, Unreadable, WriteFault, Aborted, ends, Account, silent, moving}
+use Rattle.account.specs.Plain.{Plain, withBuffer, withStore, withStatus, Finish, Well, NotFound, Unreadable, WriteFault, Aborted, ends, Account, silent, moving}
 use Rattle.account.specs.Course.{Course, courseOf, named}
-use Rattle.account.specs.Runs.{Run, stopped, runEnds, unwritable, putSector, readSectors, writeSectors}
+use Rattle.account.specs.Sweeps.{Sweep, stopped, sweepEnds, unwritable, putSector, readSectors, writeSectors}
 use Rattle.account.specs.Host.{plainOf, plainIn}
 use Rattle.account.specs.Notes.{Waiting, None, LowByte, HighByte, Notes}
 use Rattle.account.specs.Claim.{AllBytes}
@@ -42,7 +42,7 @@ doneIn (Sectors left) p = readSectors (courseOf p) (indexOf (located p) + 1) (le
 
 -- the bytes of sector i have come: its mark is tested, then it is stored
 unfoldable pub storedThen : Bool → ℕ → ℕ → Course → Plain → List ℕ → List ℕ → Account
-storedThen true left i c p b d = silent (runEnds c (stopped WriteFault left i) (withBuffer b p))
+storedThen true left i c p b d = silent (sweepEnds c (stopped WriteFault left i) (withBuffer b p))
 storedThen false left i c p b d = writeSectors c (i + 1) (left - 1) (withBuffer b (withStore (putSector i b (p .store)) (set (p .marks) i 0) p)) d
 
 -- b has been written, d is to come
@@ -119,15 +119,15 @@ pub record Rel (way : Way) (plain : List ℕ → Account) (m : Machine) (q : Not
   pub waits : Waits way (m .phase) (plainOf m) (q .waiting)
 
 -- Status in a transfer is 58H, which no end keeps
-pub ends-status : (e : Ending) (v : ℕ) (p : Plain) → ends e (withStatus v p) ≡ ends e p
+pub ends-status : (e : Finish) (v : ℕ) (p : Plain) → ends e (withStatus v p) ≡ ends e p
 ends-status Well v p = refl
 ends-status (NotFound code) v p = refl
 ends-status Unreadable v p = refl
 ends-status WriteFault v p = refl
 ends-status (Aborted code) v p = refl
 
-pub run-status : (c : Course) (r : Run) (v : ℕ) (p : Plain) → runEnds c r (withStatus v p) ≡ runEnds c r p
-run-status c r v p = ends-status (r .ending) v _
+pub sweep-status : (c : Course) (r : Sweep) (v : ℕ) (p : Plain) → sweepEnds c r (withStatus v p) ≡ sweepEnds c r p
+sweep-status c r v p = ends-status (r .finish) v _
 
 -- what holds between two accesses
 abbrev pub Between : Way → Machine → Waiting → Type 0

@@ -10,10 +10,10 @@ use Rattle.ground.proofs.Every.{and-left, and-right}
 use Rattle.commands.specs.declared.Command.{Command}
 use Rattle.commands.specs.declared.Command.the-variants.{Read, Write, Verify, Erase, Identify, ReadBuffer, WriteBuffer, SetGeometry, Diagnose, Recalibrate, Seek, Sense, Other}
 use Rattle.commands.specs.Table.{commandOf}
-use Rattle.account.specs.Rows.{Row, Reads, Writes, Verifies, Erases, Identifies, ReadsBuffer, WritesBuffer, SetsGeometry, Diagnoses, Recalibrates, Seeks, Senses, Others, rows, rowIn, rowOf}
+use Rattle.account.specs.CommandRows.{CommandRow, Reads, Writes, Verifies, Erases, Identifies, ReadsBuffer, WritesBuffer, SetsGeometry, Diagnoses, Recalibrates, Seeks, Senses, Others, rows, rowIn, rowOf}
 
 -- a command of the machine in the account's words
-abbrev pub rowFor : Command → Row
+abbrev pub rowFor : Command → CommandRow
 rowFor Read = Reads
 rowFor Write = Writes
 rowFor Verify = Verifies
@@ -61,21 +61,21 @@ has-sixteen : (n v : ℕ) → (leb (16 * n) v && leb v (16 * n + 15)) ≡ eqb (v
 has-sixteen n v = has-by (16 * n) (16 * n + 15) v (eqb (v / 16) n) (λ p q. eq-eqb (v / 16) n (omega arith)) (λ e. let z = eqb-true (v / 16) n e in (omega arith, omega arith))
 
 -- a row of such codes is the same in both tables, if the rest of them is
-chosen : (b : Bool) (k l : Command) (r : Row) → r ≡ rowFor l → pick b (rowFor k) r ≡ rowFor (pick b k l)
+chosen : (b : Bool) (k l : Command) (r : CommandRow) → r ≡ rowFor l → pick b (rowFor k) r ≡ rowFor (pick b k l)
 chosen true k l r e = refl
 chosen false k l r e = e
 
-one : (n v : ℕ) (k l : Command) (r : Row) → r ≡ rowFor l → pick (leb n v && leb v n) (rowFor k) r ≡ rowFor (pick (eqb v n) k l)
+one : (n v : ℕ) (k l : Command) (r : CommandRow) → r ≡ rowFor l → pick (leb n v && leb v n) (rowFor k) r ≡ rowFor (pick (eqb v n) k l)
 one n v k l r e = rw (has-one n v) (chosen (eqb v n) k l r e)
 
-two : (n v : ℕ) (k l : Command) (r : Row) → r ≡ rowFor l → pick (leb n v && leb v (n + 1)) (rowFor k) r ≡ rowFor (pick (eqb v n) k (pick (eqb v (n + 1)) k l))
+two : (n v : ℕ) (k l : Command) (r : CommandRow) → r ≡ rowFor l → pick (leb n v && leb v (n + 1)) (rowFor k) r ≡ rowFor (pick (eqb v n) k (pick (eqb v (n + 1)) k l))
 two n v k l r e = rw (has-two n v) (go (eqb v n) (eqb v (n + 1)))
   where
     go : (a b : Bool) → pick (a || b) (rowFor k) r ≡ rowFor (pick a k (pick b k l))
     go true b = refl
     go false b = chosen b k l r e
 
-sixteen : (n v : ℕ) (k l : Command) (r : Row) → r ≡ rowFor l → pick (leb (16 * n) v && leb v (16 * n + 15)) (rowFor k) r ≡ rowFor (pick (eqb (v / 16) n) k l)
+sixteen : (n v : ℕ) (k l : Command) (r : CommandRow) → r ≡ rowFor l → pick (leb (16 * n) v && leb v (16 * n + 15)) (rowFor k) r ≡ rowFor (pick (eqb (v / 16) n) k l)
 sixteen n v k l r e = rw (has-sixteen n v) (chosen (eqb (v / 16) n) k l r e)
 
 -- whatever the code, it is in the same row

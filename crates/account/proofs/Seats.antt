@@ -1,4 +1,4 @@
--- A run's registers: at index i with n sectors left; and how they go on to the next index.
+-- A sweep's registers: at index i with n sectors left; and how they go on to the next index.
 use Prim.Native.Nat.{ℕ, suc, _+_, _%_, _≤_, _<_}
 use mathlib.Core.Bool.{Bool, true, false}
 use mathlib.Core.Path.{_≡_, refl, sym, ap, subst}
@@ -12,19 +12,19 @@ use Rattle.geometry.specs.declared.Located.{Located}
 use Rattle.geometry.specs.Limits.{totalOf, currentFor}
 use Rattle.geometry.specs.Address.{byLba, roomOf, spotAt, goodAt}
 use Rattle.geometry.specs.Next.{nextOf}
-use Rattle.geometry.proofs.Limits.{current-room}
+use Rattle.geometry.proofs.LimitFacts.{current-room}
 use Rattle.geometry.proofs.Inside.{inside-room}
 use Rattle.geometry.proofs.Kept.{Bytes, next-kept}
-use Rattle.geometry.proofs.Next.{next-law}
+use Rattle.geometry.proofs.NextLaw.{next-law}
 use Rattle.registers.specs.declared.Made.{Made}
 use Rattle.registers.specs.declared.State.{State}
 use Rattle.registers.specs.State.{withCount, withAddress, locatedIn}
 use Rattle.transfers.specs.Steps.{sectorDone}
 use Rattle.account.specs.Plain.{sectorsOf, withPlace}
-use Rattle.account.specs.Place.{selectsLba}
+use Rattle.account.specs.Addressed.{selectsLba}
 use Rattle.account.specs.Course.{Course, courseOf, named}
 use Rattle.account.specs.Host.{plainIn}
-use Rattle.account.proofs.Place.{selects-is}
+use Rattle.account.proofs.Addressed.{selects-is}
 use Rattle.account.proofs.Names.{named-self, next-named}
 
 abbrev pub courseIn : State → Course
@@ -49,7 +49,7 @@ room-is : (s : State) → Shaped (s .made) (s .current) → roomOf (s .registers
 unfolding roomOf
 room-is s h = rw (selects-is (s .registers .address)) (ap (λ (n : ℕ). pick (byLba (s .registers .address)) n (sectorsOf (s .current))) (h .1))
 
--- the first sector of a run
+-- the first sector of a sweep
 pub seat-room : (s : State) (i : ℕ) → Shaped (s .made) (s .current) → locatedIn s ≡ goodAt i → i < courseIn s .room
 seat-room s i h e = subst (λ (n : ℕ). i < n) (room-is s h) (inside-room (s .registers .address) (s .current) (totalOf (s .made .default)) (spotAt i) (h .0) e .0)
 
@@ -88,7 +88,7 @@ seat-next c n i s h e q =
 pub place-seated : (c : Course) (i n : ℕ) (s : State) (b t k : List ℕ) → Seated c i n s → withPlace (n % 256) (named c i) (plainIn s b t k) ≡ plainIn s b t k
 place-seated c i n s b t k h = rw (← h .0, ← h .1)
 
--- the room of a run lies in the store
+-- the room of a sweep lies in the store
 room-by : (b : Bool) (m n : ℕ) → m ≤ n → pick b n m ≤ n
 room-by true m n h = omega arith
 room-by false m n h = h

@@ -12,23 +12,23 @@ use Rattle.registers.specs.declared.State.{State}
 use Rattle.registers.specs.State.{totalIn}
 use Rattle.commands.specs.Table.{soughtEnd}
 use Rattle.account.specs.Plain.{sectorsOf, Well, NotFound}
-use Rattle.account.specs.Place.{judged}
+use Rattle.account.specs.Addressed.{judged}
 use Rattle.account.specs.Table.{seeks}
 use Rattle.account.specs.Host.{plainIn}
-use Rattle.account.proofs.Place.{selects-is, lba-is, cylinder-is}
+use Rattle.account.proofs.Addressed.{selects-is, lba-is, cylinder-is}
 use Rattle.account.proofs.Seats.{Shaped}
-use Rattle.account.proofs.Tried.{endingOf}
+use Rattle.account.proofs.Tried.{finishOf}
 
 seek-by : (a u v w : Bool) →
     pick a (judged false (not u) NotFound Well) (judged (not v) (not w) NotFound Well)
-    ≡ endingOf (soughtEnd (pick a (pick u Sought.Good Sought.BadLba) (pick v (pick w Sought.Good Sought.BadCylinder) Sought.BadHead)))
+    ≡ finishOf (soughtEnd (pick a (pick u Sought.Good Sought.BadLba) (pick v (pick w Sought.Good Sought.BadCylinder) Sought.BadHead)))
 seek-by true true v w = refl
 seek-by true false v w = refl
 seek-by false u true true = refl
 seek-by false u true false = refl
 seek-by false u false w = refl
 
-pub seek-is : (s : State) (b t k : List ℕ) → Shaped (s .made) (s .current) → seeks (plainIn s b t k) ≡ endingOf (soughtEnd (seek (s .registers .address) (s .current) (totalIn s)))
+pub seek-is : (s : State) (b t k : List ℕ) → Shaped (s .made) (s .current) → seeks (plainIn s b t k) ≡ finishOf (soughtEnd (seek (s .registers .address) (s .current) (totalIn s)))
 unfolding seeks seek
 seek-is s b t k h =
     let a = s .registers .address in

@@ -5,6 +5,7 @@ use mathlib.Core.Path.{_≡_, refl, _∙_}
 use mathlib.Core.List.{List}
 use lib.Dec.{eqb}
 use Rattle.ground.specs.Left.{Left}
+use Rattle.sectors.specs.Sectors.{StoreMarks}
 use Rattle.ground.specs.Choice.{pick}
 use Rattle.registers.specs.declared.Phase.the-variants.{Idle}
 use Rattle.registers.specs.declared.State.{State}
@@ -41,15 +42,15 @@ verify-settled n s marks = verify-elim (SameSetup s) (Settled s) (done-keeps s) 
 -- ---- Erase
 
 pub erase-settled : (r n : ℕ) (s : State) (store marks : List ℕ) → LentFor n store marks →
-    Settled s (eraseFrom r s store marks .result) × LentFor n (eraseFrom r s store marks .store) (eraseFrom r s store marks .marks)
+    Settled s (eraseFrom r s store marks .outcome) × LentFor n (eraseFrom r s store marks .next .store) (eraseFrom r s store marks .next .marks)
 erase-settled r n s store marks l =
-    erase-elim (λ (x : State) (st mk : List ℕ). SameSetup s x × LentFor n st mk) (λ (k : Left Core). Settled s (k .result) × LentFor n (k .store) (k .marks))
+    erase-elim (λ (x : State) (st mk : List ℕ). SameSetup s x × LentFor n st mk) (λ (k : Left Core StoreMarks). Settled s (k .outcome) × LentFor n (k .next .store) (k .next .marks))
     (λ x st mk h. let w = sector-stored x allFF st mk all-FF-length in (h .0, (w .0 ∙ h .1 .0, w .1 ∙ h .1 .1)))
     (λ k x st mk h. (done-keeps s k x (h .0), h .1))
     (λ e x st mk h. let i = h .0 in ((refl, i .0, i .1, i .2, i .3), h .1))
     r s store marks ((refl, refl, refl, refl), l)
 
 -- no transfer runs after Erase, whatever the lengths
-pub erase-idle : (r : ℕ) (s : State) (store marks : List ℕ) → eraseFrom r s store marks .result .phase ≡ Idle
+pub erase-idle : (r : ℕ) (s : State) (store marks : List ℕ) → eraseFrom r s store marks .outcome .phase ≡ Idle
 erase-idle r s store marks =
-    erase-elim (λ (x : State) (st mk : List ℕ). Unit {0}) (λ (k : Left Core). k .result .phase ≡ Idle) (λ x st mk u. tt) (λ n x st mk u. tt) (λ e x st mk u. refl) r s store marks tt
+    erase-elim (λ (x : State) (st mk : List ℕ). Unit {0}) (λ (k : Left Core StoreMarks). k .outcome .phase ≡ Idle) (λ x st mk u. tt) (λ n x st mk u. tt) (λ e x st mk u. refl) r s store marks tt

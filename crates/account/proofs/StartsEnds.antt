@@ -6,6 +6,7 @@ use lib.ListN.{take}
 use Rattle.registers.specs.declared.Load.the-variants.{Buffer}
 use Rattle.registers.specs.declared.Phase.the-variants.{DataIn, DataOut}
 use Rattle.registers.specs.declared.State.{State}
+use Rattle.registers.specs.Status.{dataStatus}
 use Rattle.registers.specs.State.{withError}
 use Rattle.registers.specs.Machine.{machine}
 use Rattle.transfers.specs.declared.End.{End}
@@ -13,10 +14,10 @@ use Rattle.transfers.specs.declared.Order.the-variants.{First}
 use Rattle.transfers.specs.Ends.{ended}
 use Rattle.transfers.specs.Steps.{newTransfer, ready, askedFor}
 use Rattle.commands.specs.Table.{started, diagnosed}
-use Rattle.account.specs.Plain.{Plain, withBuffer, withStatus, starts, Ending, Well, ends, silent, moving}
+use Rattle.account.specs.Plain.{Plain, withBuffer, withStatus, starts, Finish, Well, ends, silent, moving}
 use Rattle.account.specs.Table.{diagnoses, senses}
 use Rattle.account.specs.Host.{plainIn}
-use Rattle.account.proofs.Tried.{endingOf, ended-ends}
+use Rattle.account.proofs.Tried.{finishOf, ended-ends}
 use Rattle.account.proofs.Rest.{restAt, rest, doneIn, doneOut, ends-status}
 
 -- Error and code 0
@@ -24,8 +25,8 @@ pub started-starts : (s : State) (b t k : List ℕ) → plainIn (started s) b t 
 started-starts s b t k = refl
 
 -- a command that starts and ends, and does nothing between
-pub starts-ends : (e : End) (s : State) (b t k : List ℕ) → plainIn (ended e (started s) .state) b t k ≡ ends (endingOf e) (starts (plainIn s b t k))
-starts-ends e s b t k = ended-ends e (started s) b t k ∙ ap (ends (endingOf e)) (started-starts s b t k)
+pub starts-ends : (e : End) (s : State) (b t k : List ℕ) → plainIn (ended e (started s) .state) b t k ≡ ends (finishOf e) (starts (plainIn s b t k))
+starts-ends e s b t k = ended-ends e (started s) b t k ∙ ap (ends (finishOf e)) (started-starts s b t k)
 
 -- 90H
 pub diagnosed-is : (s : State) (b t k : List ℕ) → plainIn (ended End.Good (diagnosed s) .state) b t k ≡ diagnoses (plainIn s b t k)
@@ -47,10 +48,10 @@ unfolding restAt doneOut
 buffer-out p d = refl
 
 -- its Status is 58H, which its end does not keep
-begun-ends : (e : Ending) (s : State) (b t k : List ℕ) → ends e (withStatus 0x58 (plainIn (started s) b t k)) ≡ ends e (starts (plainIn s b t k))
+begun-ends : (e : Finish) (s : State) (b t k : List ℕ) → ends e (withStatus dataStatus (plainIn (started s) b t k)) ≡ ends e (starts (plainIn s b t k))
 begun-ends e s b t k =
-    ap (λ (p : Plain). ends e (withStatus 0x58 p)) (started-starts s b t k)
-    ∙ ends-status e 0x58 (starts (plainIn s b t k))
+    ap (λ (p : Plain). ends e (withStatus dataStatus p)) (started-starts s b t k)
+    ∙ ends-status e dataStatus (starts (plainIn s b t k))
 
 -- E4H, and ECH once its bytes are in the buffer
 pub buffer-read : (s : State) (b t k d : List ℕ) → moving b (silent (ends Well (starts (plainIn s b t k)))) ≡ rest (machine (ready Buffer (started s)) b t k) d

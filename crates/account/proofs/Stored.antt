@@ -8,9 +8,9 @@ use lib.ListN.{length, set, length-append, length-take, length-drop, length-set}
 use lib.Seq.{getD-set-other}
 use borrow.Author.Tests.{lt-ltb}
 use Rattle.sectors.specs.Sectors.{storeMarks, stored, withSector}
-use Rattle.account.specs.Plain.{Ending}
+use Rattle.account.specs.Plain.{Finish}
 use Rattle.account.specs.Course.{Course}
-use Rattle.account.specs.Runs.{runFrom, tests, putSector}
+use Rattle.account.specs.Sweeps.{sweepFrom, tests, putSector}
 
 -- a store and marks of n sectors
 abbrev pub LentFor : ℕ → List ℕ → List ℕ → Type 0
@@ -29,11 +29,11 @@ put-length i n b s h e f = simp (length-append, length-take, length-drop) (omega
 pub stored-lent : (n i : ℕ) (store marks bytes : List ℕ) → i < n → LentFor n store marks → length bytes ≡ 512 → LentFor n (putSector i bytes store) (set marks i 0)
 stored-lent n i store marks bytes h l e = (put-length i n bytes store h e (l .0), length-set marks i 0 ∙ l .1)
 
-test-later : (forbids : ℕ → Bool) (e : Ending) (c : Course) (marks : List ℕ) (i j : ℕ) → i < j → tests forbids e c (set marks i 0) j ≡ tests forbids e c marks j
+test-later : (forbids : ℕ → Bool) (e : Finish) (c : Course) (marks : List ℕ) (i j : ℕ) → i < j → tests forbids e c (set marks i 0) j ≡ tests forbids e c marks j
 unfolding tests
 test-later forbids e c marks i j h = rw (getD-set-other marks i j 0 0 (omega arith))
 
-pub run-later : (forbids : ℕ → Bool) (e : Ending) (c : Course) (marks : List ℕ) (i j n : ℕ) → i < j → runFrom (tests forbids e c (set marks i 0)) j n ≡ runFrom (tests forbids e c marks) j n
-unfolding runFrom
-run-later forbids e c marks i j zero h = refl
-run-later forbids e c marks i j (suc n) h = rw (test-later forbids e c marks i j h, run-later forbids e c marks i (j + 1) n (omega arith))
+pub sweep-later : (forbids : ℕ → Bool) (e : Finish) (c : Course) (marks : List ℕ) (i j n : ℕ) → i < j → sweepFrom (tests forbids e c (set marks i 0)) j n ≡ sweepFrom (tests forbids e c marks) j n
+unfolding sweepFrom
+sweep-later forbids e c marks i j zero h = refl
+sweep-later forbids e c marks i j (suc n) h = rw (test-later forbids e c marks i j h, sweep-later forbids e c marks i (j + 1) n (omega arith))

@@ -7,7 +7,7 @@ use Rattle.ground.proofs.Picks.{neither}
 use Rattle.maps.specs.declared.Register.the-variants.{StatusCommand}
 use Rattle.registers.specs.State.{sresetIn}
 use Rattle.registers.specs.Machine.{Machine}
-use Rattle.registers.specs.WellMade.{heldIn}
+use Rattle.registers.specs.WellMade.{inReset}
 use Rattle.transfers.specs.declared.Way.{Way}
 use Rattle.commands.specs.Table.{dropped, commandGiven}
 use Rattle.card.specs.declared.Meaning.{Meaning}
@@ -17,7 +17,7 @@ use Rattle.card.specs.Perform.{registerWritten, perform}
 use Rattle.card.specs.Step.{step, play}
 use Rattle.kept.proofs.Perform.{not-held}
 use Rattle.account.specs.Plain.{Account}
-use Rattle.account.specs.Rows.{rowOf}
+use Rattle.account.specs.CommandRows.{rowOf}
 use Rattle.account.specs.Table.{account}
 use Rattle.account.specs.Host.{plainOf, asks, GoesBy, MovesBy, Hosted, hostedBy, meanings, Moves, hosted}
 use Rattle.account.specs.Notes.{Notes, noNotes, note, wayOf}
@@ -30,8 +30,8 @@ use Rattle.account.proofs.Accepted.{given, able}
 
 -- ---- over what accesses mean
 
-pub command-given : (v : ℕ) (m : Machine) → heldIn (m .state) ≡ false → commanded v m ≡ commandGiven v m
-unfolding perform registerWritten heldIn
+pub command-given : (v : ℕ) (m : Machine) → inReset (m .state) ≡ false → commanded v m ≡ commandGiven v m
+unfolding perform registerWritten inReset
 command-given v m h = rw (neither (sresetIn (m .state .option)) (m .state .control .held) h .1)
 
 -- a command starts with the account of all of it
@@ -98,7 +98,7 @@ agreed m a v l w =
 -- command in it, the host's data, the store, the marks and the card are those of the account.
 pub as-the-account : (m : Machine) (a : Asked) (v : ℕ) (l : List Asked) →
     meaning m a ≡ WriteRegister StatusCommand v →
-    heldIn (m .state) ≡ false →
+    inReset (m .state) ≡ false →
     Typed m →
     Moves (step m a .next) l →
     Agrees (account (rowOf v) (plainOf m)) (hosted (wayOf (rowOf v)) (step m a .next) noNotes l)

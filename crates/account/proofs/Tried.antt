@@ -18,24 +18,25 @@ use Rattle.transfers.specs.Ends.{ended}
 use Rattle.transfers.specs.declared.Way.the-variants.{In, Out}
 use Rattle.transfers.specs.Before.{addressTest, testedOf, markTested, sectorTest}
 use Rattle.kept.proofs.Ends.{bad}
-use Rattle.account.specs.Plain.{Plain, Ending, Well, NotFound, Unreadable, WriteFault, Aborted, ends, withPlace}
+use Rattle.account.specs.Numbers.{codeHeadOrSector, codeCylinderOrLba, codeGeometry, codeOthers}
+use Rattle.account.specs.Plain.{Plain, Finish, Well, NotFound, Unreadable, WriteFault, Aborted, ends, withPlace}
 use Rattle.account.specs.Course.{Course, named}
-use Rattle.account.specs.Runs.{Run, tried, stopped, tests, unreadable, unwritable, runEnds}
+use Rattle.account.specs.Sweeps.{Sweep, tried, stopped, tests, unreadable, unwritable, sweepEnds}
 use Rattle.account.specs.Host.{plainIn}
 use Rattle.account.proofs.Seats.{Seated, Where, pastEnd, place-seated}
 
 -- an end of the machine in the account's words
-abbrev pub endingOf : End → Ending
-endingOf End.Good = Well
-endingOf End.BadHeadOrSector = NotFound 0x21
-endingOf End.BadCylinder = NotFound 0x2F
-endingOf End.BadLba = NotFound 0x2F
-endingOf End.Unreadable = Unreadable
-endingOf End.WriteFault = WriteFault
-endingOf End.BadGeometry = Aborted 0x21
-endingOf End.NoSuchCommand = Aborted 0x20
+abbrev pub finishOf : End → Finish
+finishOf End.Good = Well
+finishOf End.BadHeadOrSector = NotFound codeHeadOrSector
+finishOf End.BadCylinder = NotFound codeCylinderOrLba
+finishOf End.BadLba = NotFound codeCylinderOrLba
+finishOf End.Unreadable = Unreadable
+finishOf End.WriteFault = WriteFault
+finishOf End.BadGeometry = Aborted codeGeometry
+finishOf End.NoSuchCommand = Aborted codeOthers
 
-pub ended-ends : (e : End) (s : State) (b t k : List ℕ) → plainIn (ended e s .state) b t k ≡ ends (endingOf e) (plainIn s b t k)
+pub ended-ends : (e : End) (s : State) (b t k : List ℕ) → plainIn (ended e s .state) b t k ≡ ends (finishOf e) (plainIn s b t k)
 ended-ends End.Good s b t k = refl
 ended-ends End.BadHeadOrSector s b t k = refl
 ended-ends End.BadCylinder s b t k = refl
@@ -45,9 +46,9 @@ ended-ends End.WriteFault s b t k = refl
 ended-ends End.BadGeometry s b t k = refl
 ended-ends End.NoSuchCommand s b t k = refl
 
--- a failed test stops a run there
-stops : (e : End) → bad e ≡ true → (c : Course) (n i : ℕ) (rest : Run) (p : Plain) →
-    (tried (endingOf e) n i rest ≡ stopped (endingOf e) n i) × (runEnds c (stopped (endingOf e) n i) p ≡ ends (endingOf e) (withPlace (n % 256) (named c i) p))
+-- a failed test stops a sweep there
+stops : (e : End) → bad e ≡ true → (c : Course) (n i : ℕ) (rest : Sweep) (p : Plain) →
+    (tried (finishOf e) n i rest ≡ stopped (finishOf e) n i) × (sweepEnds c (stopped (finishOf e) n i) p ≡ ends (finishOf e) (withPlace (n % 256) (named c i) p))
 stops End.Good h c n i rest p = absurd (false≢true h)
 stops End.BadHeadOrSector h c n i rest p = (refl, refl)
 stops End.BadCylinder h c n i rest p = (refl, refl)
@@ -57,20 +58,20 @@ stops End.WriteFault h c n i rest p = (refl, refl)
 stops End.BadGeometry h c n i rest p = (refl, refl)
 stops End.NoSuchCommand h c n i rest p = (refl, refl)
 
-pub stops-run : (e : End) → bad e ≡ true → (c : Course) (n i : ℕ) (rest : Run) (p : Plain) → tried (endingOf e) n i rest ≡ stopped (endingOf e) n i
-stops-run e h c n i rest p = stops e h c n i rest p .0
+pub stops-sweep : (e : End) → bad e ≡ true → (c : Course) (n i : ℕ) (rest : Sweep) (p : Plain) → tried (finishOf e) n i rest ≡ stopped (finishOf e) n i
+stops-sweep e h c n i rest p = stops e h c n i rest p .0
 
 -- and leaves what the machine's end leaves
 pub stops-ends : (e : End) → bad e ≡ true → (c : Course) (n i : ℕ) (s : State) (b t k : List ℕ) → Seated c i n s →
-    plainIn (ended e s .state) b t k ≡ runEnds c (stopped (endingOf e) n i) (plainIn s b t k)
+    plainIn (ended e s .state) b t k ≡ sweepEnds c (stopped (finishOf e) n i) (plainIn s b t k)
 stops-ends e h c n i s b t k q =
     ended-ends e s b t k
-    ∙ ap (ends (endingOf e)) (sym (place-seated c i n s b t k q))
+    ∙ ap (ends (finishOf e)) (sym (place-seated c i n s b t k q))
     ∙ sym (stops e h c n i (stopped Well 0 0) (plainIn s b t k) .1)
 
 -- ---- the tests
 
-past-end : (l : Bool) → (P : Tested → Ending → Type 0) → ((e : End) → bad e ≡ true → P (Fails e) (endingOf e)) → P (testedOf (pick l Located.BadLba Located.BadCylinder)) (NotFound 0x2F)
+past-end : (l : Bool) → (P : Tested → Finish → Type 0) → ((e : End) → bad e ≡ true → P (Fails e) (finishOf e)) → P (testedOf (pick l Located.BadLba Located.BadCylinder)) (NotFound codeCylinderOrLba)
 past-end true P f = f End.BadLba refl
 past-end false P f = f End.BadCylinder refl
 
@@ -80,26 +81,26 @@ past-marked : (l : Bool) (allows : ℕ → Bool) (e : End) (marks : List ℕ) �
 past-marked true allows e marks = refl
 past-marked false allows e marks = refl
 
-marked : (u v : Bool) (i : ℕ) (e : End) (P : Tested → Ending → Type 0) → bad e ≡ true → v ≡ not u → P (Passes (spotAt i)) Well → ((f : End) → bad f ≡ true → P (Fails f) (endingOf f)) →
-    P (pick u (Passes (spotAt i)) (Fails e)) (pick v (endingOf e) Well)
+marked : (u v : Bool) (i : ℕ) (e : End) (P : Tested → Finish → Type 0) → bad e ≡ true → v ≡ not u → P (Passes (spotAt i)) Well → ((f : End) → bad f ≡ true → P (Fails f) (finishOf f)) →
+    P (pick u (Passes (spotAt i)) (Fails e)) (pick v (finishOf e) Well)
 marked true true i e P h q x f = absurd (true≢false q)
 marked true false i e P h q x f = x
 marked false true i e P h q x f = f e h
 marked false false i e P h q x f = absurd (false≢true q)
 
 module _ (allows forbids : ℕ → Bool) (e : End) (h : bad e ≡ true) (opposite : (m : ℕ) → forbids m ≡ not (allows m)) where
-  placed : (b : Bool) (c : Course) (i : ℕ) (marks : List ℕ) (P : Tested → Ending → Type 0) → ltb i (c .room) ≡ b →
-      (i < c .room → P (Passes (spotAt i)) Well) → ((f : End) → bad f ≡ true → P (Fails f) (endingOf f)) →
-      P (markTested allows e (testedOf (pick b (goodAt i) (pastEnd c))) marks) (pick b (pick (forbids (getD marks i 0)) (endingOf e) Well) (NotFound 0x2F))
+  placed : (b : Bool) (c : Course) (i : ℕ) (marks : List ℕ) (P : Tested → Finish → Type 0) → ltb i (c .room) ≡ b →
+      (i < c .room → P (Passes (spotAt i)) Well) → ((f : End) → bad f ≡ true → P (Fails f) (finishOf f)) →
+      P (markTested allows e (testedOf (pick b (goodAt i) (pastEnd c))) marks) (pick b (pick (forbids (getD marks i 0)) (finishOf e) Well) (NotFound codeCylinderOrLba))
   placed true c i marks P q x f = marked (allows (getD marks i 0)) (forbids (getD marks i 0)) i e P h (opposite (getD marks i 0)) (x (ltb-true i (c .room) q)) f
   placed false c i marks P q x f = rw (past-marked (c .lba) allows e marks) (past-end (c .lba) P f)
 
-  tested : (c : Course) (i : ℕ) (s : State) (marks : List ℕ) (P : Tested → Ending → Type 0) → Where c i s →
-      (i < c .room → P (Passes (spotAt i)) Well) → ((f : End) → bad f ≡ true → P (Fails f) (endingOf f)) →
-      P (markTested allows e (addressTest s) marks) (tests forbids (endingOf e) c marks i)
+  tested : (c : Course) (i : ℕ) (s : State) (marks : List ℕ) (P : Tested → Finish → Type 0) → Where c i s →
+      (i < c .room → P (Passes (spotAt i)) Well) → ((f : End) → bad f ≡ true → P (Fails f) (finishOf f)) →
+      P (markTested allows e (addressTest s) marks) (tests forbids (finishOf e) c marks i)
   unfolding addressTest tests
   tested c i s marks P w x f =
-      subst (λ (l : Located). P (markTested allows e (testedOf l) marks) (tests forbids (endingOf e) c marks i)) (sym w) (placed (ltb i (c .room)) c i marks P refl x f)
+      subst (λ (l : Located). P (markTested allows e (testedOf l) marks) (tests forbids (finishOf e) c marks i)) (sym w) (placed (ltb i (c .room)) c i marks P refl x f)
 
 unread-opposite : (m : ℕ) → unreadable m ≡ not (readable m)
 unfolding unreadable readable
@@ -118,15 +119,15 @@ unwrite-opposite m = go (eqb m 2)
     go false = refl
 
 -- what holds of a sound sector and of each failed test, holds of a sector to be read
-pub read-tested : (c : Course) (i : ℕ) (s : State) (marks : List ℕ) (P : Tested → Ending → Type 0) → Where c i s →
-    (i < c .room → P (Passes (spotAt i)) Well) → ((f : End) → bad f ≡ true → P (Fails f) (endingOf f)) →
+pub read-tested : (c : Course) (i : ℕ) (s : State) (marks : List ℕ) (P : Tested → Finish → Type 0) → Where c i s →
+    (i < c .room → P (Passes (spotAt i)) Well) → ((f : End) → bad f ≡ true → P (Fails f) (finishOf f)) →
     P (sectorTest In s marks) (tests unreadable Unreadable c marks i)
 unfolding sectorTest
 read-tested c i s marks P w x f = tested readable unreadable End.Unreadable refl unread-opposite c i s marks P w x f
 
 -- and of a sector to be stored
-pub store-tested : (c : Course) (i : ℕ) (s : State) (marks : List ℕ) (P : Tested → Ending → Type 0) → Where c i s →
-    (i < c .room → P (Passes (spotAt i)) Well) → ((f : End) → bad f ≡ true → P (Fails f) (endingOf f)) →
+pub store-tested : (c : Course) (i : ℕ) (s : State) (marks : List ℕ) (P : Tested → Finish → Type 0) → Where c i s →
+    (i < c .room → P (Passes (spotAt i)) Well) → ((f : End) → bad f ≡ true → P (Fails f) (finishOf f)) →
     P (sectorTest Out s marks) (tests unwritable WriteFault c marks i)
 unfolding sectorTest
 store-tested c i s marks P w x f = tested writable unwritable End.WriteFault refl unwrite-opposite c i s marks P w x f

@@ -28,7 +28,7 @@ use Rattle.transfers.specs.Steps.{loadWritten, allMoved}
 use Rattle.port.specs.Halves.{nextWord}
 use Rattle.port.specs.Data.{withPhase}
 use Rattle.account.specs.Plain.{moving}
-use Rattle.account.specs.Runs.{unwritable}
+use Rattle.account.specs.Sweeps.{unwritable}
 use Rattle.account.specs.Host.{plainOf}
 use Rattle.account.proofs.Seats.{Shaped, courseIn, seat-room, room-total}
 use Rattle.account.proofs.Tried.{unwrite-opposite}

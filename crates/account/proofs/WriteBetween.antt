@@ -30,7 +30,7 @@ use Rattle.port.specs.Halves.{nextWord}
 use Rattle.port.specs.Data.{withPhase}
 use Rattle.transfers.specs.declared.Way.the-variants.{Out}
 use Rattle.account.specs.Course.{Course}
-use Rattle.account.specs.Runs.{putSector}
+use Rattle.account.specs.Sweeps.{putSector}
 use Rattle.account.specs.Host.{plainOf}
 use Rattle.account.specs.Notes.{None, Waiting}
 use Rattle.account.proofs.Seats.{Seated, Where, pastEnd, courseIn, onward, done-on, seat-next}

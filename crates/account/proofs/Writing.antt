@@ -15,6 +15,7 @@ use Rattle.geometry.specs.Limits.{totalOf}
 use Rattle.registers.specs.declared.Load.{Load}
 use Rattle.registers.specs.declared.Load.the-variants.{Sectors, Buffer}
 use Rattle.registers.specs.declared.State.{State}
+use Rattle.registers.specs.Status.{dataStatus}
 use Rattle.registers.specs.State.{locatedIn}
 use Rattle.registers.specs.Machine.{Machine, machine}
 use Rattle.transfers.specs.declared.Order.{Order}
@@ -23,19 +24,20 @@ use Rattle.transfers.specs.declared.End.{End}
 use Rattle.transfers.specs.declared.Tested.the-variants.{Passes, Fails}
 use Rattle.transfers.specs.Before.{addressTest, testedOf, storedBy}
 use Rattle.transfers.specs.Steps.{sectorDone, askTested, askSector, nextAsked, writtenBy}
-use Rattle.account.specs.Plain.{Plain, withBuffer, Ending, Well, NotFound, Unreadable, WriteFault, Aborted, withStatus, withStore, moving}
+use Rattle.account.specs.Numbers.{codeCylinderOrLba}
+use Rattle.account.specs.Plain.{Plain, withBuffer, Finish, Well, NotFound, Unreadable, WriteFault, Aborted, withStatus, withStore, moving}
 use Rattle.account.specs.Course.{Course}
-use Rattle.account.specs.Runs.{tried, runFrom, tests, unwritable, firstSectors, lastSectors, replaced, cleared, movedBy, putSector, writeDone, writeSectors}
+use Rattle.account.specs.Sweeps.{tried, sweepFrom, tests, unwritable, firstSectors, lastSectors, replaced, cleared, movedBy, putSector, writeDone, writeSectors}
 use Rattle.account.specs.Host.{plainOf, plainIn}
 use Rattle.account.proofs.Seats.{Shaped, Seated, Where, pastEnd, onward, done-on, seat-next}
 use Rattle.account.proofs.Tried.{stops-ends}
-use Rattle.account.proofs.Stored.{LentFor, stored-is, run-later}
+use Rattle.account.proofs.Stored.{LentFor, stored-is, sweep-later}
 use Rattle.account.proofs.Verifying.{seated-last}
-use Rattle.account.proofs.Rest.{doneOut, storedThen, restAt, rest, run-status}
+use Rattle.account.proofs.Rest.{doneOut, storedThen, restAt, rest, sweep-status}
 
 -- ---- the account of a sector, and of the rest
 
-moved-more : (e : Ending) (k : ℕ) → movedBy e (suc k) ≡ suc (movedBy e k)
+moved-more : (e : Finish) (k : ℕ) → movedBy e (suc k) ≡ suc (movedBy e k)
 moved-more Well k = refl
 moved-more (NotFound code) k = refl
 moved-more Unreadable k = refl
@@ -43,27 +45,27 @@ moved-more WriteFault k = refl
 moved-more (Aborted code) k = refl
 
 write-marked : (u : Bool) (n : ℕ) (c : Course) (i : ℕ) (p : Plain) (d : List ℕ) →
-    writeDone c i (tried (pick u WriteFault Well) (suc n) i (runFrom (tests unwritable WriteFault c (p .marks)) (i + 1) n)) p d
+    writeDone c i (tried (pick u WriteFault Well) (suc n) i (sweepFrom (tests unwritable WriteFault c (p .marks)) (i + 1) n)) p d
     ≡ moving (take 512 d) (storedThen u (suc n) i c p (take 512 d) (drop 512 d))
 unfolding storedThen writeSectors firstSectors lastSectors replaced cleared
 write-marked true n c i p d = refl
 write-marked false n c i p d =
-    let r = runFrom (tests unwritable WriteFault c (p .marks)) (i + 1) n in
-    rw (moved-more (r .ending) (r .done), sub-one (suc n), run-later unwritable WriteFault c (p .marks) i (i + 1) n (omega arith))
+    let r = sweepFrom (tests unwritable WriteFault c (p .marks)) (i + 1) n in
+    rw (moved-more (r .finish) (r .done), sub-one (suc n), sweep-later unwritable WriteFault c (p .marks) i (i + 1) n (omega arith))
 
 write-sound : (n : ℕ) (c : Course) (i : ℕ) (p : Plain) (d : List ℕ) → i < c .room →
     writeSectors c i (suc n) p d ≡ moving (take 512 d) (storedThen (unwritable (getD (p .marks) i 0)) (suc n) i c p (take 512 d) (drop 512 d))
-unfolding writeSectors runFrom tests
+unfolding writeSectors sweepFrom tests
 write-sound n c i p d h = rw (lt-ltb i (c .room) h) (unfold tests in write-marked (unwritable (getD (p .marks) i 0)) n c i p d)
 
 stored-status : (u : Bool) (n i : ℕ) (c : Course) (p : Plain) (b d : List ℕ) (v : ℕ) → storedThen u n i c (withStatus v p) b d ≡ storedThen u n i c p b d
 unfolding storedThen writeSectors
 stored-status true n i c p b d v = refl
 stored-status false n i c p b d v =
-    let r = runFrom (tests unwritable WriteFault c (set (p .marks) i 0)) (i + 1) (n - 1) in
-    ap (λ (x : Plain). record { moved = firstSectors (movedBy (r .ending) (r .done)) d; left = x })
-    (run-status c r v
-    (withBuffer (lastSectors (movedBy (r .ending) (r .done)) d b)
+    let r = sweepFrom (tests unwritable WriteFault c (set (p .marks) i 0)) (i + 1) (n - 1) in
+    ap (λ (x : Plain). record { moved = firstSectors (movedBy (r .finish) (r .done)) d; left = x })
+    (sweep-status c r v
+    (withBuffer (lastSectors (movedBy (r .finish) (r .done)) d b)
     (withStore (replaced (i + 1) (r .done) d (putSector i b (p .store))) (cleared (i + 1) (r .done) (set (p .marks) i 0)) p)))
 
 stored-over : (u : Bool) (n i : ℕ) (c : Course) (p : Plain) (x b d : List ℕ) → storedThen u n i c (withBuffer x p) b d ≡ storedThen u n i c p b d
@@ -80,7 +82,7 @@ done-over (Sectors n) p x b d = stored-over _ n _ _ p x b d
 
 past-rest : (l : Bool) (n : ℕ) (order : Order) (c : Course) (i : ℕ) (s : State) (b t k d : List ℕ) → Seated c i (suc n) s →
     rest (machine (askTested (testedOf (pick l Located.BadLba Located.BadCylinder)) (suc n) order s) b t k) d
-    ≡ writeDone c i (tried (NotFound 0x2F) (suc n) i (runFrom (tests unwritable WriteFault c k) (i + 1) n)) (plainIn s b t k) d
+    ≡ writeDone c i (tried (NotFound codeCylinderOrLba) (suc n) i (sweepFrom (tests unwritable WriteFault c k) (i + 1) n)) (plainIn s b t k) d
 unfolding restAt firstSectors lastSectors replaced cleared
 past-rest true n order c i s b t k d q = rw (stops-ends End.BadLba refl c (suc n) i s b t k q)
 past-rest false n order c i s b t k d q = rw (stops-ends End.BadCylinder refl c (suc n) i s b t k q)
@@ -91,8 +93,8 @@ ask-by : (v : Bool) (n : ℕ) (order : Order) (c : Course) (i : ℕ) (s : State)
 unfolding restAt doneOut
 ask-by true n order c i s b t k d e q w =
     let h = ltb-true i (c .room) e in
-    rw (w, q .2, stored-status (unwritable (getD k i 0)) (suc n) i c (plainIn s b t k) (take 512 d) (drop 512 d) 0x58, write-sound n c i (plainIn s b t k) d h)
-ask-by false n order c i s b t k d e q w = unfold writeSectors runFrom tests in rw e (past-rest (c .lba) n order c i s b t k d q)
+    rw (w, q .2, stored-status (unwritable (getD k i 0)) (suc n) i c (plainIn s b t k) (take 512 d) (drop 512 d) dataStatus, write-sound n c i (plainIn s b t k) d h)
+ask-by false n order c i s b t k d e q w = unfold writeSectors sweepFrom tests in rw e (past-rest (c .lba) n order c i s b t k d q)
 
 -- a sector is asked for
 pub ask-rest : (n : ℕ) (order : Order) (c : Course) (i : ℕ) (s : State) (b t k d : List ℕ) → Seated c i (suc n) s → Where c i s →
@@ -106,7 +108,7 @@ ask-rest n order c i s b t k d q w =
 asked-rest : (n : ℕ) (c : Course) (i : ℕ) (s : State) (b t k d : List ℕ) → Shaped (s .made) (s .current) → Seated c i (suc n) s → locatedIn s ≡ goodAt i →
     rest (machine (nextAsked n s) b t k) d ≡ writeSectors c (i + 1) n (plainIn s b t k) d
 unfolding nextAsked
-asked-rest zero c i s b t k d h q e = unfold sectorDone restAt writeSectors runFrom firstSectors lastSectors replaced cleared in rw (seated-last c i 1 s q)
+asked-rest zero c i s b t k d h q e = unfold sectorDone restAt writeSectors sweepFrom firstSectors lastSectors replaced cleared in rw (seated-last c i 1 s q)
 asked-rest (suc n) c i s b t k d h q e =
     let z = seat-next c (suc n) i s h e (q .2) in
     rw (done-on n s, ne-eqb (suc n) 0 (omega arith)) (ask-rest n Later c (i + 1) (onward (suc n) s) b t k d (z .0) (z .1) ∙ (unfold writeSectors in refl))

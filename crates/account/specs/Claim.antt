@@ -5,8 +5,8 @@ use mathlib.Core.List.{List, _++_}
 use mathlib.Core.Path.{_≡_}
 use lib.ListN.{length, getD}
 use Rattle.registers.specs.Machine.{Machine}
-use Rattle.registers.specs.WellMade.{heldIn}
-use Rattle.account.specs.Plain.{Account}
+use Rattle.registers.specs.WellMade.{inReset}
+use Rattle.account.specs.Plain.{bytesPerSector, Account}
 use Rattle.account.specs.Host.{plainOf, asks, Hosted}
 use Rattle.account.specs.Notes.{None}
 
@@ -21,7 +21,7 @@ pub record Typed (m : Machine) : Type 0 where
   pub low : m .state .registers .address .low < 256
   pub high : m .state .registers .address .high < 256
   pub head : m .state .registers .address .head < 256
-  pub buffer : length (m .buffer) ≡ 512
+  pub buffer : length (m .buffer) ≡ bytesPerSector
   pub bufferBytes : AllBytes (m .buffer)
   pub storeBytes : AllBytes (m .store)
 
@@ -33,4 +33,4 @@ pub record Agrees (plain : List ℕ → Account) (h : Hosted) : Type 0 where
   -- no half word is left with the host
   pub noHalf : h .notes .waiting ≡ None
   pub over : asks (h .machine) ≡ false
-  pub free : heldIn (h .machine .state) ≡ false
+  pub free : inReset (h .machine .state) ≡ false

@@ -1,11 +1,11 @@
--- The sectors of a run by their indices: which there are, and how the registers name one.
+-- The sectors of a sweep by their indices: which there are, and how the registers name one.
 use Prim.Native.Nat.{ℕ, _+_, _*_, _/_, _%_}
 use mathlib.Core.Bool.{Bool}
 use Rattle.ground.specs.Choice.{pick}
 use Rattle.geometry.specs.declared.Geometry.{Geometry}
 use Rattle.geometry.specs.declared.Address.{Address}
 use Rattle.account.specs.Plain.{Plain, sectorsOf}
-use Rattle.account.specs.Place.{selectsLba}
+use Rattle.account.specs.Addressed.{selectsLba}
 
 -- LBA or CHS by which geometry, with bits 7..4 of Drive/Head; and how many sectors can be named so: N in LBA, C·H·S of the current geometry in CHS
 pub record Course : Type 0 where

@@ -1,8 +1,9 @@
-pub mod Rows
+pub mod CommandRows
+pub mod Numbers
 pub mod Plain
-pub mod Place
+pub mod Addressed
 pub mod Course
-pub mod Runs
+pub mod Sweeps
 pub mod Words
 pub mod Table
 pub mod Notes

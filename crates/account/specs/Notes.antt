@@ -7,7 +7,7 @@ use Rattle.transfers.specs.declared.Way.{Way}
 use Rattle.transfers.specs.declared.Way.the-variants.{In, Out}
 use Rattle.card.specs.declared.Meaning.{Meaning}
 use Rattle.card.specs.declared.Meaning.the-variants.{TupleByte, ReadOption, WriteOption, ReadRegister, WriteRegister, ReadData, WriteData}
-use Rattle.account.specs.Rows.{Row, Reads, Writes, Verifies, Erases, Identifies, ReadsBuffer, WritesBuffer, SetsGeometry, Diagnoses, Recalibrates, Seeks, Senses, Others}
+use Rattle.account.specs.CommandRows.{CommandRow, Reads, Writes, Verifies, Erases, Identifies, ReadsBuffer, WritesBuffer, SetsGeometry, Diagnoses, Recalibrates, Seeks, Senses, Others}
 
 -- of the word at hand: nothing yet, its low byte, or its high byte
 pub data Waiting : Type 0 where
@@ -71,7 +71,7 @@ note Out (ReadData port) o q = q
 note Out (WriteData port v) o q = noteWritten o port v q
 
 -- the way of a command's data; for a command without data either will do
-abbrev pub wayOf : Row → Way
+abbrev pub wayOf : CommandRow → Way
 wayOf Reads = In
 wayOf Writes = Out
 wayOf Verifies = In

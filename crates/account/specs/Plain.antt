@@ -5,6 +5,7 @@ use Rattle.geometry.specs.declared.Geometry.{Geometry}
 use Rattle.geometry.specs.declared.Address.{Address}
 use Rattle.registers.specs.declared.Registers.{Registers}
 use Rattle.registers.specs.declared.Made.{Made}
+use Rattle.account.specs.Numbers.{statusIdle, statusError, statusWriteFault, errorUNC, errorIDNF, errorABRT, codeUnreadable, codeWriteFault}
 
 pub record Plain : Type 0 where
   pub made : Made
@@ -14,6 +15,10 @@ pub record Plain : Type 0 where
   pub buffer : List ℕ
   pub store : List ℕ
   pub marks : List ℕ
+
+-- "the 512-byte buffer"; "Store length is 512·N": said anew here, as every number of the account
+abbrev pub bytesPerSector : ℕ
+bytesPerSector = 512
 
 -- "N = C·H·S"
 abbrev pub sectorsOf : Geometry → ℕ
@@ -52,25 +57,25 @@ withPlace n a p = withRegisters (record { status = p .registers .status; error =
 abbrev pub starts : Plain → Plain
 starts p = withCode 0 (withError 0 p)
 
--- "Error: 40H UNC, 10H IDNF, 04H ABRT", and a code
-pub data Ending : Type 0 where
-  Well : Ending
-  NotFound : ℕ → Ending
-  Unreadable : Ending
-  WriteFault : Ending
-  Aborted : ℕ → Ending
+-- how a command ends: well, or with a bit of Error and a code
+pub data Finish : Type 0 where
+  Well : Finish
+  NotFound : ℕ → Finish
+  Unreadable : Finish
+  WriteFault : Finish
+  Aborted : ℕ → Finish
 
 -- Status, Error, code
 abbrev pub failing : ℕ → ℕ → ℕ → Plain → Plain
 failing status error code p = withCode code (withError error (withStatus status p))
 
--- "Idle 50H, … error 51H, write fault 71H"; "mark 1: UNC, 11H"; "mark 2: ABRT and DWF, 03H"
-abbrev pub ends : Ending → Plain → Plain
-ends Well p = withStatus 0x50 p
-ends (NotFound code) p = failing 0x51 0x10 code p
-ends Unreadable p = failing 0x51 0x40 0x11 p
-ends WriteFault p = failing 0x71 0x04 0x03 p
-ends (Aborted code) p = failing 0x51 0x04 code p
+-- "Both are IDNF"; "mark 1: UNC, 11H"; "mark 2: ABRT and DWF, 03H"
+abbrev pub ends : Finish → Plain → Plain
+ends Well p = withStatus statusIdle p
+ends (NotFound code) p = failing statusError errorIDNF code p
+ends Unreadable p = failing statusError errorUNC codeUnreadable p
+ends WriteFault p = failing statusWriteFault errorABRT codeWriteFault p
+ends (Aborted code) p = failing statusError errorABRT code p
 
 -- ---- the account: the data moved, and what is left
 

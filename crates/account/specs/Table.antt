@@ -6,11 +6,12 @@ use lib.Dec.{ltb, eqb}
 use lib.ListN.{take}
 use Rattle.ground.specs.Choice.{pick}
 use Rattle.geometry.specs.declared.Geometry.{Geometry}
-use Rattle.account.specs.Plain.{Plain, sectorsOf, withRegisters, withCurrent, withBuffer, withError, starts, Ending, Well, NotFound, Aborted, ends, Account, silent, moving}
-use Rattle.account.specs.Rows.{Row, Reads, Writes, Verifies, Erases, Identifies, ReadsBuffer, WritesBuffer, SetsGeometry, Diagnoses, Recalibrates, Seeks, Senses, Others}
-use Rattle.account.specs.Place.{Place, At, Bad, selectsLba, badCylinder, badHead, badLba, judged, placeOf}
+use Rattle.account.specs.Numbers.{codeGeometry, codeOthers}
+use Rattle.account.specs.Plain.{Plain, bytesPerSector, sectorsOf, withRegisters, withCurrent, withBuffer, withError, starts, Finish, Well, NotFound, Aborted, ends, Account, silent, moving}
+use Rattle.account.specs.CommandRows.{CommandRow, Reads, Writes, Verifies, Erases, Identifies, ReadsBuffer, WritesBuffer, SetsGeometry, Diagnoses, Recalibrates, Seeks, Senses, Others}
+use Rattle.account.specs.Addressed.{Addressed, At, Bad, selectsLba, badCylinder, badHead, badLba, judged, addressedBy}
 use Rattle.account.specs.Course.{courseOf}
-use Rattle.account.specs.Runs.{readSectors, writeSectors, verifySectors, eraseSectors}
+use Rattle.account.specs.Sweeps.{readSectors, writeSectors, verifySectors, eraseSectors}
 use Rattle.account.specs.Words.{identifyData}
 
 -- "Count 0 means 256."
@@ -22,11 +23,11 @@ abbrev pub total : Plain → ℕ
 total p = sectorsOf (p .made .default)
 
 -- the sector that the registers name at the start
-abbrev pub first : Plain → Place
-first p = placeOf (p .registers .address) (p .current) (total p)
+abbrev pub first : Plain → Addressed
+first p = addressedBy (p .registers .address) (p .current) (total p)
 
 -- a sector command: from the first index on, or the code ("Both are IDNF")
-abbrev pub fromFirst {ℓ} : {A : Type ℓ} → Place → (Plain → A) → (ℕ → A) → Plain → A
+abbrev pub fromFirst {ℓ} : {A : Type ℓ} → Addressed → (Plain → A) → (ℕ → A) → Plain → A
 fromFirst (At i) bad good p = good i
 fromFirst (Bad code) bad good p = bad (ends (NotFound code) p)
 
@@ -47,14 +48,14 @@ abbrev pub shaped : ℕ → ℕ → ℕ → Geometry
 shaped heads sectors n = record { cylinders = n / (heads * sectors); heads = heads; sectors = sectors }
 
 unfoldable pub setsGeometry : ℕ → ℕ → Plain → Plain
-setsGeometry sectors heads p = pick (eqb sectors 0 || ltb (total p) (heads * sectors)) (ends (Aborted 0x21) p) (ends Well (withCurrent (shaped heads sectors (total p)) p))
+setsGeometry sectors heads p = pick (eqb sectors 0 || ltb (total p) (heads * sectors)) (ends (Aborted codeGeometry) p) (ends Well (withCurrent (shaped heads sectors (total p)) p))
 
 -- 90H: "Error 01H, Count 1, Sector 1, Cylinder and Drive/Head 0; buffer, geometry, index, mask kept"
 abbrev pub diagnoses : Plain → Plain
 diagnoses p = ends Well (withRegisters (record { status = p .registers .status; error = 0x01; count = 1; address = record { sector = 1; low = 0; high = 0; head = 0 } }) p)
 
 -- 7XH: "address test; in CHS head and cylinder only"
-unfoldable pub seeks : Plain → Ending
+unfoldable pub seeks : Plain → Finish
 seeks p =
     pick (selectsLba (p .registers .address))
     (judged false (badLba (p .registers .address) (total p)) NotFound Well)
@@ -65,7 +66,7 @@ abbrev pub senses : Plain → Plain
 senses p = ends Well (withError (p .code) p)
 
 -- the account of a row: p as the card stands, and the host's data
-unfoldable pub account : Row → Plain → List ℕ → Account
+unfoldable pub account : CommandRow → Plain → List ℕ → Account
 account Reads p bytes = reads (starts p)
 account Writes p bytes = writes (starts p) bytes
 account Verifies p bytes = silent (verifies (starts p))
@@ -74,7 +75,7 @@ account Erases p bytes = silent (erases (starts p))
 account Identifies p bytes = moving (identifyData p) (silent (ends Well (withBuffer (identifyData p) (starts p))))
 -- "read, write the 512-byte buffer"
 account ReadsBuffer p bytes = moving (p .buffer) (silent (ends Well (starts p)))
-account WritesBuffer p bytes = moving (take 512 bytes) (silent (ends Well (withBuffer (take 512 bytes) (starts p))))
+account WritesBuffer p bytes = moving (take bytesPerSector bytes) (silent (ends Well (withBuffer (take bytesPerSector bytes) (starts p))))
 account SetsGeometry p bytes = silent (setsGeometry (p .registers .count) (p .registers .address .head % 16 + 1) (starts p))
 account Diagnoses p bytes = silent (diagnoses (starts p))
 -- "nothing"
@@ -82,4 +83,4 @@ account Recalibrates p bytes = silent (ends Well (starts p))
 account Seeks p bytes = silent (ends (seeks p) (starts p))
 account Senses p bytes = silent (senses p)
 -- "others": "ABRT, 20H"
-account Others p bytes = silent (ends (Aborted 0x20) (starts p))
+account Others p bytes = silent (ends (Aborted codeOthers) (starts p))

@@ -7,30 +7,30 @@ use Rattle.answers.specs.declared.Refusal.the-variants.{GeometryOrMode, 
 use Rattle.answers.specs.declared.Outcome.{Outcome}
 use Rattle.answers.specs.declared.Outcome.the-variants.{Accepted, Refused}
 
+-- in the order of 01's table
 abbrev pub numberOf : Refusal → ℕ
 -- opening: geometry or mode outside the limits
 numberOf GeometryOrMode = 1
--- store, marks of wrong length
+-- access: the card value is not well made
+numberOf NotWellMade = 12
+-- store, marks, tuple buffer of wrong length
 numberOf StoreLength = 2
 numberOf MarksLength = 3
+numberOf TupleBufferLength = 5
 -- opening: a mark above 2
 numberOf MarkAboveTwo = 4
--- tuple buffer of wrong length
-numberOf TupleBufferLength = 5
--- no register there, or a write to the tuples
-numberOf NoRegister = 6
--- the space does not answer
-numberOf SpaceSilent = 7
 -- held by SRESET, and the access is not to attribute 200H
 numberOf HeldBySreset = 8
+-- the space does not answer
+numberOf SpaceSilent = 7
+-- no register there, or a write to the tuples
+numberOf NoRegister = 6
 -- width not 1 or 2; a word anywhere but an even data address; a byte write above 255
 numberOf WidthOrValue = 9
 -- Configuration Option write with index above 3
 numberOf IndexAboveThree = 10
 -- the half word asked for is already moved, or a word is asked for with one half moved
 numberOf HalfMoved = 11
--- access: the card value is not well made
-numberOf NotWellMade = 12
 -- tuple chain runs past byte 255 or has no end mark
 numberOf ChainBroken = 13
 -- the tuples to be written take more than 255 bytes

@@ -18,18 +18,18 @@ use Rattle.registers.specs.State.{sresetIn, indexIn}
 use Rattle.registers.specs.WellMade.{indexFits, wellMade}
 use Rattle.registers.specs.Machine.{Machine}
 use Rattle.card.specs.declared.Meaning.{Meaning}
-use Rattle.card.specs.declared.Verdict.{Verdict}
 use Rattle.card.specs.declared.Answer.{Answer}
 use Rattle.card.specs.declared.Card.{Card}
-use Rattle.card.specs.Access.{Asked, placeIn, doorTable, decided, storeSized, marksSized, tuplesSized, fitTable, verdictOf, meantBy, meaning}
+use Rattle.card.specs.Access.{Asked, placeIn, lentTable, doorTable, decided}
 use Rattle.card.specs.Perform.{perform}
 use Rattle.card.specs.Step.{step}
 use Rattle.card.specs.Opening.{openRefused, openingTable, opened}
-use Rattle.card.specs.Doors.{refusedBy, optionRows, optionAnswered, controlRows, controlAnswered}
-use Rattle.card.specs.Rows.{atOption, mode0, accessTable, optionTable, controlTable}
+use Rattle.card.specs.Doors.{refusedBy, optionTable, optionAnswered, controlTable, controlAnswered}
+use Rattle.card.specs.Rows.{atOption, mode0, accessRows, optionRows, controlRows}
 use Rattle.card.specs.OpeningRows.{openingRows}
 use Rattle.card.proofs.RowTests.{away-is}
 use Rattle.card.proofs.HalfRow.{numberAfter}
+use Rattle.card.proofs.Verdicts.{meaning-as}
 use Rattle.card.proofs.PlaceRows.{placeNumber, place-told}
 use Rattle.card.proofs.OpeningRow.{opening-told}
 
@@ -42,17 +42,18 @@ door-told m a =
     first-of (λ (k : Meaning). numberAfter k m) (doorTable (m .state) a) Meaning.Refused _
     ∙ ap (λ (t : Bool). pick t 8 (placeNumber a m (placeIn (m .state) a))) (away-is (m .state .option) (a .access))
 
-access-number : (m : Machine) (a : Asked) → outcomeNumber (step m a .outcome) ≡ firstOf (accessTable m a) numberOf 0
-unfolding step meaning verdictOf perform
+access-number : (m : Machine) (a : Asked) → outcomeNumber (step m a .outcome) ≡ firstOf (accessRows m a) numberOf 0
+unfolding step perform
 access-number m a =
-    let fit = fitTable (wellMade (m .phase) (m .state)) (storeSized (m .state) (m .store)) (marksSized (m .state) (m .marks)) (tuplesSized (a .tuples)) in
-    first-of (λ (v : Verdict). numberAfter (meantBy v (decided (m .state) a)) m) fit Verdict.Refused Verdict.Fit
-    ∙ ap (firstOf fit numberOf)
+    let table = lentTable (m .phase) (m .state) (m .store) (m .marks) (a .tuples) in
+    ap (λ (k : Meaning). numberAfter k m) (meaning-as m a)
+    ∙ first-of (λ (k : Meaning). numberAfter k m) table Meaning.Refused (decided (m .state) a)
+    ∙ ap (firstOf table numberOf)
     (door-told m a ∙ ap (pick (sresetIn (m .state .option) && not (atOption (a .access .space) (a .access .address))) 8) (place-told a m (m .state .made .mode) (indexIn (m .state .option))))
 
 -- no other row can come: 1 and 4 are the opening's, 13 to 16 the tuples', 17 the session file's
-pub first-row : (m : Machine) (a : Asked) → ByRows (12 ∷ 2 ∷ 3 ∷ 5 ∷ 8 ∷ 7 ∷ 6 ∷ 9 ∷ 10 ∷ 11 ∷ []) (accessTable m a) (step m a .outcome)
-first-row m a = by-rows (accessTable m a) (step m a .outcome) refl (access-number m a)
+pub first-row : (m : Machine) (a : Asked) → ByRows (12 ∷ 2 ∷ 3 ∷ 5 ∷ 8 ∷ 7 ∷ 6 ∷ 9 ∷ 10 ∷ 11 ∷ []) (accessRows m a) (step m a .outcome)
+first-row m a = by-rows (accessRows m a) (step m a .outcome) refl (access-number m a)
 
 -- ---- the opening
 pub opening-first-row : (g : Geometry) (mode : ℕ) (store marks tuples : List ℕ) →
@@ -68,15 +69,15 @@ unfolding answersAt cardAnswers
 attribute-mode PcCard index = refl
 attribute-mode TrueIde index = refl
 
-pub option-first-row : (v : ℕ) (c : Card) → ByRows (12 ∷ 7 ∷ 10 ∷ []) (optionTable v c) (optionAnswered v c .outcome)
+pub option-first-row : (v : ℕ) (c : Card) → ByRows (12 ∷ 7 ∷ 10 ∷ []) (optionRows v c) (optionAnswered v c .outcome)
 unfolding optionAnswered indexFits
 option-first-row v c =
-    by-rows (optionTable v c) (optionAnswered v c .outcome) refl
-    (first-of (λ (x : Answer). outcomeNumber (x .outcome)) (optionRows v c) (refusedBy c) _
+    by-rows (optionRows v c) (optionAnswered v c .outcome) refl
+    (first-of (λ (x : Answer). outcomeNumber (x .outcome)) (optionTable v c) (refusedBy c) _
     ∙ ap (λ (t : Bool). firstOf (Unless (wellMade (c .phase) (c .state)) NotWellMade ∷ Unless t SpaceSilent ∷ Unless (leb (indexIn v) 3) IndexAboveThree ∷ []) numberOf 0)
     (attribute-mode (c .state .made .mode) (indexIn (c .state .option))))
 
-pub control-first-row : (v : ℕ) (c : Card) → ByRows (12 ∷ 8 ∷ []) (controlTable c) (controlAnswered v c .outcome)
+pub control-first-row : (v : ℕ) (c : Card) → ByRows (12 ∷ 8 ∷ []) (controlRows c) (controlAnswered v c .outcome)
 unfolding controlAnswered
 control-first-row v c =
-    by-rows (controlTable c) (controlAnswered v c .outcome) refl (first-of (λ (x : Answer). outcomeNumber (x .outcome)) (controlRows c) (refusedBy c) _)
+    by-rows (controlRows c) (controlAnswered v c .outcome) refl (first-of (λ (x : Answer). outcomeNumber (x .outcome)) (controlTable c) (refusedBy c) _)

@@ -1,10 +1,11 @@
 -- What an access means: 01, "Answers", the rows 12, 2, 3, 5, 8, 7, 6, 9, 10 in this order, then what stands there.
 use Prim.Native.Nat.{ℕ, _*_, _%_}
 use mathlib.Core.Bool.{Bool, true, false, not}
-use mathlib.Core.List.{List, [], _∷_}
+use mathlib.Core.List.{List, [], _∷_, _++_}
 use lib.Dec.{eqb}
 use lib.ListN.{length, getD}
 use Rattle.ground.specs.Choice.{pick}
+use Rattle.ground.specs.Sizes.{sectorBytes, tupleBufferBytes}
 use Rattle.answers.specs.declared.Refusal.the-variants.{NotWellMade, StoreLength, MarksLength, TupleBufferLength, HeldBySreset}
 use Rattle.ground.specs.Rows.{Row, When, Unless, firstOf}
 use Rattle.answers.specs.declared.Refusal.{Refusal}
@@ -32,7 +33,50 @@ pub record Asked : Type 0 where
 abbrev pub askedWith : Access → List ℕ → Asked
 askedWith access tuples = record { access = access; tuples = tuples }
 
--- what stands there is read or written; a byte write's value is at most 255 here
+-- ---- rows 12, 2, 3, 5: the card and what is lent
+
+-- "Store length is 512·N, marks length N", "a 256-byte tuple buffer"
+abbrev pub storeSized : State → List ℕ → Bool
+storeSized s store = eqb (length store) (sectorBytes * totalIn s)
+
+abbrev pub marksSized : State → List ℕ → Bool
+marksSized s marks = eqb (length marks) (totalIn s)
+
+abbrev pub tuplesSized : List ℕ → Bool
+tuplesSized tuples = eqb (length tuples) tupleBufferBytes
+
+-- by the four tests, each as it came out
+abbrev pub fitTable : Bool → Bool → Bool → Bool → List (Row Refusal)
+fitTable w s k t =
+    Unless w NotWellMade
+    ∷ Unless s StoreLength
+    ∷ Unless k MarksLength
+    ∷ Unless t TupleBufferLength
+    ∷ []
+
+abbrev pub lentTable : Phase → State → List ℕ → List ℕ → List ℕ → List (Row Refusal)
+lentTable phase state store marks tuples = fitTable (wellMade phase state) (storeSized state store) (marksSized state marks) (tuplesSized tuples)
+
+-- what they say of every access to the card
+unfoldable pub verdictOf : Phase → State → List ℕ → List ℕ → List ℕ → Verdict
+verdictOf phase state store marks tuples = firstOf (lentTable phase state store marks tuples) Verdict.Refused Verdict.Fit
+
+-- ---- rows 8, 7, 6, 9, 10: where the access goes
+
+-- row 8: held by SRESET, and the access is not to attribute 200H
+unfoldable pub heldAway : ℕ → Access → Bool
+heldAway option a = pick (sresetIn option) (pick (eqb (a .space) 0) (not (eqb (a .address) 0x200)) true) false
+
+-- what stands at the access's address
+abbrev pub placeIn : State → Asked → Place
+placeIn s a = placeAt (s .made .mode) (indexIn (s .option)) (a .access)
+
+abbrev pub doorTable : State → Asked → List (Row Refusal)
+doorTable s a = When (heldAway (s .option) (a .access)) HeldBySreset ∷ placeTable (placeIn s a) (a .access)
+
+-- ---- then what stands there
+
+-- it is read or written; a byte write's value is at most 255 here
 abbrev pub targeted : Target → Asked → Meaning
 targeted (Tuple n) a = TupleByte (getD (a .tuples) n 0)
 targeted Option a = pick (a .access .write) (WriteOption (a .access .value % 256)) ReadOption
@@ -43,56 +87,17 @@ abbrev pub standing : Standing → Asked → Meaning
 standing (Standing.There t) a = targeted t a
 standing (Standing.Refused r) a = Meaning.Refused r
 
--- row 8: held by SRESET, and the access is not to attribute 200H
-unfoldable pub heldAway : ℕ → Access → Bool
-heldAway option a = pick (sresetIn option) (pick (eqb (a .space) 0) (not (eqb (a .address) 0x200)) true) false
+abbrev pub reached : State → Asked → Meaning
+reached s a = standing (moved (placeIn s a) (a .access .width)) a
 
--- what stands at the access's address
-abbrev pub placeIn : State → Asked → Place
-placeIn s a = placeAt (s .made .mode) (indexIn (s .option)) (a .access)
+-- ---- all of them: "The first that applies, in this order, is given"
 
--- rows 8, 7, 6, 9, 10
-abbrev pub doorTable : State → Asked → List (Row Refusal)
-doorTable s a = When (heldAway (s .option) (a .access)) HeldBySreset ∷ placeTable (placeIn s a) (a .access)
-
--- then what stands there
-unfoldable pub decided : State → Asked → Meaning
-decided s a = firstOf (doorTable s a) Meaning.Refused (standing (moved (placeIn s a) (a .access .width)) a)
-
--- "Store length is 512·N, marks length N", "a 256-byte tuple buffer"
-abbrev pub storeSized : State → List ℕ → Bool
-storeSized s store = eqb (length store) (512 * totalIn s)
-
-abbrev pub marksSized : State → List ℕ → Bool
-marksSized s marks = eqb (length marks) (totalIn s)
-
-abbrev pub tuplesSized : List ℕ → Bool
-tuplesSized tuples = eqb (length tuples) 256
-
--- rows 12, 2, 3, 5, by the four tests, each as it came out
-abbrev pub fitTable : Bool → Bool → Bool → Bool → List (Row Refusal)
-fitTable w s k t =
-    Unless w NotWellMade
-    ∷ Unless s StoreLength
-    ∷ Unless k MarksLength
-    ∷ Unless t TupleBufferLength
-    ∷ []
-
-abbrev pub verdictBy : Bool → Bool → Bool → Bool → Verdict
-verdictBy w s k t = firstOf (fitTable w s k t) Verdict.Refused Verdict.Fit
-
-unfoldable pub verdictOf : Phase → State → List ℕ → List ℕ → List ℕ → Verdict
-verdictOf phase state store marks tuples =
-    verdictBy
-    (wellMade phase state)
-    (storeSized state store)
-    (marksSized state marks)
-    (tuplesSized tuples)
-
--- they come before what is decided
-abbrev pub meantBy : Verdict → Meaning → Meaning
-meantBy Verdict.Fit k = k
-meantBy (Verdict.Refused r) k = Meaning.Refused r
+abbrev pub accessTable : Machine → Asked → List (Row Refusal)
+accessTable m a = lentTable (m .phase) (m .state) (m .store) (m .marks) (a .tuples) ++ doorTable (m .state) a
 
 unfoldable pub meaning : Machine → Asked → Meaning
-meaning m a = meantBy (verdictOf (m .phase) (m .state) (m .store) (m .marks) (a .tuples)) (decided (m .state) a)
+meaning m a = firstOf (accessTable m a) Meaning.Refused (reached (m .state) a)
+
+-- where rows 12, 2, 3 and 5 do not apply
+unfoldable pub decided : State → Asked → Meaning
+decided s a = firstOf (doorTable s a) Meaning.Refused (reached s a)

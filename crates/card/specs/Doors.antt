@@ -38,8 +38,8 @@ abbrev pub refusedBy : Card → Refusal → Answer
 refusedBy c r = answer (Outcome.Refused r) c
 
 -- the option as a method: 12; 7 in True IDE mode, where attribute memory does not answer; 10; else the write
-abbrev pub optionRows : ℕ → Card → List (Row Refusal)
-optionRows v c =
+abbrev pub optionTable : ℕ → Card → List (Row Refusal)
+optionTable v c =
     Unless (wellMade (c .phase) (c .state)) NotWellMade
     ∷ Unless (answersAt 0 (c .state .made .mode) (indexIn (c .state .option))) SpaceSilent
     ∷ Unless (indexFits v) IndexAboveThree
@@ -47,15 +47,15 @@ optionRows v c =
 
 unfoldable pub optionAnswered : ℕ → Card → Answer
 optionAnswered v c =
-    firstOf (optionRows v c) (refusedBy c)
+    firstOf (optionTable v c) (refusedBy c)
     (answer (Outcome.Accepted 0) (cardOf (optionCore v (c .phase) (c .state)) (optionBuffer v (c .state) (c .buffer))))
 
 -- Device Control as a method: 12; 8 while SRESET holds; else the write
-abbrev pub controlRows : Card → List (Row Refusal)
-controlRows c =
+abbrev pub controlTable : Card → List (Row Refusal)
+controlTable c =
     Unless (wellMade (c .phase) (c .state)) NotWellMade
     ∷ When (sresetIn (c .state .option)) HeldBySreset
     ∷ []
 
 unfoldable pub controlAnswered : ℕ → Card → Answer
-controlAnswered v c = firstOf (controlRows c) (refusedBy c) (answer (Outcome.Accepted 0) (cardOf (controlWritten v (c .phase) (c .state)) (c .buffer)))
+controlAnswered v c = firstOf (controlTable c) (refusedBy c) (answer (Outcome.Accepted 0) (cardOf (controlWritten v (c .phase) (c .state)) (c .buffer)))

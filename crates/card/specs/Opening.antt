@@ -5,6 +5,7 @@ use mathlib.Core.List.{List, [], _∷_}
 use lib.Dec.{eqb, leb}
 use lib.ListN.{length}
 use Rattle.ground.specs.Choice.{pick}
+use Rattle.ground.specs.Sizes.{sectorBytes, tupleBufferBytes}
 use Rattle.answers.specs.declared.Outcome.{Outcome}
 use Rattle.answers.specs.declared.Refusal.{Refusal}
 use Rattle.answers.specs.declared.Refusal.the-variants.{GeometryOrMode, StoreLength, MarksLength, TupleBufferLength, MarkAboveTwo}
@@ -54,9 +55,9 @@ powered g mode = record { phase = Idle; state = powerOn (record { mode = mode; d
 abbrev pub openingTable : Geometry → ℕ → List ℕ → List ℕ → List ℕ → List (Row Refusal)
 openingTable g mode store marks tuples =
     Unless (fits g && leb mode 1) GeometryOrMode
-    ∷ Unless (eqb (length store) (512 * totalOf g)) StoreLength
+    ∷ Unless (eqb (length store) (sectorBytes * totalOf g)) StoreLength
     ∷ Unless (eqb (length marks) (totalOf g)) MarksLength
-    ∷ Unless (eqb (length tuples) 256) TupleBufferLength
+    ∷ Unless (eqb (length tuples) tupleBufferBytes) TupleBufferLength
     ∷ Unless (marksFit marks) MarkAboveTwo
     ∷ []
 

@@ -1,11 +1,13 @@
 -- 01, "Answers": the rows of an access and of the two resets' methods, each with its test in 01's words.
--- They share with the card's own definitions what is well made, N, the bits of the option, and the offset that a map gives to an address.
+-- They share with the card's own definitions what is well made, N, the bits of the option, and the offset that a map gives to an address; the numbers
+-- stand here anew.
 use Prim.Native.Nat.{ℕ, _*_, _%_}
 use mathlib.Core.Bool.{Bool, true, false, not, _&&_, _||_}
 use mathlib.Core.List.{List, [], _∷_}
 use lib.Dec.{eqb, leb, ltb}
 use lib.ListN.{length}
-use Rattle.ground.specs.Choice.{pick}
+use Rattle.ground.specs.Choice.{pick, within}
+use Rattle.ground.specs.Tables.{Entry, lookup}
 use Rattle.answers.specs.declared.Refusal.the-variants.{NotWellMade, StoreLength, MarksLength, TupleBufferLength}
 use Rattle.answers.specs.declared.Refusal.the-variants.{HeldBySreset, SpaceSilent, NoRegister, WidthOrValue, IndexAboveThree, HalfMoved}
 use Rattle.ground.specs.Rows.{Row, When, Unless}
@@ -59,11 +61,13 @@ mode0 TrueIde = false
 
 abbrev pub answering : ℕ → Mode → ℕ → Bool
 answering space mode index =
-    pick (eqb space 0) (mode0 mode)
-    (pick (eqb space 1) (mode0 mode && eqb index 0)
-    (pick (eqb space 2) (mode0 mode && leb 1 index && leb index 3)
-    (pick (eqb space 3) (not (mode0 mode))
-    false)))
+    lookup
+    (Entry.At 0 (mode0 mode)
+    ∷ Entry.At 1 (mode0 mode && eqb index 0)
+    ∷ Entry.At 2 (mode0 mode && within 1 3 index)
+    ∷ Entry.At 3 (not (mode0 mode))
+    ∷ [])
+    space false
 
 -- 6: "no register there, or a write to the tuples"
 abbrev pub noRegister : ℕ → ℕ → Offset → Bool → Bool
@@ -107,33 +111,34 @@ halfGone o width half = (atOddData o && highMoved half) || (atEvenData o && eqb 
 
 -- ---- the tables; the opening's is in OpeningRows.antt
 
-abbrev pub accessTable : Machine → Asked → List (Row Refusal)
-accessTable m a =
+abbrev pub accessRows : Machine → Asked → List (Row Refusal)
+accessRows m a =
+    let x = a .access in
     let index = indexIn (m .state .option) in
-    let o = offsetAt (a .access .space) index (a .access .address) in
+    let o = offsetAt (x .space) index (x .address) in
     Unless (wellMade (m .phase) (m .state)) NotWellMade
     ∷ Unless (eqb (length (m .store)) (512 * totalIn (m .state))) StoreLength
     ∷ Unless (eqb (length (m .marks)) (totalIn (m .state))) MarksLength
     ∷ Unless (eqb (length (a .tuples)) 256) TupleBufferLength
-    ∷ When (sresetIn (m .state .option) && not (atOption (a .access .space) (a .access .address))) HeldBySreset
-    ∷ Unless (answering (a .access .space) (m .state .made .mode) index) SpaceSilent
-    ∷ When (noRegister (a .access .space) (a .access .address) o (a .access .write)) NoRegister
-    ∷ When (unfit (atEvenData o) (a .access .width) (a .access .write) (a .access .value)) WidthOrValue
-    ∷ When (atOption (a .access .space) (a .access .address) && indexAbove (a .access .write) (a .access .value)) IndexAboveThree
-    ∷ When (halfGone o (a .access .width) (movedSoFar m (a .access .write))) HalfMoved
+    ∷ When (sresetIn (m .state .option) && not (atOption (x .space) (x .address))) HeldBySreset
+    ∷ Unless (answering (x .space) (m .state .made .mode) index) SpaceSilent
+    ∷ When (noRegister (x .space) (x .address) o (x .write)) NoRegister
+    ∷ When (unfit (atEvenData o) (x .width) (x .write) (x .value)) WidthOrValue
+    ∷ When (atOption (x .space) (x .address) && indexAbove (x .write) (x .value)) IndexAboveThree
+    ∷ When (halfGone o (x .width) (movedSoFar m (x .write))) HalfMoved
     ∷ []
 
 -- the option as a method: a byte write to attribute 200H
-abbrev pub optionTable : ℕ → Card → List (Row Refusal)
-optionTable v c =
+abbrev pub optionRows : ℕ → Card → List (Row Refusal)
+optionRows v c =
     Unless (wellMade (c .phase) (c .state)) NotWellMade
     ∷ Unless (mode0 (c .state .made .mode)) SpaceSilent
     ∷ Unless (leb (indexIn v) 3) IndexAboveThree
     ∷ []
 
 -- Device Control as a method
-abbrev pub controlTable : Card → List (Row Refusal)
-controlTable c =
+abbrev pub controlRows : Card → List (Row Refusal)
+controlRows c =
     Unless (wellMade (c .phase) (c .state)) NotWellMade
     ∷ When (sresetIn (c .state .option)) HeldBySreset
     ∷ []

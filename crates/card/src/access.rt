@@ -2,6 +2,8 @@
 use super::Meaning;
 use super::Verdict;
 use answers::Refusal;
+use ground::SECTOR_BYTES;
+use ground::TUPLE_BUFFER_BYTES;
 use maps::Access;
 use maps::Standing;
 use maps::Target;
@@ -40,7 +42,7 @@ fn targeted(target: Target, access: Access, tuples: &[u8]) -> Meaning
 fn held_away(option: u8, access: Access) -> bool
     ensures { λ r. ⌜ r ≡ heldAway option access ⌝ }
 {
-    if !registers::sreset_in(option) {
+    if !registers::states::sreset_in(option) {
         return false;
     }
     if access.space == 0 {
@@ -59,7 +61,7 @@ pub(crate) fn decide(state: State, access: Access, tuples: &[u8]) -> Meaning
     if held_away(option, access) {
         return Meaning::Refused(Refusal::HeldBySreset);
     }
-    let index = registers::index_in(option);
+    let index = registers::states::index_in(option);
     match maps::rows::stands_at(mode, index, access) {
         Standing::There(target) => targeted(target, access, tuples),
         Standing::Refused(refusal) => Meaning::Refused(refusal),
@@ -75,13 +77,13 @@ pub fn verdict_of(core: Core, store: &[u8], marks: &[u8], tuples: &[u8]) -> Verd
     if !core.well_made() {
         return Verdict::Refused(Refusal::NotWellMade);
     }
-    if store.len() != 512 * total {
+    if store.len() != SECTOR_BYTES * total {
         return Verdict::Refused(Refusal::StoreLength);
     }
     if marks.len() != total {
         return Verdict::Refused(Refusal::MarksLength);
     }
-    if tuples.len() != 256 {
+    if tuples.len() != TUPLE_BUFFER_BYTES {
         return Verdict::Refused(Refusal::TupleBufferLength);
     }
     Verdict::Fit

@@ -2,6 +2,7 @@
 use super::Answer;
 use super::Card;
 use answers::Refusal;
+use ground::Sector;
 use maps::Access;
 use maps::Mode;
 use port::Done;
@@ -14,7 +15,7 @@ ghost use Rattle.card.specs.Step.{step};
 ghost use Rattle.card.specs.Doors.{machineOf, coreIn, cardOf, answered, answer, optionAnswered, controlAnswered};
 
 // The answer that every door gives: 01: "Each answer says if the line is up", of the card that comes back.
-pub(crate) fn answer(done: Done, buffer: [u8; 512]) -> Answer
+pub(crate) fn answer(done: Done, buffer: Sector) -> Answer
     ensures { λ r. ⌜ r ≡ answer (done .outcome) (cardOf (done .core) buffer) ⌝ }
 {
     let outcome = done.outcome;
@@ -72,14 +73,14 @@ impl Card {
             return answer(port::refused(core, Refusal::NotWellMade), buffer);
         }
         match mode {
+            Mode::TrueIde => answer(port::refused(core, Refusal::SpaceSilent), buffer),
             Mode::PcCard => {
-                if !registers::index_fits(value) {
+                if !registers::well_made::index_fits(value) {
                     return answer(port::refused(core, Refusal::IndexAboveThree), buffer);
                 }
                 let next = core.write_option(value, &mut buffer);
                 answer(port::accepted(next, 0), buffer)
             }
-            Mode::TrueIde => answer(port::refused(core, Refusal::SpaceSilent), buffer),
         }
     }
 
@@ -94,7 +95,7 @@ impl Card {
         if !core.well_made() {
             return answer(port::refused(core, Refusal::NotWellMade), buffer);
         }
-        if registers::sreset_in(state.option) {
+        if registers::states::sreset_in(state.option) {
             return answer(port::refused(core, Refusal::HeldBySreset), buffer);
         }
         answer(port::accepted(core.write_control(value), 0), buffer)

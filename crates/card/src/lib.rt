@@ -1,6 +1,7 @@
 // The card: opening, access and the two resets, by value; what an access means, and what it does.
 use answers::Outcome;
 use answers::Refusal;
+use ground::Sector;
 use maps::Port;
 use maps::Register;
 use registers::Phase;
@@ -16,7 +17,7 @@ pub mod step;
 pub struct Card {
     pub phase: Phase,
     pub state: State,
-    pub buffer: [u8; 512],
+    pub buffer: Sector,
 }
 
 // What an access means.

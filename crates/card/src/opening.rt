@@ -4,6 +4,8 @@ use super::Card;
 use answers::Refusal;
 use geometry::Address;
 use geometry::Geometry;
+use ground::SECTOR_BYTES;
+use ground::TUPLE_BUFFER_BYTES;
 use maps::Mode;
 use registers::Control;
 use registers::Core;
@@ -71,7 +73,7 @@ fn open_refused(refusal: Refusal) -> Answer
         phase: Phase::Idle,
         state: state,
     };
-    super::doors::answer(port::refused(core, refusal), [0u8; 512])
+    super::doors::answer(port::refused(core, refusal), [0u8; SECTOR_BYTES])
 }
 
 fn powered(geometry: Geometry, mode: Mode) -> Core
@@ -114,19 +116,19 @@ impl Card {
             return open_refused(Refusal::GeometryOrMode);
         }
         let total = geometry.total() as usize;
-        if store.len() != 512 * total {
+        if store.len() != SECTOR_BYTES * total {
             return open_refused(Refusal::StoreLength);
         }
         if marks.len() != total {
             return open_refused(Refusal::MarksLength);
         }
-        if tuples.len() != 256 {
+        if tuples.len() != TUPLE_BUFFER_BYTES {
             return open_refused(Refusal::TupleBufferLength);
         }
-        if !sectors::marks_fit(marks) {
+        if !sectors::marks::marks_fit(marks) {
             return open_refused(Refusal::MarkAboveTwo);
         }
         let core = powered(geometry, mode_of(mode));
-        super::doors::answer(port::accepted(core, 0), [0u8; 512])
+        super::doors::answer(port::accepted(core, 0), [0u8; SECTOR_BYTES])
     }
 }

@@ -1,5 +1,6 @@
 // What an access does, once it is known what it means.
 use super::Meaning;
+use ground::Sector;
 use maps::Register;
 use port::Done;
 use registers::Core;
@@ -32,7 +33,7 @@ fn write_register(
     core: Core,
     register: Register,
     value: u8,
-    buffer: &mut [u8; 512],
+    buffer: &mut Sector,
     store: &mut [u8],
     marks: &mut [u8],
 ) -> Core
@@ -78,7 +79,7 @@ fn read_register(core: Core, register: Register) -> Done
 pub(crate) fn perform(
     core: Core,
     meaning: Meaning,
-    buffer: &mut [u8; 512],
+    buffer: &mut Sector,
     store: &mut [u8],
     marks: &mut [u8],
 ) -> Done

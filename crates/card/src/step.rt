@@ -1,5 +1,6 @@
 // One access: by the verdict on its card and what is lent, or with the verdict asked for first.
 use super::Verdict;
+use ground::Sector;
 use maps::Access;
 use port::Done;
 use registers::Core;
@@ -14,7 +15,7 @@ ghost use Rattle.card.specs.Step.{byVerdict};
 fn fit_step(
     core: Core,
     access: Access,
-    buffer: &mut [u8; 512],
+    buffer: &mut Sector,
     store: &mut [u8],
     marks: &mut [u8],
     tuples: &[u8],
@@ -31,7 +32,7 @@ pub fn by_verdict(
     verdict: Verdict,
     core: Core,
     access: Access,
-    buffer: &mut [u8; 512],
+    buffer: &mut Sector,
     store: &mut [u8],
     marks: &mut [u8],
     tuples: &[u8],
@@ -48,7 +49,7 @@ pub fn by_verdict(
 pub(crate) fn step(
     core: Core,
     access: Access,
-    buffer: &mut [u8; 512],
+    buffer: &mut Sector,
     store: &mut [u8],
     marks: &mut [u8],
     tuples: &[u8],

@@ -4,7 +4,7 @@ use libc::STDOUT_FILENO;
 
 // Reads to the input's end, or one byte past the longest file; plays; writes once.
 fn main() {
-    let mut file = [0u8; 32769];
+    let mut file = [0u8; session::LONGEST_FILE + 1];
     let size = io::read_full(STDIN_FILENO, &mut file);
     let mut out = io::large_buffer();
     let told = session::play::play(&file[..size], &mut out);

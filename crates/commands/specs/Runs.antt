@@ -2,8 +2,9 @@
 use Prim.Native.Nat.{ℕ, zero, suc}
 use mathlib.Core.List.{List}
 use lib.ListN.{replicate}
-use Rattle.ground.specs.Left.{Left, left}
+use Rattle.ground.specs.Left.{Left, leaving}
 use Rattle.ground.specs.Sizes.{sectorBytes}
+use Rattle.sectors.specs.Sectors.{StoreMarks, storeMarks}
 use Rattle.registers.specs.declared.State.{State}
 use Rattle.registers.specs.declared.Core.{Core}
 use Rattle.transfers.specs.declared.End.the-variants.{Good}
@@ -15,19 +16,19 @@ use Rattle.transfers.specs.Before.{sectorTest, sectorStored}
 use Rattle.transfers.specs.Steps.{sectorDone}
 
 -- the rest where the sector's tests hold, else the end
-abbrev pub goesOn {ℓ} : {A : Type ℓ} → Tested → (Core → A) → State → A → A
-goesOn (Passes spot) end s rest = rest
-goesOn (Fails e) end s rest = end (ended e s)
+abbrev pub unlessFailed {ℓ} : {A : Type ℓ} → Tested → (Core → A) → State → A → A
+unlessFailed (Passes spot) end s rest = rest
+unlessFailed (Fails e) end s rest = end (ended e s)
 
 unfoldable pub verifyFrom : ℕ → State → List ℕ → Core
 verifyFrom zero s marks = ended Good s
-verifyFrom (suc n) s marks = goesOn (sectorTest In s marks) (λ k. k) s (verifyFrom n (sectorDone n s) marks)
+verifyFrom (suc n) s marks = unlessFailed (sectorTest In s marks) (λ k. k) s (verifyFrom n (sectorDone n s) marks)
 
 unfoldable pub allFF : List ℕ
 allFF = replicate sectorBytes 0xFF
 
-unfoldable pub eraseFrom : ℕ → State → List ℕ → List ℕ → Left Core
-eraseFrom zero s store marks = left (ended Good s) store marks
+unfoldable pub eraseFrom : ℕ → State → List ℕ → List ℕ → Left Core StoreMarks
+eraseFrom zero s store marks = leaving (ended Good s) (storeMarks store marks)
 eraseFrom (suc n) s store marks =
     let k = sectorStored s allFF store marks in
-    goesOn (k .result) (λ c. left c (k .store) (k .marks)) s (eraseFrom n (sectorDone n s) (k .store) (k .marks))
+    unlessFailed (k .outcome) (λ c. leaving c (k .next)) s (eraseFrom n (sectorDone n s) (k .next .store) (k .next .marks))

@@ -12,6 +12,7 @@ use Rattle.geometry.specs.Address.{seek}
 use Rattle.geometry.specs.Shape.{reshaped}
 use Rattle.identify.specs.declared.Facts.{Facts}
 use Rattle.identify.specs.Words.{identifyBytes}
+use Rattle.sectors.specs.Sectors.{StoreMarks}
 use Rattle.registers.specs.declared.Load.the-variants.{Buffer}
 use Rattle.registers.specs.declared.State.{State}
 use Rattle.registers.specs.declared.Core.{Core}
@@ -25,9 +26,9 @@ use Rattle.transfers.specs.Ends.{ended}
 use Rattle.transfers.specs.Steps.{idleWith, ready, askedFor, readSector, askSector}
 use Rattle.commands.specs.Runs.{verifyFrom, eraseFrom}
 
--- the rows that move sectors
-abbrev pub sectorRows : List (Entry Command)
-sectorRows =
+-- the table's opcodes, row by row; first the seven that move sectors
+abbrev pub commandTable : List (Entry Command)
+commandTable =
     At 0x20 Read
     ∷ At 0x21 Read
     ∷ At 0x30 Write
@@ -35,12 +36,7 @@ sectorRows =
     ∷ At 0x40 Verify
     ∷ At 0x41 Verify
     ∷ At 0xC0 Erase
-    ∷ []
-
--- the rows that move none
-abbrev pub sectorlessRows : List (Entry Command)
-sectorlessRows =
-    At 0xEC Identify
+    ∷ At 0xEC Identify
     ∷ At 0xE4 ReadBuffer
     ∷ At 0xE8 WriteBuffer
     ∷ At 0x91 SetGeometry
@@ -50,9 +46,9 @@ sectorlessRows =
     ∷ At 0x03 Sense
     ∷ []
 
--- the row of an opcode
+-- the row of an opcode; "others" are all that the table does not name
 unfoldable pub commandOf : ℕ → Command
-commandOf opcode = lookup sectorRows opcode (lookup sectorlessRows opcode Other)
+commandOf opcode = lookup commandTable opcode Other
 
 -- "Every command but 03H starts with Error and code 0."
 abbrev pub started : State → State
@@ -91,8 +87,8 @@ seekEnded s = ended (soughtEnd (seek (s .registers .address) (s .current) (total
 abbrev pub senseEnded : State → Core
 senseEnded s = ended End.Good (withError (s .code) s)
 
-abbrev pub withErased : Left Core → Machine → Machine
-withErased e m = machine (e .result) (m .buffer) (e .store) (e .marks)
+abbrev pub withErased : Left Core StoreMarks → Machine → Machine
+withErased e m = machine (e .outcome) (m .buffer) (e .next .store) (e .next .marks)
 
 -- what a command does; s is the state with Error and code 0. "Commands that move no sectors leave these registers, but for 90H."
 abbrev pub obeyed : Command → State → Machine → Machine

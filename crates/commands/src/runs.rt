@@ -1,11 +1,13 @@
 // Verify and Erase: sector after sector, with no data moved.
+use ground::SECTOR_BYTES;
 use registers::Core;
 use registers::State;
 use transfers::End;
 use transfers::Tested;
 use transfers::Way;
 ghost use mathlib.Core.Path.{_≡_};
-ghost use Rattle.ground.specs.Left.{left};
+ghost use Rattle.ground.specs.Left.{leaving};
+ghost use Rattle.sectors.specs.Sectors.{storeMarks};
 ghost use Rattle.commands.specs.Runs.{verifyFrom, eraseFrom};
 
 // 40H 41H.
@@ -30,9 +32,9 @@ pub(crate) fn verify(state: State, count: u16, marks: &[u8]) -> Core
 
 // C0H.
 pub(crate) fn erase(state: State, count: u16, store: &mut [u8], marks: &mut [u8]) -> Core
-    ensures { λ r. ⌜ left r (now (store .exit)) (now (marks .exit)) ≡ eraseFrom count state (now (store .entry)) (now (marks .entry)) ⌝ }
+    ensures { λ r. ⌜ leaving r (storeMarks (now (store .exit)) (now (marks .exit))) ≡ eraseFrom count state (now (store .entry)) (now (marks .entry)) ⌝ }
 {
-    let bytes = [0xFFu8; 512];
+    let bytes = [0xFFu8; SECTOR_BYTES];
     let mut s = state;
     let mut n = count;
     while 0 < n {

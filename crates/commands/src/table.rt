@@ -3,6 +3,7 @@ use super::Command;
 use geometry::Address;
 use geometry::Reshaped;
 use geometry::Sought;
+use ground::Sector;
 use identify::Facts;
 use registers::Core;
 use registers::Load;
@@ -10,16 +11,17 @@ use registers::State;
 use transfers::End;
 use transfers::Order;
 ghost use mathlib.Core.Path.{_≡_};
+ghost use lib.ListN.{drop};
 ghost use Rattle.ground.specs.Tables.{lookup};
 ghost use Rattle.identify.specs.Words.{identifyBytes};
 ghost use Rattle.registers.specs.Machine.{machine};
 ghost use Rattle.transfers.specs.Steps.{idle};
 ghost use Rattle.commands.specs.declared.Command.the-variants.{Other};
-ghost use Rattle.commands.specs.Table.{sectorlessRows, commandOf, started, countOf, factsOf, geometryEnded, diagnosed, soughtEnd, seekEnded, senseEnded, obeyed, commandGiven};
+ghost use Rattle.commands.specs.Table.{commandTable, commandOf, started, countOf, factsOf, geometryEnded, diagnosed, soughtEnd, seekEnded, senseEnded, obeyed, commandGiven};
 
-// The rows that move no sectors.
+// The rows after the seven opcodes that move sectors.
 fn sectorless_command(opcode: u8) -> Command
-    ensures { λ r. ⌜ r ≡ lookup sectorlessRows opcode Other ⌝ }
+    ensures { λ r. ⌜ r ≡ lookup (drop 7 commandTable) opcode Other ⌝ }
 {
     if opcode == 0xEC {
         return Command::Identify;
@@ -99,7 +101,7 @@ fn count_of(state: State) -> u16
     ground::wide(count)
 }
 
-fn identify(state: State, buffer: &mut [u8; 512])
+fn identify(state: State, buffer: &mut Sector)
     ensures { λ _. ⌜ now (buffer .exit) ≡ identifyBytes (factsOf state) ⌝ }
 {
     let made = state.made;
@@ -118,7 +120,7 @@ fn set_geometry(state: State) -> Core
 {
     let registers = state.registers;
     let address = registers.address;
-    match geometry::reshape(registers.count, address.head, state.total()) {
+    match geometry::shape::reshape(registers.count, address.head, state.total()) {
         Reshaped::Taken(geometry) => {
             let mut s = state;
             s.current = geometry;
@@ -182,7 +184,7 @@ fn sense(state: State) -> Core
 fn obey(
     state: State,
     command: Command,
-    buffer: &mut [u8; 512],
+    buffer: &mut Sector,
     store: &mut [u8],
     marks: &mut [u8],
 ) -> Core
@@ -219,7 +221,7 @@ fn obey(
 pub fn command_given(
     state: State,
     opcode: u8,
-    buffer: &mut [u8; 512],
+    buffer: &mut Sector,
     store: &mut [u8],
     marks: &mut [u8],
 ) -> Core

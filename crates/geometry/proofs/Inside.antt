@@ -13,9 +13,9 @@ use Rattle.geometry.specs.declared.Address.{Address}
 use Rattle.geometry.specs.declared.Spot.{Spot}
 use Rattle.geometry.specs.declared.Located.{Located}
 use Rattle.geometry.specs.Limits.{capacityOf, currentFor}
-use Rattle.geometry.specs.Address.{byLba, headOf, cylinderOf, lbaOf, chsIndex, locateLba, locateChs, locate, roomOf, found, indexOf, goodAt}
+use Rattle.geometry.specs.Address.{byLba, headOf, cylinderOf, lbaOf, chsIndex, locateLba, locateChs, locate, roomOf, validAddress, indexOf, goodAt}
 use Rattle.ground.proofs.Every.{each}
-use Rattle.geometry.proofs.Limits.{current-room}
+use Rattle.geometry.proofs.LimitFacts.{current-room}
 
 -- 01's conditions on a CHS address: h<H, s 1..S, c<C.
 abbrev pub Chs : ℕ → ℕ → ℕ → Geometry → Type 0
@@ -39,8 +39,8 @@ chs-good c h s g f = rw (lt-ltb _ _ (f .0), le-leb _ _ (f .1), le-leb _ _ (f .2)
 chosen : (t u : Bool) (i : ℕ) (p : Spot) → pick t (pick u (goodAt i) Located.BadCylinder) Located.BadHeadOrSector ≡ Located.Good p →
     (t ≡ true) × (u ≡ true) × (p .index ≡ i)
 chosen true true i p e = (refl, refl, sym (ap indexOf e))
-chosen true false i p e = absurd (false≢true (ap found e))
-chosen false u i p e = absurd (false≢true (ap found e))
+chosen true false i p e = absurd (false≢true (ap validAddress e))
+chosen false u i p e = absurd (false≢true (ap validAddress e))
 
 pub chs-facts : (c h s : ℕ) (g : Geometry) (p : Spot) → locateChs c h s g ≡ Located.Good p → Chs c h s g × (p .index ≡ chsIndex c h s g)
 unfolding locateChs
@@ -55,7 +55,7 @@ lba-good i n h = rw (lt-ltb i n h)
 
 below : (t : Bool) (i : ℕ) (p : Spot) → pick t (goodAt i) Located.BadLba ≡ Located.Good p → (t ≡ true) × (p .index ≡ i)
 below true i p e = (refl, sym (ap indexOf e))
-below false i p e = absurd (false≢true (ap found e))
+below false i p e = absurd (false≢true (ap validAddress e))
 
 pub lba-facts : (i n : ℕ) (p : Spot) → locateLba i n ≡ Located.Good p → (i < n) × (p .index ≡ i)
 unfolding locateLba

@@ -1,6 +1,6 @@
 pub mod Bounds
-pub mod Limits
+pub mod LimitFacts
 pub mod Shapes
 pub mod Inside
 pub mod Kept
-pub mod Next
+pub mod NextLaw

@@ -13,7 +13,7 @@ use Rattle.geometry.specs.Limits.{fits, totalOf, currentFor, cylindersFo
 use Rattle.geometry.specs.Shape.{geometryBy, reshaped, currentAfter}
 use Rattle.geometry.specs.Codes.{reshapedCode}
 use Rattle.geometry.proofs.Bounds.{product-positive}
-use Rattle.geometry.proofs.Limits.{Current, fits-facts, total-fits}
+use Rattle.geometry.proofs.LimitFacts.{Current, fits-facts, total-fits}
 
 current-of : (g : Geometry) (n : ℕ) → Current g n → currentFor g n ≡ true
 unfolding currentFor every

@@ -4,6 +4,7 @@ use mathlib.Core.Bool.{Bool, true, false}
 use mathlib.Core.List.{[], _∷_}
 use lib.Dec.{ltb, leb, eqb}
 use Rattle.ground.specs.Choice.{pick, every}
+use Rattle.ground.specs.Rows.{Unless, firstOf}
 use Rattle.geometry.specs.declared.Geometry.{Geometry}
 use Rattle.geometry.specs.declared.Address.{Address}
 use Rattle.geometry.specs.declared.Spot.{Spot}
@@ -23,13 +24,13 @@ headOf a = a .head % 16
 abbrev pub cylinderOf : Address → ℕ
 cylinderOf a = a .high * 256 + a .low
 
--- "LBA is 28 bits (from the top: head nibble, Cylinder High, Low, Sector Number)"
-abbrev pub lbaOf : Address → ℕ
-lbaOf a = headOf a * 16777216 + cylinderOf a * 256 + a .sector
-
 -- "CHS index is (c·H+h)·S+s-1"
 abbrev pub chsIndex : ℕ → ℕ → ℕ → Geometry → ℕ
 chsIndex c h s g = (c * g .heads + h) * g .sectors + s - 1
+
+-- "LBA is 28 bits (from the top: head nibble, Cylinder High, Low, Sector Number)"
+abbrev pub lbaOf : Address → ℕ
+lbaOf a = headOf a * 16777216 + cylinderOf a * 256 + a .sector
 
 -- a good address, and where its sector stands
 abbrev pub spotAt : ℕ → Spot
@@ -38,37 +39,47 @@ spotAt i = record { index = i }
 abbrev pub goodAt : ℕ → Located
 goodAt i = Located.Good (spotAt i)
 
--- LBA "below N", else 2FH.
-unfoldable pub locateLba : ℕ → ℕ → Located
-locateLba i n = pick (ltb i n) (goodAt i) Located.BadLba
-
 -- "with c<C, h<H, s 1..S, all current. … Bad head or sector: code 21H. Otherwise bad cylinder or LBA: 2FH."
 unfoldable pub locateChs : ℕ → ℕ → ℕ → Geometry → Located
 locateChs c h s g =
-    pick (every (ltb h (g .heads) ∷ leb 1 s ∷ leb s (g .sectors) ∷ []))
-    (pick (ltb c (g .cylinders)) (goodAt (chsIndex c h s g)) Located.BadCylinder)
-    Located.BadHeadOrSector
+    firstOf
+    (Unless (every (ltb h (g .heads) ∷ leb 1 s ∷ leb s (g .sectors) ∷ [])) Located.BadHeadOrSector
+    ∷ Unless (ltb c (g .cylinders)) Located.BadCylinder
+    ∷ [])
+    (λ (x : Located). x) (goodAt (chsIndex c h s g))
+
+-- LBA "below N", else 2FH.
+unfoldable pub locateLba : ℕ → ℕ → Located
+locateLba i n = firstOf (Unless (ltb i n) Located.BadLba ∷ []) (λ (x : Located). x) (goodAt i)
 
 unfoldable pub locate : Address → Geometry → ℕ → Located
 locate a g n = pick (byLba a) (locateLba (lbaOf a) n) (locateChs (cylinderOf a) (headOf a) (a .sector) g)
 
 -- 7XH: "address test; in CHS head and cylinder only"
+abbrev pub seekChs : ℕ → ℕ → Geometry → Sought
+seekChs c h g =
+    firstOf
+    (Unless (ltb h (g .heads)) Sought.BadHead
+    ∷ Unless (ltb c (g .cylinders)) Sought.BadCylinder
+    ∷ [])
+    (λ (x : Sought). x) Sought.Good
+
+abbrev pub seekLba : ℕ → ℕ → Sought
+seekLba i n = firstOf (Unless (ltb i n) Sought.BadLba ∷ []) (λ (x : Sought). x) Sought.Good
+
 unfoldable pub seek : Address → Geometry → ℕ → Sought
-seek a g n =
-    pick (byLba a)
-    (pick (ltb (lbaOf a) n) Sought.Good Sought.BadLba)
-    (pick (ltb (headOf a) (g .heads)) (pick (ltb (cylinderOf a) (g .cylinders)) Sought.Good Sought.BadCylinder) Sought.BadHead)
+seek a g n = pick (byLba a) (seekLba (lbaOf a) n) (seekChs (cylinderOf a) (headOf a) g)
 
 -- the end of a run's room: the current capacity in CHS, N in LBA.
 unfoldable pub roomOf : Address → Geometry → ℕ → ℕ
 roomOf a g n = pick (byLba a) n (capacityOf g)
 
--- is there such a sector, and where.
-abbrev pub found : Located → Bool
-found (Located.Good p) = true
-found Located.BadHeadOrSector = false
-found Located.BadCylinder = false
-found Located.BadLba = false
+-- whether it is a valid address, one that names a sector; and where that sector stands.
+abbrev pub validAddress : Located → Bool
+validAddress (Located.Good p) = true
+validAddress Located.BadHeadOrSector = false
+validAddress Located.BadCylinder = false
+validAddress Located.BadLba = false
 
 abbrev pub indexOf : Located → ℕ
 indexOf (Located.Good p) = p .index

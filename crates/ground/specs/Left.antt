@@ -1,11 +1,7 @@
--- What a call leaves that is lent a store and marks.
-use Prim.Native.Nat.{ℕ}
-use mathlib.Core.List.{List}
+-- What a call leaves: its outcome, and what was lent to it, as it is next.
+pub record Left (R L : Type 0) : Type 0 where
+  pub outcome : R
+  pub next : L
 
-pub record Left (R : Type 0) : Type 0 where
-  pub result : R
-  pub store : List ℕ
-  pub marks : List ℕ
-
-abbrev pub left : {R : Type 0} → R → List ℕ → List ℕ → Left R
-left r store marks = record { result = r; store = store; marks = marks }
+abbrev pub leaving : {R L : Type 0} → R → L → Left R L
+leaving r l = record { outcome = r; next = l }

@@ -1,9 +1,9 @@
 -- A table that can be held beside the paper: a list of its rows, in the paper's order.
 use Prim.Native.Nat.{ℕ, _/_}
-use mathlib.Core.Bool.{Bool, _&&_}
+use mathlib.Core.Bool.{Bool}
 use mathlib.Core.List.{List, [], _∷_}
-use lib.Dec.{eqb, leb}
-use Rattle.ground.specs.Choice.{pick}
+use lib.Dec.{eqb}
+use Rattle.ground.specs.Choice.{pick, within}
 
 -- what stands at a number, at the numbers from one to another, and at the two-digit numbers with this first digit (H)
 pub data Entry {ℓ} (A : Type ℓ) : Type ℓ where
@@ -13,7 +13,7 @@ pub data Entry {ℓ} (A : Type ℓ) : Type ℓ where
 
 abbrev pub names {ℓ} : {A : Type ℓ} → Entry A → ℕ → Bool
 names (At k x) n = eqb n k
-names (Through k j x) n = leb k n && leb n j
+names (Through k j x) n = within k j n
 names (Digit d x) n = eqb (n / 16) d
 
 abbrev pub entryOf {ℓ} : {A : Type ℓ} → Entry A → A

@@ -2,6 +2,18 @@
 ghost use mathlib.Core.Path.{_≡_};
 ghost use Prim.Native.Nat.{_<_, _≤_, min};
 ghost use lib.ListN.{length, getD};
+ghost use Rattle.ground.specs.Sizes.{sectorBytes};
+
+// 01: the bytes of a sector, and of the buffer that each passes through.
+pub const SECTOR_BYTES: usize = 512;
+
+pub type Sector = [u8; SECTOR_BYTES];
+
+// 01: the bytes of the tuple buffer.
+pub const TUPLE_BUFFER_BYTES: usize = 256;
+
+// 01: a sector moves as 256 words; the number of the last.
+pub const LAST_WORD: u16 = 255;
 
 // A byte as a wider number, with its bound.
 pub fn wide(x: u8) -> u16
@@ -10,13 +22,13 @@ pub fn wide(x: u8) -> u16
     x as u16
 }
 
-// An array that is passed by value is known to be 512 long; `length_known` says so of one that is lent.
-fn array_length(bytes: [u8; 512])
-    ensures { λ _. ⌜ length bytes ≡ 512 ⌝ }
+// An array that is passed by value is known to be so long; `length_known` says so of one that is lent.
+fn array_length(bytes: Sector)
+    ensures { λ _. ⌜ length bytes ≡ sectorBytes ⌝ }
 {}
 
-pub fn length_known(bytes: &[u8; 512])
-    ensures { λ _. ⌜ length (now (bytes .entry)) ≡ 512 ⌝ }
+pub fn length_known(bytes: &Sector)
+    ensures { λ _. ⌜ length (now (bytes .entry)) ≡ sectorBytes ⌝ }
 {
     array_length(*bytes);
 }

@@ -17,11 +17,11 @@ use Rattle.port.specs.Data.{Effect, accepted, heldValue, dataRead, dataWritten,
 use Rattle.card.specs.declared.Meaning.{Meaning}
 use Rattle.card.specs.declared.Meaning.the-variants.{TupleByte, ReadOption, WriteOption, ReadRegister, WriteRegister, ReadData, WriteData}
 use Rattle.card.specs.Perform.{optionWritten, perform}
+use Rattle.kept.specs.Lent.{storeMarksIn}
 use Rattle.kept.proofs.RegisterElim.{read-elim, set-elim}
 use Rattle.account.specs.Host.{calm}
 use Rattle.account.specs.Notes.{Waiting, None, LowByte, HighByte, Notes, note, noteData, noteRead, noteWritten, sent}
 use Rattle.sectors.specs.Sectors.{StoreMarks}
-use Rattle.laws.specs.Changes.{storeMarksIn}
 use Rattle.account.proofs.Aside.{stateIn, option-aside, register-aside}
 use Rattle.account.proofs.Rest.{notes}
 

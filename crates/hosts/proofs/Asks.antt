@@ -15,7 +15,7 @@ use Rattle.registers.specs.Machine.{Machine}
 use Rattle.transfers.specs.declared.Way.{Way}
 use Rattle.transfers.specs.declared.Way.the-variants.{In, Out}
 use Rattle.account.specs.Plain.{Plain, Account, moving}
-use Rattle.account.specs.Rows.{Row}
+use Rattle.account.specs.CommandRows.{CommandRow}
 use Rattle.account.specs.Table.{account}
 use Rattle.account.specs.Host.{plainOf, asks}
 use Rattle.account.specs.Notes.{Waiting, None, LowByte, HighByte, Notes}
@@ -31,7 +31,7 @@ waits-most (HighByte b) = omega arith
 longer : (a b : List ℕ) → 2 ≤ length a → 2 ≤ length (a ++ b)
 longer a b h = let k = length-append a b in omega arith
 
-module _ (row : Row) (p : Plain) (c : p .registers .count < 256) (m : Machine) (q : Notes) where
+module _ (row : CommandRow) (p : Plain) (c : p .registers .count < 256) (m : Machine) (q : Notes) where
   -- what is still to move
   whole : (f : Phase) → ((d : List ℕ) → account row p (q .done ++ d) ≡ moving (q .done) (restAt f (plainOf m) d)) →
       due row p ≡ length (q .done) + length (restAt f (plainOf m) plenty .moved)

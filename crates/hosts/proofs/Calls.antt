@@ -4,6 +4,7 @@ use mathlib.Core.Bool.{Bool, true, false, _&&_, true≢false}
 use mathlib.Core.Path.{_≡_, refl, sym, ap, _∙_, subst}
 use mathlib.Core.List.{List, [], _∷_}
 use Rattle.ground.specs.Choice.{pick}
+use Rattle.ground.specs.Rows.{firstOf}
 use Rattle.answers.specs.declared.Outcome.{Outcome}
 use Rattle.answers.specs.declared.Refusal.the-variants.{NotWellMade, StoreLength, MarksLength}
 use Rattle.registers.specs.Machine.{Machine, coreOf}
@@ -13,10 +14,11 @@ use Rattle.port.specs.Data.{Effect}
 use Rattle.card.specs.declared.Card.{Card}
 use Rattle.card.specs.declared.Answer.{Answer}
 use Rattle.card.specs.declared.Meaning.{Meaning}
-use Rattle.card.specs.Access.{Asked, storeSized, marksSized, tuplesSized, decided, verdictBy, verdictOf, meantBy, meaning}
+use Rattle.card.specs.Access.{Asked, storeSized, marksSized, tuplesSized, fitTable, decided, meaning}
 use Rattle.card.specs.Perform.{perform}
 use Rattle.card.specs.Step.{step}
 use Rattle.card.specs.Doors.{machineOf, answered, cardOf}
+use Rattle.card.proofs.Verdicts.{meaning-as}
 use Rattle.kept.specs.Sound.{Sound}
 use Rattle.kept.specs.Allowed.{Allowed}
 use Rattle.kept.proofs.Decided.{meaning-allowed}
@@ -27,16 +29,15 @@ use Rattle.hosts.specs.Running.{Promised, Call, Own, Wrong, WrongLength,
 
 -- ---- the wrong store or marks lent
 
-wrong-by : (w s k t : Bool) (d : Meaning) → (s && k) ≡ false → meantBy (verdictBy w s k t) d ≡ Meaning.Refused (pick w (pick s MarksLength StoreLength) NotWellMade)
+wrong-by : (w s k t : Bool) (d : Meaning) → (s && k) ≡ false → firstOf (fitTable w s k t) Meaning.Refused d ≡ Meaning.Refused (pick w (pick s MarksLength StoreLength) NotWellMade)
 wrong-by false s k t d e = refl
 wrong-by true false k t d e = refl
 wrong-by true true false t d e = refl
 wrong-by true true true t d e = absurd (true≢false e)
 
 wrong-means : (m : Machine) (store marks : List ℕ) (a : Asked) → WrongLength (m .state) store marks → meaning (lent store marks m) a ≡ Meaning.Refused (wrongRow m store)
-unfolding meaning verdictOf
 wrong-means m store marks a e =
-    wrong-by (wellMade (m .phase) (m .state)) (storeSized (m .state) store) (marksSized (m .state) marks) (tuplesSized (a .tuples)) (decided (m .state) a) e
+    meaning-as (lent store marks m) a ∙ wrong-by (wellMade (m .phase) (m .state)) (storeSized (m .state) store) (marksSized (m .state) marks) (tuplesSized (a .tuples)) (decided (m .state) a) e
 
 module _ (c : Card) (store marks : List ℕ) (a : Asked) (r : Answer) (store′ marks′ : List ℕ) (e : WrongLength (c .state) store marks) (p : Promised c store marks a r store′ marks′) where
   wrong-answered : answered r store′ marks′ ≡ perform (Meaning.Refused (wrongRow (machineOf c store marks) store)) (machineOf c store marks)

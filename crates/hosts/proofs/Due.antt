@@ -8,11 +8,11 @@ use lib.Dec.{eqb}
 use lib.ListN.{length, take, drop, length-append, length-replicate, length-drop}
 use lib.Seq.{length-take-le}
 use Rattle.ground.specs.Choice.{pick}
-use Rattle.account.specs.Plain.{Plain, starts, Ending, Well, NotFound, Unreadable, WriteFault, Aborted, silent}
-use Rattle.account.specs.Place.{Place, At, Bad}
-use Rattle.account.specs.Rows.{Row, Reads, Writes, Verifies, Erases, Identifies, ReadsBuffer, WritesBuffer, SetsGeometry, Diagnoses, Recalibrates, Seeks, Senses, Others}
+use Rattle.account.specs.Plain.{Plain, starts, Finish, Well, NotFound, Unreadable, WriteFault, Aborted, silent}
+use Rattle.account.specs.Addressed.{Addressed, At, Bad}
+use Rattle.account.specs.CommandRows.{CommandRow, Reads, Writes, Verifies, Erases, Identifies, ReadsBuffer, WritesBuffer, SetsGeometry, Diagnoses, Recalibrates, Seeks, Senses, Others}
 use Rattle.account.specs.Course.{courseOf}
-use Rattle.account.specs.Runs.{Run, tried, runFrom, tests, unwritable, writeRun, firstSectors, movedBy, writeSectors}
+use Rattle.account.specs.Sweeps.{Sweep, tried, sweepFrom, tests, unwritable, writeSweep, firstSectors, movedBy, writeSectors}
 use Rattle.account.specs.Table.{asked, first, fromFirst, account}
 use Rattle.hosts.specs.Live.{plenty, due}
 
@@ -21,24 +21,24 @@ unfolding plenty
 plenty-length = length-replicate {A = ℕ} (512 * 256) 0
 
 -- no more sectors move than are asked for
-one-more : (e : Ending) (k : ℕ) → movedBy e (suc k) ≡ suc (movedBy e k)
+one-more : (e : Finish) (k : ℕ) → movedBy e (suc k) ≡ suc (movedBy e k)
 one-more Well k = refl
 one-more (NotFound code) k = refl
 one-more Unreadable k = refl
 one-more WriteFault k = refl
 one-more (Aborted code) k = refl
 
-tried-most : (e : Ending) (n i : ℕ) (r : Run) → movedBy (r .ending) (r .done) ≤ n → movedBy (tried e (suc n) i r .ending) (tried e (suc n) i r .done) ≤ suc n
-tried-most Well n i r h = rw (one-more (r .ending) (r .done)) (omega arith)
+tried-most : (e : Finish) (n i : ℕ) (r : Sweep) → movedBy (r .finish) (r .done) ≤ n → movedBy (tried e (suc n) i r .finish) (tried e (suc n) i r .done) ≤ suc n
+tried-most Well n i r h = rw (one-more (r .finish) (r .done)) (omega arith)
 tried-most (NotFound code) n i r h = omega arith
 tried-most Unreadable n i r h = omega arith
 tried-most WriteFault n i r h = omega arith
 tried-most (Aborted code) n i r h = omega arith
 
-run-moves : (test : ℕ → Ending) (n i : ℕ) → movedBy (runFrom test i n .ending) (runFrom test i n .done) ≤ n
-unfolding runFrom
-run-moves test zero i = omega arith
-run-moves test (suc n) i = tried-most (test i) n i (runFrom test (i + 1) n) (run-moves test n (i + 1))
+sweep-moves : (test : ℕ → Finish) (n i : ℕ) → movedBy (sweepFrom test i n .finish) (sweepFrom test i n .done) ≤ n
+unfolding sweepFrom
+sweep-moves test zero i = omega arith
+sweep-moves test (suc n) i = tried-most (test i) n i (sweepFrom test (i + 1) n) (sweep-moves test n (i + 1))
 
 pub sectors-length : (k : ℕ) (d : List ℕ) → 512 * k ≤ length d → length (firstSectors k d) ≡ 512 * k
 unfolding firstSectors
@@ -57,17 +57,17 @@ asked-most count h = go (eqb count 0)
     go true = omega arith
     go false = omega arith
 
-written-same : (l : Place) (n : ℕ) (p : Plain) (d e : List ℕ) → 512 * n ≤ length d → 512 * n ≤ length e →
+written-same : (l : Addressed) (n : ℕ) (p : Plain) (d e : List ℕ) → 512 * n ≤ length d → 512 * n ≤ length e →
     length (fromFirst l silent (λ i. writeSectors (courseOf p) i n p d) p .moved) ≡ length (fromFirst l silent (λ i. writeSectors (courseOf p) i n p e) p .moved)
 unfolding writeSectors
 written-same (At i) n p d e x y =
-    let r = writeRun (courseOf p) (p .marks) i n in
-    let k = movedBy (r .ending) (r .done) in
-    let z : k ≤ n = run-moves (tests unwritable WriteFault (courseOf p) (p .marks)) n i in
+    let r = writeSweep (courseOf p) (p .marks) i n in
+    let k = movedBy (r .finish) (r .done) in
+    let z : k ≤ n = sweep-moves (tests unwritable WriteFault (courseOf p) (p .marks)) n i in
     sectors-length k d (omega arith) ∙ sym (sectors-length k e (omega arith))
 written-same (Bad code) n p d e x y = refl
 
-pub due-any : (row : Row) (p : Plain) (d : List ℕ) → p .registers .count < 256 → 512 * 256 ≤ length d → length (account row p d .moved) ≡ due row p
+pub due-any : (row : CommandRow) (p : Plain) (d : List ℕ) → p .registers .count < 256 → 512 * 256 ≤ length d → length (account row p d .moved) ≡ due row p
 unfolding account due
 due-any Reads p d c h = refl
 due-any Writes p d c h =

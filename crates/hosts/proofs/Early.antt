@@ -10,28 +10,28 @@ use Rattle.registers.specs.Machine.{Machine}
 use Rattle.card.specs.declared.Meaning.{Meaning}
 use Rattle.card.specs.Access.{Asked}
 use Rattle.card.specs.Step.{step}
+use Rattle.kept.specs.Lent.{storeMarksIn}
 use Rattle.account.specs.Plain.{Plain}
-use Rattle.account.specs.Place.{Place, At, Bad}
-use Rattle.account.specs.Rows.{Row, Reads, Writes, Verifies, Erases, Identifies, ReadsBuffer, WritesBuffer, SetsGeometry, Diagnoses, Recalibrates, Seeks, Senses, Others, rowOf}
+use Rattle.account.specs.Addressed.{Addressed, At, Bad}
+use Rattle.account.specs.CommandRows.{CommandRow, Reads, Writes, Verifies, Erases, Identifies, ReadsBuffer, WritesBuffer, SetsGeometry, Diagnoses, Recalibrates, Seeks, Senses, Others, rowOf}
 use Rattle.account.specs.Course.{courseOf}
-use Rattle.account.specs.Runs.{writeRun, replaced, cleared}
+use Rattle.account.specs.Sweeps.{writeSweep, replaced, cleared}
 use Rattle.account.specs.Table.{asked, first}
 use Rattle.account.specs.Host.{plainOf}
 use Rattle.account.specs.Follows.{Able, commanded, afterBy, AcceptedCommand, after, dataless}
-use Rattle.laws.specs.Changes.{storeMarksIn}
 use Rattle.hosts.specs.Moment.{CalmBy, Calm, storeMarksOf, wholeOf, storedOf, storedFrom, writtenSoFar, soFar}
 use Rattle.hosts.proofs.Moment.{means-at-every-moment, at-every-moment}
 
-none-yet : (l : Place) (p : Plain) (d : List ℕ) → length d < 512 → writtenSoFar l p d ≡ storeMarksOf p
+none-yet : (l : Addressed) (p : Plain) (d : List ℕ) → length d < 512 → writtenSoFar l p d ≡ storeMarksOf p
 unfolding writtenSoFar replaced cleared
 none-yet (At i) p d h =
-    let x = min-le-left (wholeOf d) (writeRun (courseOf p) (p .marks) i (asked (p .registers .count)) .done) in
-    let y = min-le-right (wholeOf d) (writeRun (courseOf p) (p .marks) i (asked (p .registers .count)) .done) in
+    let x = min-le-left (wholeOf d) (writeSweep (courseOf p) (p .marks) i (asked (p .registers .count)) .done) in
+    let y = min-le-right (wholeOf d) (writeSweep (courseOf p) (p .marks) i (asked (p .registers .count)) .done) in
     let e : storedOf i p d ≡ 0 = omega arith in
     ap (λ (k : ℕ). storedFrom i k p d) e
 none-yet (Bad code) p d h = refl
 
-row-none-yet : (row : Row) (p : Plain) (d : List ℕ) → dataless row ≡ false → length d < 512 → soFar row p d ≡ storeMarksOf p
+row-none-yet : (row : CommandRow) (p : Plain) (d : List ℕ) → dataless row ≡ false → length d < 512 → soFar row p d ≡ storeMarksOf p
 unfolding soFar
 row-none-yet Reads p d e h = refl
 row-none-yet Writes p d e h = none-yet (first p) p d h

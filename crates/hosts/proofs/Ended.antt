@@ -10,7 +10,7 @@ use Rattle.transfers.specs.declared.Way.the-variants.{In}
 use Rattle.card.specs.Access.{Asked}
 use Rattle.card.specs.Step.{step}
 use Rattle.account.specs.Plain.{Plain, Account}
-use Rattle.account.specs.Rows.{Row, Reads, Writes, Verifies, Erases, Identifies, ReadsBuffer, WritesBuffer, SetsGeometry, Diagnoses, Recalibrates, Seeks, Senses, Others, rowOf}
+use Rattle.account.specs.CommandRows.{CommandRow, Reads, Writes, Verifies, Erases, Identifies, ReadsBuffer, WritesBuffer, SetsGeometry, Diagnoses, Recalibrates, Seeks, Senses, Others, rowOf}
 use Rattle.account.specs.Table.{account}
 use Rattle.account.specs.Host.{plainOf, Hosted, Moves}
 use Rattle.account.specs.Notes.{wayOf}
@@ -22,7 +22,7 @@ use Rattle.hosts.proofs.Due.{due-any, plenty-length}
 use Rattle.account.proofs.Theorem.{agreed}
 
 -- Of what is claimed alone, whoever the host: it has moved as much as the account says.
-pub due-agrees : (row : Row) (p : Plain) (h : Hosted) → p .registers .count < 256 → Agrees (account row p) h → length (h .notes .done) ≡ due row p
+pub due-agrees : (row : CommandRow) (p : Plain) (h : Hosted) → p .registers .count < 256 → Agrees (account row p) h → length (h .notes .done) ≡ due row p
 due-agrees row p h c x =
     let d = h .notes .done in
     let e = length-append d plenty in
@@ -33,7 +33,7 @@ pub moves-due : (m : Machine) (a : Asked) (v : ℕ) (l : List Asked) → Accepte
 moves-due m a v l w x = due-agrees (rowOf v) (plainOf m) (after m a v l) (w .typed .count) (agreed m a v l w x)
 
 -- reading takes no data
-reads-alone : (row : Row) (p : Plain) (d : List ℕ) → wayOf row ≡ In → account row p d .moved ≡ account row p [] .moved
+reads-alone : (row : CommandRow) (p : Plain) (d : List ℕ) → wayOf row ≡ In → account row p d .moved ≡ account row p [] .moved
 unfolding account
 reads-alone Reads p d e = refl
 reads-alone Writes p d e = absurd (true≢false (ap writes e))
@@ -50,7 +50,7 @@ reads-alone Senses p d e = refl
 reads-alone Others p d e = refl
 
 -- A host that reads has been given the account's data.
-pub read-agrees : (row : Row) (p : Plain) (h : Hosted) → wayOf row ≡ In → Agrees (account row p) h → h .notes .done ≡ account row p [] .moved
+pub read-agrees : (row : CommandRow) (p : Plain) (h : Hosted) → wayOf row ≡ In → Agrees (account row p) h → h .notes .done ≡ account row p [] .moved
 read-agrees row p h e x = sym (ap (λ (y : Account). y .moved) (x .account)) ∙ reads-alone row p (h .notes .done) e
 
 pub read-as-due : (m : Machine) (a : Asked) (v : ℕ) (l : List Asked) → AcceptedCommand m a v → wayOf (rowOf v) ≡ In → Moves (step m a .next) l →

@@ -12,12 +12,12 @@ use Rattle.geometry.specs.Limits.{fits, totalOf, currentFor}
 use Rattle.geometry.specs.Address.{byLba, locateLba, locateChs, locate}
 use Rattle.geometry.specs.Next.{nextChs, nextOf}
 use Rattle.maps.specs.Spaces.{cardAnswers, answersAt}
-use Rattle.maps.specs.Offsets.{memoryAt, contiguousAt, within, windowAt, ioAt, offsetAt}
+use Rattle.maps.specs.Offsets.{memoryAt, contiguousAt, windowAt, ioAt, offsetAt}
 use Rattle.maps.specs.Places.{registerPlace, attributePlace, mapPlace, placeAt}
 use Rattle.maps.specs.Rows.{misfits, aboveThree}
 use Rattle.sectors.specs.Marks.{readable, writable, marksFit}
 use Rattle.sectors.specs.Sectors.{sectorOf, withSector, bufferRead, stored}
-use Rattle.registers.specs.WellMade.{indexFits, sresetFits, atRest, statusFits, heldIn, holdFits, wordsFit, sectorsFit, loadFits, runFits, wellMade}
+use Rattle.registers.specs.WellMade.{indexFits, sresetFits, atRest, statusFits, inReset, holdFits, wordsFit, sectorsFit, loadFits, runFits, wellMade}
 use Rattle.registers.specs.Resets.{turnOf, optionTurned, bufferTurned, controlTurned}
 use Rattle.registers.specs.Values.{valueRead, afterRead, registerSet}
 use Rattle.transfers.specs.Before.{addressTest, sectorTest, sectorStored}
@@ -32,7 +32,7 @@ use Rattle.card.specs.Opening.{opened}
 use Rattle.registers.specs.PowerOn.{zeros}
 use Rattle.maps.specs.declared.Register.the-variants.{StatusCommand}
 use Rattle.card.specs.declared.Meaning.the-variants.{WriteRegister}
-use Rattle.account.specs.Rows.{rowOf}
+use Rattle.account.specs.CommandRows.{rowOf}
 use Rattle.account.specs.Table.{account}
 use Rattle.account.specs.Host.{plainOf, hosted}
 use Rattle.account.specs.Notes.{wayOf, noNotes}
@@ -49,11 +49,25 @@ unfoldable pub card : Machine
 card = machineOf (opened twoSectors 0 (replicate 1024 0) (0 ∷ 2 ∷ []) (replicate 256 0xFF) .card) (replicate 1024 0) (0 ∷ 2 ∷ [])
 
 unfoldable pub writeAccess : ℕ → ℕ → ℕ → ℕ → Asked
-writeAccess space width address value = askedWith (record { space = space; width = width; write = true; address = address; value = value }) (replicate 256 0xFF)
+writeAccess space width address value = askedWith (record { space = space; width = width; address = address; value = value; write = true }) (replicate 256 0xFF)
 
 unfoldable pub times : ℕ → List Asked → List Asked
 times zero l = []
 times (suc n) l = l ++ times n l
+
+-- all that both hosts compute with, crate by crate, under one name
+unfoldable computing : Unit {0}
+unfolding every fits totalOf currentFor locate locateChs locateLba byLba nextOf nextChs
+    answersAt cardAnswers placeAt mapPlace attributePlace registerPlace misfits aboveThree offsetAt memoryAt ioAt contiguousAt windowAt
+    stored withSector sectorOf bufferRead readable writable marksFit
+    wellMade runFits loadFits sectorsFit wordsFit holdFits inReset statusFits atRest sresetFits indexFits
+    valueRead afterRead registerSet turnOf optionTurned bufferTurned controlTurned zeros
+    readSector nextRead askSector nextAsked sectorDone sectorTest addressTest sectorStored
+    countOf commandOf commandGiven
+    dataRead dataWritten wordRead wordWritten takeOf
+    opened play step meaning verdictOf decided heldAway perform optionWritten registerWritten plainCore
+    moves typed bytes twoSectors card writeAccess times
+computing = tt
 
 -- E8H by memory at index 0; 128 words by bytes, the high one first, at 401H and 400H; index 1; 128 words by bytes, the high one first, at I/O 9 and 8
 unfoldable pub commandE8 : Asked
@@ -69,14 +83,14 @@ bufferAfter = play (step card commandE8 .next) two-maps .last .buffer
 
 computed :
     (meaning card commandE8 ≡ WriteRegister StatusCommand 0xE8)
-    × (heldIn (card .state) ≡ false)
+    × (inReset (card .state) ≡ false)
     × (typed card ≡ true)
     × (moves (step card commandE8 .next) two-maps ≡ true)
     × (getD bufferAfter 0 0 ≡ 0x11)
     × (getD bufferAfter 1 0 ≡ 0x22)
     × (getD bufferAfter 510 0 ≡ 0x33)
     × (getD bufferAfter 511 0 ≡ 0x44)
-unfolding moves typed bytes twoSectors card writeAccess times commandE8 two-maps bufferAfter play step meaning verdictOf decided heldAway answersAt cardAnswers placeAt mapPlace attributePlace registerPlace misfits aboveThree offsetAt memoryAt ioAt contiguousAt windowAt within wellMade runFits loadFits sectorsFit wordsFit holdFits heldIn statusFits atRest sresetFits indexFits every fits totalOf currentFor locate locateChs locateLba byLba nextOf nextChs perform optionWritten registerWritten plainCore valueRead afterRead registerSet turnOf optionTurned bufferTurned controlTurned dataRead dataWritten wordRead wordWritten takeOf readSector nextRead askSector nextAsked sectorDone sectorTest addressTest sectorStored stored withSector sectorOf bufferRead readable writable marksFit countOf commandOf commandGiven opened zeros
+unfolding computing commandE8 two-maps bufferAfter
 computed = (refl, refl, refl, refl, refl, refl, refl, refl)
 
 pub two-maps-agree : Agrees (account (rowOf 0xE8) (plainOf card)) (hosted (wayOf (rowOf 0xE8)) (step card commandE8 .next) noNotes two-maps)
@@ -97,14 +111,14 @@ cardAfter = play (step cardAtLba0 command30 .next) allWords .last
 
 faulted :
     (meaning cardAtLba0 command30 ≡ WriteRegister StatusCommand 0x30)
-    × (heldIn (cardAtLba0 .state) ≡ false)
+    × (inReset (cardAtLba0 .state) ≡ false)
     × (typed cardAtLba0 ≡ true)
     × (moves (step cardAtLba0 command30 .next) allWords ≡ true)
     × (cardAfter .state .registers .status ≡ 0x71)
     × (cardAfter .state .registers .count ≡ 1)
     × (getD (cardAfter .store) 511 0 ≡ 0x44)
     × (getD (cardAfter .store) 512 0 ≡ 0)
-unfolding moves typed bytes twoSectors card writeAccess play times cardAtLba0 command30 allWords cardAfter step meaning verdictOf decided heldAway answersAt cardAnswers placeAt mapPlace attributePlace registerPlace misfits aboveThree offsetAt memoryAt ioAt contiguousAt windowAt within wellMade runFits loadFits sectorsFit wordsFit holdFits heldIn statusFits atRest sresetFits indexFits every fits totalOf currentFor locate locateChs locateLba byLba nextOf nextChs perform optionWritten registerWritten plainCore valueRead afterRead registerSet turnOf optionTurned bufferTurned controlTurned dataRead dataWritten wordRead wordWritten takeOf readSector nextRead askSector nextAsked sectorDone sectorTest addressTest sectorStored stored withSector sectorOf bufferRead readable writable marksFit countOf commandOf commandGiven opened zeros
+unfolding computing cardAtLba0 command30 allWords cardAfter
 faulted = (refl, refl, refl, refl, refl, refl, refl, refl)
 
 pub fault-agrees : Agrees (account (rowOf 0x30) (plainOf cardAtLba0)) (hosted (wayOf (rowOf 0x30)) (step cardAtLba0 command30 .next) noNotes allWords)

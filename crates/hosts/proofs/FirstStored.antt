@@ -14,24 +14,24 @@ use Rattle.registers.specs.Machine.{Machine}
 use Rattle.card.specs.declared.Meaning.{Meaning}
 use Rattle.card.specs.Access.{Asked}
 use Rattle.card.specs.Step.{step}
+use Rattle.kept.specs.Lent.{storeMarksIn}
 use Rattle.account.specs.Plain.{Plain, WriteFault}
-use Rattle.account.specs.Place.{At}
-use Rattle.account.specs.Rows.{Row, Writes, rowOf}
+use Rattle.account.specs.Addressed.{At}
+use Rattle.account.specs.CommandRows.{CommandRow, Writes, rowOf}
 use Rattle.account.specs.Course.{courseOf}
-use Rattle.account.specs.Runs.{unwritable, writeRun, putSector, replaced, cleared}
+use Rattle.account.specs.Sweeps.{unwritable, writeSweep, putSector, replaced, cleared}
 use Rattle.account.specs.Table.{asked, first}
 use Rattle.account.specs.Host.{plainOf, meanings, hosted}
 use Rattle.account.specs.Notes.{noNotes, wayOf}
 use Rattle.account.specs.Follows.{Able, commanded, afterBy, AcceptedCommand, after}
 use Rattle.sectors.specs.Sectors.{StoreMarks}
-use Rattle.laws.specs.Changes.{storeMarksIn}
 use Rattle.hosts.specs.Moment.{CalmBy, Calm, wholeOf, storedOf, storedFrom, writtenSoFar, soFar, FirstStored}
 use Rattle.account.proofs.Seats.{courseIn, seat-room, room-total}
 use Rattle.account.proofs.Stored.{LentFor, put-length}
 use Rattle.account.proofs.Commands.{first-at}
 use Rattle.account.proofs.Theorem.{by-meaning}
 use Rattle.account.proofs.Accepted.{given, able}
-use Rattle.account.proofs.Elsewhere.{replaced-same, cleared-same, run-inside}
+use Rattle.account.proofs.Elsewhere.{replaced-same, cleared-same, sweep-inside}
 use Rattle.hosts.proofs.Moment.{means-at-every-moment}
 
 -- ---- the sectors put
@@ -105,13 +105,13 @@ means-first-ones-stored m v l i n e f g =
     let d = afterBy m v l .notes .done in
     let k = storedOf i (plainOf m) d in
     let o = given m n .0 in
-    let x = min-le-left (wholeOf d) (writeRun (courseOf (plainOf m)) (m .marks) i (asked (m .state .registers .count)) .done) in
-    let w = min-le-right (wholeOf d) (writeRun (courseOf (plainOf m)) (m .marks) i (asked (m .state .registers .count)) .done) in
+    let x = min-le-left (wholeOf d) (writeSweep (courseOf (plainOf m)) (m .marks) i (asked (m .state .registers .count)) .done) in
+    let w = min-le-right (wholeOf d) (writeSweep (courseOf (plainOf m)) (m .marks) i (asked (m .state .registers .count)) .done) in
     let y = seat-room (m .state) i (o .0) (first-at m i (o .0) f) in
-    let u = run-inside unwritable WriteFault (courseOf (plainOf m)) (m .marks) (asked (m .state .registers .count)) i (omega arith) in
+    let u = sweep-inside unwritable WriteFault (courseOf (plainOf m)) (m .marks) (asked (m .state .registers .count)) i (omega arith) in
     let r = room-total (courseIn (m .state)) (m .state) (o .0) refl in
     subst (λ (z : StoreMarks). FirstStored i k (plainOf m) d z)
-    (sym (means-at-every-moment m v l n g ∙ ap (λ (z : Row). soFar z (plainOf m) d) e ∙ soFar-at (plainOf m) i d f))
+    (sym (means-at-every-moment m v l n g ∙ ap (λ (z : CommandRow). soFar z (plainOf m) d) e ∙ soFar-at (plainOf m) i d f))
     (stored-first i k (totalOf (m .state .made .default)) (plainOf m) d (omega arith) (omega arith) (o .1))
 
 pub first-ones-stored : (m : Machine) (a : Asked) (v : ℕ) (l : List Asked) (i : ℕ) → AcceptedCommand m a v → rowOf v ≡ Writes → first (plainOf m) ≡ At i →

@@ -21,15 +21,15 @@ use Rattle.card.specs.declared.Meaning.the-variants.{TupleByte, ReadOption, Wri
 use Rattle.card.specs.Access.{Asked, meaning}
 use Rattle.card.specs.Perform.{perform}
 use Rattle.card.specs.Step.{step}
-use Rattle.account.specs.Rows.{rowOf}
+use Rattle.account.specs.CommandRows.{rowOf}
 use Rattle.account.specs.Host.{plainOf, calm, asks, Hosted, hostedBy, Moves}
 use Rattle.account.specs.Notes.{Waiting, None, LowByte, HighByte, Notes, note, wayOf}
 use Rattle.account.specs.Follows.{AcceptedCommand, after}
 use Rattle.hosts.specs.Live.{fits, most, Small, due}
 use Rattle.hosts.specs.Choices.{offsets, dataAt, Fitting}
-use Rattle.hosts.specs.Hosts.{onward, Going, turns, Willing}
+use Rattle.hosts.specs.Hosts.{onward, Going, rounds, Willing}
 use Rattle.hosts.specs.Sends.{next, Sends, still}
-use Rattle.hosts.specs.Likes.{oddThere, liked, spaceOf, evenPlace, addressOf, choiceIn, likedTurns}
+use Rattle.hosts.specs.Likes.{oddThere, liked, spaceOf, evenPlace, addressOf, choiceIn, likedRounds}
 use Rattle.hosts.proofs.Live.{every-host-ends}
 use Rattle.hosts.proofs.Sent.{sends-ready-too}
 
@@ -89,11 +89,11 @@ next-small : (way : Way) (b : ℕ → ℕ) → ((i : ℕ) → b i < 256) → (n 
 next-small In b h n w port e = tt
 next-small Out b h n w port e = next-most b h n w port e
 
--- whatever parts it would like, and whatever it does aside that is allowed and moves no data: every turn sends its own
+-- whatever parts it would like, and whatever it does aside that is allowed and moves no data: every round sends its own
 pub liked-sends : (way : Way) (b : ℕ → ℕ) (besides : Hosted → List Asked) → ((i : ℕ) → b i < 256) →
     ((h : Hosted) → asks (h .machine) ≡ true → Going meaning way h (besides h) × (onward meaning way h (besides h) .notes ≡ h .notes)) →
-    (likes : List Port) (h : Hosted) → Willing meaning way (Sends b way) h (likedTurns way b besides h likes)
-unfolding likedTurns
+    (likes : List Port) (h : Hosted) → Willing meaning way (Sends b way) h (likedRounds way b besides h likes)
+unfolding likedRounds
 liked-sends way b besides small g [] h = tt
 liked-sends way b besides small g (like ∷ l) h = λ e.
     let k = onward meaning way h (besides h) in
@@ -102,7 +102,7 @@ liked-sends way b besides small g (like ∷ l) h = λ e.
     record { half = r .0; place = r .1; value = next-small way b small (length (k .notes .done)) (k .notes .waiting) _ (r .0); tuples = refl } in
     ((g h e .0, g h e .1, λ x. (choiceIn b like k, refl, f, refl)), liked-sends way b besides small g l _)
 
--- ---- one access aside, at each turn, that moves no data
+-- ---- one access aside, at each round, that moves no data
 
 still-notes : (way : Way) (x : Meaning) (o : Outcome) (q : Notes) → still way x ≡ true → note way x o q ≡ q
 unfolding note
@@ -120,14 +120,14 @@ still-notes Out (WriteData port v) o q e = absurd (false≢true e)
 -- a status read, a refused access, a change of map, data the other way
 pub one-aside : (way : Way) (b : ℕ → ℕ) (x : Hosted → Asked) → ((i : ℕ) → b i < 256) →
     ((h : Hosted) → asks (h .machine) ≡ true → (calm (meaning (h .machine) (x h)) ≡ true) × (still way (meaning (h .machine) (x h)) ≡ true)) →
-    (likes : List Port) (h : Hosted) → Willing meaning way (Sends b way) h (likedTurns way b (λ k. x k ∷ []) h likes)
+    (likes : List Port) (h : Hosted) → Willing meaning way (Sends b way) h (likedRounds way b (λ k. x k ∷ []) h likes)
 unfolding hostedBy
 one-aside way b x small f =
     liked-sends way b (λ k. x k ∷ []) small
     (λ h e. ((e, f h e .0, tt), still-notes way (meaning (h .machine) (x h)) (perform (meaning (h .machine) (x h)) (h .machine) .outcome) (h .notes) (f h e .1)))
 
-liked-length : (way : Way) (b : ℕ → ℕ) (besides : Hosted → List Asked) (h : Hosted) (likes : List Port) → length (likedTurns way b besides h likes) ≡ length likes
-unfolding likedTurns
+liked-length : (way : Way) (b : ℕ → ℕ) (besides : Hosted → List Asked) (h : Hosted) (likes : List Port) → length (likedRounds way b besides h likes) ≡ length likes
+unfolding likedRounds
 liked-length way b besides h [] = refl
 liked-length way b besides h (like ∷ l) = ap suc (liked-length way b besides _ l)
 
@@ -139,6 +139,6 @@ not-empty m a v w =
     let h = after m a v [] in
     let n = due (rowOf v) (plainOf m) in
     let likes = replicate n Port.Word in
-    let t = likedTurns way (λ i. 0) (λ k. []) h likes in
+    let t = likedRounds way (λ i. 0) (λ k. []) h likes in
     let e : length t ≡ n = liked-length way (λ i. 0) (λ k. []) h likes ∙ length-replicate n Port.Word in
-    (turns meaning way h t, every-host-ends m a v t w (omega arith) (sends-ready-too (λ i. 0) way t h (liked-sends way (λ i. 0) (λ k. []) (λ i. omega arith) (λ k x. (tt, refl)) likes h)))
+    (rounds meaning way h t, every-host-ends m a v t w (omega arith) (sends-ready-too (λ i. 0) way t h (liked-sends way (λ i. 0) (λ k. []) (λ i. omega arith) (λ k x. (tt, refl)) likes h)))

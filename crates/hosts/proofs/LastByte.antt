@@ -12,16 +12,16 @@ use Rattle.card.specs.declared.Meaning.{Meaning}
 use Rattle.card.specs.Access.{Asked, meaning}
 use Rattle.card.specs.Perform.{perform}
 use Rattle.card.specs.Step.{step}
+use Rattle.kept.specs.Lent.{storeMarksIn}
 use Rattle.account.specs.Plain.{Plain}
-use Rattle.account.specs.Place.{Place, At, Bad}
-use Rattle.account.specs.Rows.{Row, Reads, Writes, Verifies, Erases, Identifies, ReadsBuffer, WritesBuffer, SetsGeometry, Diagnoses, Recalibrates, Seeks, Senses, Others, rowOf}
+use Rattle.account.specs.Addressed.{Addressed, At, Bad}
+use Rattle.account.specs.CommandRows.{CommandRow, Reads, Writes, Verifies, Erases, Identifies, ReadsBuffer, WritesBuffer, SetsGeometry, Diagnoses, Recalibrates, Seeks, Senses, Others, rowOf}
 use Rattle.account.specs.Course.{courseOf}
-use Rattle.account.specs.Runs.{writeRun, putSector, replaced}
+use Rattle.account.specs.Sweeps.{writeSweep, putSector, replaced}
 use Rattle.account.specs.Table.{asked, first, account}
 use Rattle.account.specs.Host.{plainOf, Hosted, hostedBy, meanings, hosted}
 use Rattle.account.specs.Notes.{Notes, noNotes, note, wayOf}
 use Rattle.account.specs.Follows.{Able, commanded, afterBy, AcceptedCommand, after}
-use Rattle.laws.specs.Changes.{storeMarksIn}
 use Rattle.hosts.specs.Moment.{CalmBy, Calm, wholeOf, storedFrom, writtenSoFar, soFar}
 use Rattle.account.proofs.Accepted.{able}
 use Rattle.account.proofs.Theorem.{by-meaning}
@@ -47,17 +47,17 @@ replaced-front (suc k) i l d s h =
     ∙ ap (λ (x : List ℕ). replaced (i + 1) k (drop 512 l ++ d) (putSector i x s)) e
     ∙ replaced-front k (i + 1) (drop 512 l) d (putSector i (take 512 l) s) (simp length-drop (omega arith))
 
-front-written : (g : Place) (p : Plain) (l d : List ℕ) → wholeOf (l ++ d) ≡ wholeOf l → writtenSoFar g p (l ++ d) ≡ writtenSoFar g p l
+front-written : (g : Addressed) (p : Plain) (l d : List ℕ) → wholeOf (l ++ d) ≡ wholeOf l → writtenSoFar g p (l ++ d) ≡ writtenSoFar g p l
 unfolding writtenSoFar
 front-written (At i) p l d e =
-    let n = writeRun (courseOf p) (p .marks) i (asked (p .registers .count)) .done in
+    let n = writeSweep (courseOf p) (p .marks) i (asked (p .registers .count)) .done in
     let x = min-le-left (wholeOf l) n in
     let y = min-le-right (wholeOf l) n in
     ap (λ (k : ℕ). storedFrom i (min k n) p (l ++ d)) e
     ∙ ap (λ (s : List ℕ). record { store = s; marks = storedFrom i (min (wholeOf l) n) p l .marks }) (replaced-front (min (wholeOf l) n) i l d (p .store) (omega arith))
 front-written (Bad code) p l d e = refl
 
-front-same : (row : Row) (p : Plain) (l d : List ℕ) → wholeOf (l ++ d) ≡ wholeOf l → soFar row p (l ++ d) ≡ soFar row p l
+front-same : (row : CommandRow) (p : Plain) (l d : List ℕ) → wholeOf (l ++ d) ≡ wholeOf l → soFar row p (l ++ d) ≡ soFar row p l
 unfolding soFar account
 front-same Reads p l d e = refl
 front-same Writes p l d e = front-written (first p) p l d e

@@ -3,7 +3,7 @@ pub mod Due
 pub mod Asks
 pub mod Taken
 pub mod Reached
-pub mod Turns
+pub mod Rounds
 pub mod Written
 pub mod WrittenWord
 pub mod WrittenKeeps

@@ -17,14 +17,14 @@ use Rattle.card.specs.Step.{step}
 use Rattle.kept.specs.Sound.{Sound}
 use Rattle.kept.proofs.Step.{sound-kept}
 use Rattle.account.specs.Plain.{Plain, Account}
-use Rattle.account.specs.Rows.{Row, rowOf}
+use Rattle.account.specs.CommandRows.{CommandRow, rowOf}
 use Rattle.account.specs.Table.{account}
 use Rattle.account.specs.Host.{plainOf, asks, GoesBy, MovesBy, Hosted, hostedBy, meaningsBy, meanings, Goes, Moves, hosted}
 use Rattle.account.specs.Notes.{noNotes, wayOf}
 use Rattle.account.specs.Follows.{Able, commanded, afterBy, AcceptedCommand, after}
 use Rattle.hosts.specs.Live.{fits, Small, noted, dataMeaning, Taken, due}
 use Rattle.hosts.specs.Choices.{Choice, accessOf, Fitting, TakenChoice}
-use Rattle.hosts.specs.Hosts.{Turn, onward, Going, turns, Willing, Chosen, itself, ReadyBy, Ready}
+use Rattle.hosts.specs.Hosts.{Round, onward, Going, rounds, Willing, Chosen, itself, ReadyBy, Ready}
 use Rattle.account.proofs.Rest.{Rel}
 use Rattle.account.proofs.Accepted.{able}
 use Rattle.account.proofs.Theorem.{begun, goes-on, by-meaning}
@@ -32,7 +32,7 @@ use Rattle.hosts.proofs.Places.{choice-means}
 use Rattle.hosts.proofs.Asks.{asks-due}
 use Rattle.hosts.proofs.Taken.{taken}
 use Rattle.hosts.proofs.Reached.{Stands, reached}
-use Rattle.hosts.proofs.Turns.{ends}
+use Rattle.hosts.proofs.Rounds.{comes-to-end}
 
 -- ---- after a command, over what accesses mean
 
@@ -54,19 +54,19 @@ module _ (m : Machine) (v : ℕ) (l : List Meaning) (k : Able m) (g : GoesBy (co
       let done = afterBy m v l .notes .done in
       ap (λ (x : Account). take (length done) (x .moved)) (goes .account more) ∙ take-append-seam done _
 
--- a host that keeps choosing comes to the end: its turns are as many as there are bytes, or more
+-- a host that keeps choosing comes to the end: its rounds are as many as there are bytes, or more
 pub itself-same : (l : List Meaning) (m : Machine) → meaningsBy itself m l ≡ l
 itself-same [] m = refl
 itself-same (x ∷ l) m = ap (λ (r : List Meaning). x ∷ r) (itself-same l (perform x m .next))
 
-pub means-every-host-ends : (m : Machine) (v : ℕ) (l : List (Turn Meaning)) → Able m → let way = wayOf (rowOf v) in
-    due (rowOf v) (plainOf m) ≤ length l → Willing itself way (ReadyBy way) (afterBy m v []) l → MovesBy (commanded v m) (turns itself way (afterBy m v []) l)
+pub means-every-host-ends : (m : Machine) (v : ℕ) (l : List (Round Meaning)) → Able m → let way = wayOf (rowOf v) in
+    due (rowOf v) (plainOf m) ≤ length l → Willing itself way (ReadyBy way) (afterBy m v []) l → MovesBy (commanded v m) (rounds itself way (afterBy m v []) l)
 unfolding hostedBy
 means-every-host-ends m v l k d w =
     let way = wayOf (rowOf v) in
     let plain = account (rowOf v) (plainOf m) in
-    subst (MovesBy (commanded v m)) (itself-same (turns itself way (afterBy m v []) l) (commanded v m))
-    (ends itself way (rowOf v) (plainOf m) (k .typed .count) (λ h. Rel way plain (h .machine) (h .notes)) (λ h z. z)
+    subst (MovesBy (commanded v m)) (itself-same (rounds itself way (afterBy m v []) l) (commanded v m))
+    (comes-to-end itself way (rowOf v) (plainOf m) (k .typed .count) (λ h. Rel way plain (h .machine) (h .notes)) (λ h z. z)
     (λ h t z g. goes-on plain way (meaningsBy itself (h .machine) t) (h .machine) (h .notes) z g) (ReadyBy way) (λ h t z r. r) l (afterBy m v []) (begun m v k) w (omega arith))
 
 -- ---- over accesses
@@ -77,7 +77,7 @@ choice-taken plain way h c s z k f =
     subst (λ (x : Meaning). Taken way h (c .port) (c .value) x) (sym (choice-means way h c s (z .ground .4) f)) (taken plain way (c .port) (c .value) h z k (f .half) (f .value))
 
 -- a fitting choice of an access is one by its meaning
-pub fitting-chosen : (row : Row) (p : Plain) (way : Way) (h : Hosted) (a : Asked) (c : Choice) → Stands row p way h → a ≡ accessOf way c → Fitting way h c →
+pub fitting-chosen : (row : CommandRow) (p : Plain) (way : Way) (h : Hosted) (a : Asked) (c : Choice) → Stands row p way h → a ≡ accessOf way c → Fitting way h c →
     (x : Chosen way h (meaning (h .machine) a)) × (x .port ≡ c .port) × (x .value ≡ c .value)
 fitting-chosen row p way h a c s e f = (
   record {
@@ -91,22 +91,22 @@ fitting-chosen row p way h a c s e f = (
   refl,
 )
 
-ready-chooses : (row : Row) (p : Plain) (way : Way) (h : Hosted) (t : Turn Asked) → Stands row p way h → Ready way h t →
+ready-chooses : (row : CommandRow) (p : Plain) (way : Way) (h : Hosted) (t : Round Asked) → Stands row p way h → Ready way h t →
     let k = onward meaning way h (t .aside) in Going meaning way h (t .aside) × (asks (k .machine) ≡ true → Chosen way k (meaning (k .machine) (t .choice)))
 ready-chooses row p way h t s r =
     let k = onward meaning way h (t .aside) in
     (r .0, λ e. let f = r .1 e in fitting-chosen row p way k (t .choice) (f .0) (reached row p way h (t .aside) s (r .0)) (f .1) (f .2) .0)
 
 -- after a Command write
-pub starts : (m : Machine) (a : Asked) (v : ℕ) → AcceptedCommand m a v → Stands (rowOf v) (plainOf m) (wayOf (rowOf v)) (after m a v [])
+pub stands-at-start : (m : Machine) (a : Asked) (v : ℕ) → AcceptedCommand m a v → Stands (rowOf v) (plainOf m) (wayOf (rowOf v)) (after m a v [])
 unfolding hostedBy
-starts m a v w =
+stands-at-start m a v w =
     let k = able m a v w in
     (sound-kept m a (k .sound), by-meaning (λ x. Rel (wayOf (rowOf v)) (account (rowOf v) (plainOf m)) x noNotes) m a v (w .accepted) (begun m v k))
 
 stands : (m : Machine) (a : Asked) (v : ℕ) (l : List Asked) → AcceptedCommand m a v → Goes (step m a .next) l → Stands (rowOf v) (plainOf m) (wayOf (rowOf v)) (after m a v l)
 unfolding hostedBy
-stands m a v l w g = reached (rowOf v) (plainOf m) (wayOf (rowOf v)) (after m a v []) l (starts m a v w) g
+stands m a v l w g = reached (rowOf v) (plainOf m) (wayOf (rowOf v)) (after m a v []) l (stands-at-start m a v w) g
 
 -- After a Command write that a card in neither reset accepts, and any accesses that are no command and no reset: where the card asks, it takes every fitting choice.
 pub every-choice : (m : Machine) (a : Asked) (v : ℕ) (l : List Asked) (c : Choice) → AcceptedCommand m a v → Goes (step m a .next) l →
@@ -129,11 +129,11 @@ noted-so-far m a v l more w =
     (λ x. Goes x l → let done = hosted (wayOf (rowOf v)) x noNotes l .notes .done in take (length done) (account (rowOf v) (plainOf m) (done ++ more) .moved) ≡ done) m a v (w .accepted)
     (λ g. means-noted-so-far m v (meanings (commanded v m) l) (able m a v w) g more)
 
--- So every host that keeps choosing comes to the end, if it has as many turns as there are bytes.
-pub every-host-ends : (m : Machine) (a : Asked) (v : ℕ) (l : List (Turn Asked)) → AcceptedCommand m a v → let way = wayOf (rowOf v) in
-    due (rowOf v) (plainOf m) ≤ length l → Willing meaning way (Ready way) (after m a v []) l → Moves (step m a .next) (turns meaning way (after m a v []) l)
+-- So every host that keeps choosing comes to the end, if it has as many rounds as there are bytes.
+pub every-host-ends : (m : Machine) (a : Asked) (v : ℕ) (l : List (Round Asked)) → AcceptedCommand m a v → let way = wayOf (rowOf v) in
+    due (rowOf v) (plainOf m) ≤ length l → Willing meaning way (Ready way) (after m a v []) l → Moves (step m a .next) (rounds meaning way (after m a v []) l)
 unfolding hostedBy
 every-host-ends m a v l w d x =
     let way = wayOf (rowOf v) in
-    ends meaning way (rowOf v) (plainOf m) (w .typed .count) (Stands (rowOf v) (plainOf m) way) (λ h s. s .1) (reached (rowOf v) (plainOf m) way) (Ready way)
-    (ready-chooses (rowOf v) (plainOf m) way) l (after m a v []) (starts m a v w) x (omega arith)
+    comes-to-end meaning way (rowOf v) (plainOf m) (w .typed .count) (Stands (rowOf v) (plainOf m) way) (λ h s. s .1) (reached (rowOf v) (plainOf m) way) (Ready way)
+    (ready-chooses (rowOf v) (plainOf m) way) l (after m a v []) (stands-at-start m a v w) x (omega arith)

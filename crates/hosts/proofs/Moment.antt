@@ -9,14 +9,14 @@ use Rattle.card.specs.declared.Meaning.{Meaning}
 use Rattle.card.specs.Access.{Asked}
 use Rattle.card.specs.Perform.{perform}
 use Rattle.card.specs.Step.{step}
+use Rattle.kept.specs.Lent.{storeMarksIn}
 use Rattle.account.specs.Plain.{Plain, starts}
-use Rattle.account.specs.Rows.{Row, rowOf}
+use Rattle.account.specs.CommandRows.{CommandRow, rowOf}
 use Rattle.account.specs.Table.{account}
 use Rattle.account.specs.Host.{plainOf, asks, GoesBy, hostedBy, meanings, hosted}
 use Rattle.account.specs.Notes.{Notes, noNotes, note, wayOf}
 use Rattle.account.specs.Follows.{Able, commanded, afterBy, AcceptedCommand, after}
 use Rattle.sectors.specs.Sectors.{StoreMarks}
-use Rattle.laws.specs.Changes.{storeMarksIn}
 use Rattle.hosts.specs.Moment.{CalmBy, Calm, soFar}
 use Rattle.account.proofs.SameRow.{same-row}
 use Rattle.account.proofs.Rest.{Rel}
@@ -29,7 +29,7 @@ use Rattle.hosts.proofs.WrittenBegins.{targetOf, begins-lies}
 use Rattle.hosts.proofs.WrittenSoFar.{moment}
 use Rattle.hosts.proofs.Afterwards.{Rests, rests, note-more, is-idle}
 
-module _ (row : Row) (p : Plain) where
+module _ (row : CommandRow) (p : Plain) where
   over-on : (k : StoreMarks) (l : List Meaning) (m : Machine) (q : Notes) → Rests k m → ((d : List ℕ) → k ≡ soFar row p (q .done ++ d)) → CalmBy m l →
       let h = hostedBy (wayOf row) m q l in storeMarksIn (h .machine) ≡ soFar row p (h .notes .done)
   unfolding hostedBy
@@ -57,7 +57,7 @@ unfolding commandGiven
 means-at-every-moment m v l k =
     calm-on (rowOf v) (plainOf m) l (commanded v m) noNotes _ refl (begun m v k)
     (subst (λ (x : Machine). Lies (targetOf (rowOf v) (plainOf m)) (starts (plainOf m)) x []) (sym (command-given v m (k .free)))
-    (subst (λ (r : Row). Lies (targetOf r (plainOf m)) (starts (plainOf m)) (commandGiven v m) []) (sym (same-row v)) (begins-lies (commandOf v) (dropped m) (given m k))))
+    (subst (λ (r : CommandRow). Lies (targetOf r (plainOf m)) (starts (plainOf m)) (commandGiven v m) []) (sym (same-row v)) (begins-lies (commandOf v) (dropped m) (given m k))))
 
 -- The same of a Command write that is accepted, and accesses.
 pub at-every-moment : (m : Machine) (a : Asked) (v : ℕ) (l : List Asked) → AcceptedCommand m a v → Calm (step m a .next) l →

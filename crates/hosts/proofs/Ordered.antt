@@ -1,4 +1,4 @@
--- A host that sends its own data sends it in order, whatever its turns are made of.
+-- A host that sends its own data sends it in order, whatever its rounds are made of.
 use Prim.Native.Nat.{ℕ, zero, suc, _+_, _*_, _/_, _%_, _<_}
 use mathlib.Core.Bool.{Bool, true, false, false≢true}
 use mathlib.Core.Path.{_≡_, refl, sym, ap, _∙_, subst}
@@ -13,17 +13,17 @@ use Rattle.transfers.specs.declared.Way.{Way}
 use Rattle.transfers.specs.declared.Way.the-variants.{In, Out}
 use Rattle.card.specs.declared.Meaning.{Meaning}
 use Rattle.account.specs.Plain.{Plain}
-use Rattle.account.specs.Rows.{Row}
+use Rattle.account.specs.CommandRows.{CommandRow}
 use Rattle.account.specs.Table.{account}
 use Rattle.account.specs.Host.{asks, Hosted, hostedBy}
 use Rattle.account.specs.Notes.{Waiting, None, LowByte, HighByte, Notes, noteData}
 use Rattle.hosts.specs.Live.{fits, moved}
 use Rattle.hosts.specs.Choices.{writes}
-use Rattle.hosts.specs.Hosts.{Turn, onward, Going, turn, turns, Willing, Chosen}
+use Rattle.hosts.specs.Hosts.{Round, onward, Going, round, rounds, Willing, Chosen}
 use Rattle.hosts.specs.Sends.{next, nextOf}
 use Rattle.account.proofs.Rest.{Rel, notes}
 use Rattle.hosts.proofs.Reached.{onward-append, going-append, Stands}
-use Rattle.hosts.proofs.Turns.{chosen-taken}
+use Rattle.hosts.proofs.Rounds.{chosen-taken}
 
 module _ (b : ℕ → ℕ) where
   abbrev Held : ℕ → Waiting → Type 0
@@ -70,19 +70,19 @@ moved-out : (way : Way) (answer v : ℕ) → way ≡ Out → moved way answer v 
 moved-out In answer v e = absurd (false≢true (ap writes e))
 moved-out Out answer v e = refl
 
-module _ {A : Type 0} (means : Machine → A → Meaning) (way : Way) (out : way ≡ Out) (row : Row) (p : Plain) (Stands : Hosted → Type 0)
+module _ {A : Type 0} (means : Machine → A → Meaning) (way : Way) (out : way ≡ Out) (row : CommandRow) (p : Plain) (Stands : Hosted → Type 0)
     (rel : (h : Hosted) → Stands h → Rel way (account row p) (h .machine) (h .notes))
     (stays : (h : Hosted) (l : List A) → Stands h → Going means way h l → Stands (onward means way h l)) (b : ℕ → ℕ) (small : (i : ℕ) → b i < 256)
-    (sends : Hosted → Turn A → Type 0)
-    (by : (h : Hosted) (t : Turn A) → Stands h → sends h t → let k = onward means way h (t .aside) in
+    (sends : Hosted → Round A → Type 0)
+    (by : (h : Hosted) (t : Round A) → Stands h → sends h t → let k = onward means way h (t .aside) in
     Going means way h (t .aside) × (k .notes ≡ h .notes) × (asks (k .machine) ≡ true → (x : Chosen way k (means (k .machine) (t .choice))) × (x .value ≡ nextOf b (k .notes) (x .port)))) where
   abbrev Ordered : Hosted → List A → Type 0
   Ordered h l = Going means way h l × InOrder b (onward means way h l .notes)
 
-  turn-ordered : (h : Hosted) (t : Turn A) (c : Bool) → asks (onward means way h (t .aside) .machine) ≡ c → Stands h → sends h t → InOrder b (h .notes) →
+  round-ordered : (h : Hosted) (t : Round A) (c : Bool) → asks (onward means way h (t .aside) .machine) ≡ c → Stands h → sends h t → InOrder b (h .notes) →
       Ordered h (t .aside ++ pick c (t .choice ∷ []) [])
   unfolding hostedBy
-  turn-ordered h t true e s r f =
+  round-ordered h t true e s r f =
       let u = by h t s r in
       let k = onward means way h (t .aside) in
       let q = k .notes in
@@ -95,26 +95,26 @@ module _ {A : Type 0} (means : Machine → A → Meaning) (way : Way) (out : way
         subst (λ (j : Hosted). InOrder b (j .notes)) (sym (onward-append means way h (t .aside) l))
             (subst (InOrder b) (sym y) (part-ordered b small (g .0 .port) (q .waiting) (q .done) (g .0 .half) (subst (InOrder b) (sym (u .1)) f))),
       )
-  turn-ordered h t false e s r f =
+  round-ordered h t false e s r f =
       let u = by h t s r in (
         going-append means way h (t .aside) [] (u .0) tt,
         subst (λ (j : Hosted). InOrder b (j .notes)) (sym (onward-append means way h (t .aside) [])) (subst (InOrder b) (sym (u .1)) f),
       )
 
-  abbrev Orders : List (Turn A) → Type 0
-  Orders l = (h : Hosted) → Stands h → Willing means way sends h l → InOrder b (h .notes) → InOrder b (onward means way h (turns means way h l) .notes)
+  abbrev Orders : List (Round A) → Type 0
+  Orders l = (h : Hosted) → Stands h → Willing means way sends h l → InOrder b (h .notes) → InOrder b (onward means way h (rounds means way h l) .notes)
 
-  turns-ordered : (t : Turn A) (l : List (Turn A)) → Orders l → (h : Hosted) (c : Bool) → asks (h .machine) ≡ c → Stands h → Willing means way sends h (t ∷ l) → InOrder b (h .notes) →
-      InOrder b (onward means way h (pick c (turn means way h t ++ turns means way (onward means way h (turn means way h t)) l) []) .notes)
-  turns-ordered t l on h false e s w f = unfold hostedBy in f
-  turns-ordered t l on h true e s w f =
+  rounds-ordered : (t : Round A) (l : List (Round A)) → Orders l → (h : Hosted) (c : Bool) → asks (h .machine) ≡ c → Stands h → Willing means way sends h (t ∷ l) → InOrder b (h .notes) →
+      InOrder b (onward means way h (pick c (round means way h t ++ rounds means way (onward means way h (round means way h t)) l) []) .notes)
+  rounds-ordered t l on h false e s w f = unfold hostedBy in f
+  rounds-ordered t l on h true e s w f =
       let r = w e in
-      let u = turn-ordered h t _ refl s (r .0) f in
-      let a = turn means way h t in
+      let u = round-ordered h t _ refl s (r .0) f in
+      let a = round means way h t in
       let k = onward means way h a in
-      subst (λ (j : Hosted). InOrder b (j .notes)) (sym (onward-append means way h a (turns means way k l))) (on k (stays h a s (u .0)) (r .1) (u .1))
+      subst (λ (j : Hosted). InOrder b (j .notes)) (sym (onward-append means way h a (rounds means way k l))) (on k (stays h a s (u .0)) (r .1) (u .1))
 
-  pub all-ordered : (l : List (Turn A)) → Orders l
-  unfolding turns hostedBy
+  pub all-ordered : (l : List (Round A)) → Orders l
+  unfolding rounds hostedBy
   all-ordered [] h s w f = f
-  all-ordered (t ∷ l) h s w f = turns-ordered t l (all-ordered l) h (asks (h .machine)) refl s w f
+  all-ordered (t ∷ l) h s w f = rounds-ordered t l (all-ordered l) h (asks (h .machine)) refl s w f

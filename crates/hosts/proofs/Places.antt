@@ -15,7 +15,7 @@ use Rattle.maps.specs.declared.Place.{Place}
 use Rattle.maps.specs.declared.Place.the-variants.{Bytes, EvenData}
 use Rattle.maps.specs.declared.Target.the-variants.{Data}
 use Rattle.maps.specs.Spaces.{cardAnswers, answersAt}
-use Rattle.maps.specs.Offsets.{Offset, memoryAt, contiguousAt, within, windowAt, ioAt, offsetAt}
+use Rattle.maps.specs.Offsets.{Offset, memoryAt, contiguousAt, windowAt, ioAt, offsetAt}
 use Rattle.maps.specs.Places.{registerPlace, mapPlace, placeAt}
 use Rattle.maps.specs.Rows.{misfits, placeTable, moved}
 use Rattle.registers.specs.declared.State.{State}
@@ -66,7 +66,7 @@ module _ (is : ℕ → Bool) where
       subst (λ (x : ℕ). Found is mode index x address) (sym (eqb-true space own (and-left (eqb space own) b e))) (f (and-right (eqb space own) b e))
 
   found : (mode : Mode) (index space address : ℕ) → index ≤ 3 → dataAt is mode index space address ≡ true → Found is mode index space address
-  unfolding dataAt answersAt cardAnswers offsetAt ioAt windowAt within
+  unfolding dataAt answersAt cardAnswers offsetAt ioAt windowAt
   found TrueIde index space address h e = in-space TrueIde index space 3 address _ e (by-window TrueIde index 3 0x00 address refl refl refl)
   found PcCard zero space address h e = in-space PcCard 0 space 1 address _ e (by-memory (leb address 0x3FF) (leb address 0x7FF) address refl refl)
   found PcCard (suc zero) space address h e = in-space PcCard 1 space 2 address _ e (by-io address)

@@ -17,7 +17,7 @@ use Rattle.card.specs.Perform.{perform}
 use Rattle.kept.specs.Sound.{Sound}
 use Rattle.kept.proofs.Step.{sound-played}
 use Rattle.account.specs.Plain.{Plain}
-use Rattle.account.specs.Rows.{Row}
+use Rattle.account.specs.CommandRows.{CommandRow}
 use Rattle.account.specs.Table.{account}
 use Rattle.account.specs.Host.{GoesBy, MovesBy, Hosted, hostedBy, meaningsBy, meanings}
 use Rattle.account.specs.Notes.{Waiting, None, LowByte, HighByte, Notes, note, noteData, noteRead, noteWritten}
@@ -110,10 +110,10 @@ module _ {A : Type 0} (means : Machine → A → Meaning) (way : Way) where
 
 -- ---- wherever a host has got to by its accesses
 
-abbrev pub Stands : Row → Plain → Way → Hosted → Type 0
+abbrev pub Stands : CommandRow → Plain → Way → Hosted → Type 0
 Stands row p way h = Sound (h .machine) × Rel way (account row p) (h .machine) (h .notes)
 
-pub reached : (row : Row) (p : Plain) (way : Way) (h : Hosted) (l : List Asked) → Stands row p way h → Going meaning way h l → Stands row p way (onward meaning way h l)
+pub reached : (row : CommandRow) (p : Plain) (way : Way) (h : Hosted) (l : List Asked) → Stands row p way h → Going meaning way h l → Stands row p way (onward meaning way h l)
 reached row p way h l s g = (
   subst Sound (sym (hosted-plays way (h .machine) (h .notes) l)) (sound-played l (h .machine) (s .0)),
   goes-on (account row p) way (meanings (h .machine) l) (h .machine) (h .notes) (s .1) g,

@@ -16,26 +16,26 @@ use Rattle.card.specs.Access.{Asked, meaning}
 use Rattle.card.specs.Perform.{perform}
 use Rattle.card.specs.Step.{step}
 use Rattle.card.specs.Doors.{machineOf}
+use Rattle.kept.specs.Lent.{storeMarksIn}
 use Rattle.kept.specs.Sound.{Sound}
 use Rattle.kept.proofs.Step.{sound-kept}
-use Rattle.account.specs.Rows.{rowOf}
+use Rattle.account.specs.CommandRows.{rowOf}
 use Rattle.account.specs.Table.{account}
 use Rattle.account.specs.Host.{plainOf, asks, GoesBy, MovesBy, Hosted, hostedBy}
 use Rattle.account.specs.Notes.{Notes, noNotes, note, noteData, wayOf}
 use Rattle.account.specs.Claim.{Agrees}
 use Rattle.account.specs.Follows.{commanded, afterBy, AcceptedCommand, after}
-use Rattle.hosts.specs.Hosts.{Turn, onward, Going, turns, Willing, Chosen}
+use Rattle.hosts.specs.Hosts.{Round, onward, Going, rounds, Willing, Chosen}
 use Rattle.hosts.specs.Running.{Promised, Call, Own, callMeaning, callMeanings, ReadyCall, Called}
 use Rattle.hosts.specs.Live.{noted, moved, due}
 use Rattle.hosts.specs.Choices.{Choice, accessOf, Fitting}
-use Rattle.laws.specs.Changes.{storeMarksIn}
 use Rattle.hosts.specs.Moment.{CalmBy, soFar}
 use Rattle.account.proofs.Rest.{Rel}
 use Rattle.account.proofs.Accepted.{able}
 use Rattle.account.proofs.Theorem.{begun, goes-on, means-as-the-account}
 use Rattle.hosts.proofs.Reached.{Stands}
-use Rattle.hosts.proofs.Turns.{ends}
-use Rattle.hosts.proofs.Live.{choice-taken, means-asks-while-due, fitting-chosen, starts}
+use Rattle.hosts.proofs.Rounds.{comes-to-end}
+use Rattle.hosts.proofs.Live.{choice-taken, means-asks-while-due, fitting-chosen, stands-at-start}
 use Rattle.hosts.proofs.Moment.{means-at-every-moment}
 use Rattle.hosts.proofs.Calls.{called-is, sound-called}
 
@@ -91,14 +91,14 @@ module _ (c : Card) (store marks : List ℕ) (a : Asked) (v : ℕ) (l : List Cal
       subst (λ (h : Hosted). storeMarksIn (h .machine) ≡ soFar (rowOf v) (plainOf before) (h .notes .done)) there (means-at-every-moment before v meant (able before a v w) g)
 
 -- So every host of calls that keeps choosing, with calls between that lend the wrong store or marks too, comes to the end.
-pub code-every-host-ends : (m : Machine) (a : Asked) (v : ℕ) (l : List (Turn Call)) → AcceptedCommand m a v → let way = wayOf (rowOf v) in
-    due (rowOf v) (plainOf m) ≤ length l → Willing callMeaning way (ReadyCall way) (after m a v []) l → MovesBy (step m a .next) (callMeanings (step m a .next) (turns callMeaning way (after m a v []) l))
+pub code-every-host-ends : (m : Machine) (a : Asked) (v : ℕ) (l : List (Round Call)) → AcceptedCommand m a v → let way = wayOf (rowOf v) in
+    due (rowOf v) (plainOf m) ≤ length l → Willing callMeaning way (ReadyCall way) (after m a v []) l → MovesBy (step m a .next) (callMeanings (step m a .next) (rounds callMeaning way (after m a v []) l))
 unfolding hostedBy
 code-every-host-ends m a v l w d x =
     let way = wayOf (rowOf v) in
     let stays : (h : Hosted) (t : List Call) → Stands (rowOf v) (plainOf m) way h → Going callMeaning way h t → Stands (rowOf v) (plainOf m) way (onward callMeaning way h t) =
     λ h t s g. (sound-called t way (h .machine) (h .notes) (s .0), goes-on (account (rowOf v) (plainOf m)) way (callMeanings (h .machine) t) (h .machine) (h .notes) (s .1) g) in
-    ends callMeaning way (rowOf v) (plainOf m) (w .typed .count) (Stands (rowOf v) (plainOf m) way) (λ h s. s .1) stays (ReadyCall way)
+    comes-to-end callMeaning way (rowOf v) (plainOf m) (w .typed .count) (Stands (rowOf v) (plainOf m) way) (λ h s. s .1) stays (ReadyCall way)
     (λ h t s r. (
       r .0,
       λ e.
@@ -106,4 +106,4 @@ code-every-host-ends m a v l w d x =
           let k = onward callMeaning way h (t .aside) in
           let c = fitting-chosen (rowOf v) (plainOf m) way k (accessOf way (f .0)) (f .0) (stays h (t .aside) s (r .0)) refl (f .2) .0 in
           subst (λ (y : Call). Chosen way k (callMeaning (k .machine) y)) (sym (f .1)) c,
-    )) l (after m a v []) (starts m a v w) x (omega arith)
+    )) l (after m a v []) (stands-at-start m a v w) x (omega arith)

@@ -13,6 +13,8 @@ use Rattle.registers.specs.declared.Phase.the-variants.{Idle, DataIn, DataOut}
 use Rattle.registers.specs.State.{runs}
 use Rattle.registers.specs.Machine.{Machine}
 use Rattle.port.specs.declared.Part.{Part}
+use Rattle.port.specs.declared.Fill.{Fill}
+use Rattle.port.specs.declared.Fill.the-variants.{Begun, Whole}
 use Rattle.port.specs.declared.Take.{Take}
 use Rattle.port.specs.Halves.{takeOf}
 use Rattle.port.specs.Data.{takenRead, takenWritten, phaseRead, phaseWritten}
@@ -26,21 +28,21 @@ use Rattle.hosts.specs.Live.{fits, width, most, Small, noted, moved, dat
 use Rattle.account.proofs.Rest.{Pending, Waits, Rel, notes}
 use Rattle.account.proofs.Keeps.{free-read, free-written}
 
-take-moves : (h : Half) (w : Waiting) (port : Port) (n : ℕ) (b : List ℕ) → Pending h w n b → fits w port ≡ true → (x : Part) × (y : Bool) × (takeOf h port ≡ Take.Moves x y)
+take-moves : (h : Half) (w : Waiting) (port : Port) (n : ℕ) (b : List ℕ) → Pending h w n b → fits w port ≡ true → (x : Part) × (y : Fill) × (takeOf h port ≡ Take.Moves x y)
 unfolding takeOf
-take-moves Half.Nothing None Port.Even n b p e = (Part.Low, false, refl)
-take-moves Half.Nothing None Port.Odd n b p e = (Part.High, false, refl)
-take-moves Half.Nothing None Port.Word n b p e = (Part.Both, true, refl)
+take-moves Half.Nothing None Port.Even n b p e = (Part.Low, Begun, refl)
+take-moves Half.Nothing None Port.Odd n b p e = (Part.High, Begun, refl)
+take-moves Half.Nothing None Port.Word n b p e = (Part.Both, Whole, refl)
 take-moves Half.Nothing (LowByte v) port n b p e = absurd p
 take-moves Half.Nothing (HighByte v) port n b p e = absurd p
 take-moves Half.Low None port n b p e = absurd p
-take-moves Half.Low (LowByte v) Port.Even n b p e = (Part.High, true, refl)
-take-moves Half.Low (LowByte v) Port.Odd n b p e = (Part.High, true, refl)
+take-moves Half.Low (LowByte v) Port.Even n b p e = (Part.High, Whole, refl)
+take-moves Half.Low (LowByte v) Port.Odd n b p e = (Part.High, Whole, refl)
 take-moves Half.Low (LowByte v) Port.Word n b p e = absurd (false≢true e)
 take-moves Half.Low (HighByte v) port n b p e = absurd p
 take-moves Half.High None port n b p e = absurd p
 take-moves Half.High (LowByte v) port n b p e = absurd p
-take-moves Half.High (HighByte v) Port.Even n b p e = (Part.Low, true, refl)
+take-moves Half.High (HighByte v) Port.Even n b p e = (Part.Low, Whole, refl)
 take-moves Half.High (HighByte v) Port.Odd n b p e = absurd (false≢true e)
 take-moves Half.High (HighByte v) Port.Word n b p e = absurd (false≢true e)
 

@@ -12,33 +12,34 @@ use Rattle.registers.specs.declared.Phase.{Phase}
 use Rattle.registers.specs.declared.Phase.the-variants.{Idle, DataIn, DataOut}
 use Rattle.registers.specs.Machine.{Machine}
 use Rattle.transfers.specs.declared.Way.{Way}
-use Rattle.account.specs.Plain.{Plain, withBuffer, withPlace, withCurrent, starts, Ending, Well, NotFound, Unreadable, WriteFault, Aborted, ends, Account, silent}
-use Rattle.account.specs.Place.{Place, At, Bad}
-use Rattle.account.specs.Rows.{Row, Reads, Writes, Verifies, Erases, Identifies, ReadsBuffer, WritesBuffer, SetsGeometry, Diagnoses, Recalibrates, Seeks, Senses, Others}
+use Rattle.kept.specs.Lent.{storeMarksIn}
+use Rattle.account.specs.Numbers.{codeGeometry}
+use Rattle.account.specs.Plain.{Plain, withBuffer, withPlace, withCurrent, starts, Finish, Well, NotFound, Unreadable, WriteFault, Aborted, ends, Account, silent}
+use Rattle.account.specs.Addressed.{Addressed, At, Bad}
+use Rattle.account.specs.CommandRows.{CommandRow, Reads, Writes, Verifies, Erases, Identifies, ReadsBuffer, WritesBuffer, SetsGeometry, Diagnoses, Recalibrates, Seeks, Senses, Others}
 use Rattle.account.specs.Course.{Course, courseOf, named}
-use Rattle.account.specs.Runs.{Run, runEnds, lastNamed, lastSector, readRun, readSectors, verifySectors}
+use Rattle.account.specs.Sweeps.{Sweep, sweepEnds, lastNamed, lastSector, readSweep, readSectors, verifySectors}
 use Rattle.account.specs.Table.{asked, total, shaped, first, fromFirst, setsGeometry, seeks, account}
 use Rattle.account.specs.Host.{plainOf}
 use Rattle.account.specs.Notes.{Notes}
-use Rattle.laws.specs.Changes.{storeMarksIn}
 use Rattle.hosts.specs.Moment.{storeMarksOf, writtenSoFar, soFar}
 use Rattle.account.proofs.Rest.{located, doneIn, doneOut, restAt, here, Rel}
 use Rattle.hosts.proofs.Written.{Target, Nowhere, From, LoadLies, LiesAt, Lies}
 use Rattle.hosts.proofs.WrittenBegins.{targetAt, targetOf}
 
-ends-left-alone : (e : Ending) (p : Plain) → storeMarksOf (ends e p) ≡ storeMarksOf p
+ends-left-alone : (e : Finish) (p : Plain) → storeMarksOf (ends e p) ≡ storeMarksOf p
 ends-left-alone Well p = refl
 ends-left-alone (NotFound code) p = refl
 ends-left-alone Unreadable p = refl
 ends-left-alone WriteFault p = refl
 ends-left-alone (Aborted code) p = refl
 
-pub run-left-alone : (c : Course) (r : Run) (p : Plain) → storeMarksOf (runEnds c r p) ≡ storeMarksOf p
-run-left-alone c r p = ends-left-alone (r .ending) (withPlace (r .left % 256) (named c (lastNamed (r .ending) (r .stop))) p)
+pub sweep-left-alone : (c : Course) (r : Sweep) (p : Plain) → storeMarksOf (sweepEnds c r p) ≡ storeMarksOf p
+sweep-left-alone c r p = ends-left-alone (r .finish) (withPlace (r .left % 256) (named c (lastNamed (r .finish) (r .stop))) p)
 
 reads-left-alone : (c : Course) (i n : ℕ) (p : Plain) → storeMarksOf (readSectors c i n p .left) ≡ storeMarksOf p
 unfolding readSectors
-reads-left-alone c i n p = let r = readRun c (p .marks) i n in run-left-alone c r (withBuffer (lastSector (p .store) i (r .done) (p .buffer)) p)
+reads-left-alone c i n p = let r = readSweep c (p .marks) i n in sweep-left-alone c r (withBuffer (lastSector (p .store) i (r .done) (p .buffer)) p)
 
 read-left-alone : (l : Load) (p : Plain) → storeMarksOf (doneIn l p .left) ≡ storeMarksOf p
 unfolding doneIn
@@ -57,24 +58,24 @@ rest-left-alone (DataIn t) o p h b s k l d z = read-left-alone (t .load) p
 rest-left-alone (DataOut t) o p h b s k l d z = out-left-alone (t .load) o p h (t .words) b s k l _ _ z
 
 -- the account's store and marks, of a command that writes none
-from-left-alone : (l : Place) (p : Plain) (f : ℕ → Account) → ((i : ℕ) → storeMarksOf (f i .left) ≡ storeMarksOf p) → storeMarksOf (fromFirst l silent f p .left) ≡ storeMarksOf p
+from-left-alone : (l : Addressed) (p : Plain) (f : ℕ → Account) → ((i : ℕ) → storeMarksOf (f i .left) ≡ storeMarksOf p) → storeMarksOf (fromFirst l silent f p .left) ≡ storeMarksOf p
 from-left-alone (At i) p f h = h i
 from-left-alone (Bad code) p f h = refl
 
-verify-left-alone : (l : Place) (n : ℕ) (p : Plain) → storeMarksOf (fromFirst l (λ q. q) (λ i. verifySectors (courseOf p) i n p) p) ≡ storeMarksOf p
+verify-left-alone : (l : Addressed) (n : ℕ) (p : Plain) → storeMarksOf (fromFirst l (λ q. q) (λ i. verifySectors (courseOf p) i n p) p) ≡ storeMarksOf p
 unfolding verifySectors
-verify-left-alone (At i) n p = run-left-alone (courseOf p) (readRun (courseOf p) (p .marks) i n) p
+verify-left-alone (At i) n p = sweep-left-alone (courseOf p) (readSweep (courseOf p) (p .marks) i n) p
 verify-left-alone (Bad code) n p = refl
 
 set-left-alone : (s h : ℕ) (p : Plain) → storeMarksOf (setsGeometry s h p) ≡ storeMarksOf p
 unfolding setsGeometry
 set-left-alone s h p = go (eqb s 0 || ltb (total p) (h * s))
   where
-    go : (b : Bool) → storeMarksOf (pick b (ends (Aborted 0x21) p) (ends Well (withCurrent (shaped h s (total p)) p))) ≡ storeMarksOf p
+    go : (b : Bool) → storeMarksOf (pick b (ends (Aborted codeGeometry) p) (ends Well (withCurrent (shaped h s (total p)) p))) ≡ storeMarksOf p
     go true = refl
     go false = refl
 
-bad-left-alone : (l : Place) (p : Plain) (f : ℕ → Account) (e : List ℕ) → targetAt l ≡ Nowhere → storeMarksOf (fromFirst l silent f (starts p) .left) ≡ writtenSoFar l p e
+bad-left-alone : (l : Addressed) (p : Plain) (f : ℕ → Account) (e : List ℕ) → targetAt l ≡ Nowhere → storeMarksOf (fromFirst l silent f (starts p) .left) ≡ writtenSoFar l p e
 unfolding writtenSoFar
 bad-left-alone (At i) p f e t = absurd (true≢false (ap somewhere t))
   where
@@ -83,7 +84,7 @@ bad-left-alone (At i) p f e t = absurd (true≢false (ap somewhere t))
     somewhere (From i) = true
 bad-left-alone (Bad code) p f e t = refl
 
-row-left-alone : (row : Row) (p : Plain) (d e : List ℕ) → targetOf row p ≡ Nowhere → storeMarksOf (account row p d .left) ≡ soFar row p e
+row-left-alone : (row : CommandRow) (p : Plain) (d e : List ℕ) → targetOf row p ≡ Nowhere → storeMarksOf (account row p d .left) ≡ soFar row p e
 unfolding account soFar
 row-left-alone Reads p d e t = from-left-alone (first (starts p)) (starts p) _ (λ i. reads-left-alone (courseOf (starts p)) i (asked (p .registers .count)) (starts p))
 row-left-alone Writes p d e t = bad-left-alone (first p) p _ e t
@@ -99,7 +100,7 @@ row-left-alone Seeks p d e t = ends-left-alone (seeks p) (starts p)
 row-left-alone Senses p d e t = refl
 row-left-alone Others p d e t = refl
 
-pub nowhere : (row : Row) (p : Plain) (way : Way) (m : Machine) (q : Notes) (g : Target) → g ≡ Nowhere → targetOf row p ≡ g → Rel way (account row p) m q → Lies g (starts p) m (q .done) →
+pub nowhere : (row : CommandRow) (p : Plain) (way : Way) (m : Machine) (q : Notes) (g : Target) → g ≡ Nowhere → targetOf row p ≡ g → Rel way (account row p) m q → Lies g (starts p) m (q .done) →
     (d : List ℕ) → storeMarksIn m ≡ soFar row p d
 nowhere row p way m q g e t y z d =
     sym (rest-left-alone (m .phase) (starts p) (plainOf m) (here (m .state)) (m .buffer) (m .store) (m .marks) (q .done) [] (subst (λ (x : Target). Lies x (starts p) m (q .done)) e z))

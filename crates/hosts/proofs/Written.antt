@@ -11,7 +11,7 @@ use Rattle.registers.specs.declared.Phase.{Phase}
 use Rattle.registers.specs.declared.Phase.the-variants.{Idle, DataIn, DataOut}
 use Rattle.registers.specs.Machine.{Machine}
 use Rattle.account.specs.Plain.{Plain}
-use Rattle.account.specs.Runs.{putSector, replaced, cleared}
+use Rattle.account.specs.Sweeps.{putSector, replaced, cleared}
 use Rattle.account.proofs.Rest.{here}
 
 -- of a write from index i of p: k sectors are stored, the next one is h, and 2 * w bytes of it stand in the buffer. Whatever comes, j more sectors of it are

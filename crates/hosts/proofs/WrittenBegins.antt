@@ -15,14 +15,14 @@ use Rattle.transfers.specs.Before.{addressTest}
 use Rattle.transfers.specs.Steps.{askSector, idleWith}
 use Rattle.transfers.specs.declared.Way.the-variants.{In}
 use Rattle.account.specs.Plain.{Plain, starts, Account}
-use Rattle.account.specs.Place.{Place, At, Bad}
-use Rattle.account.specs.Rows.{Row, Reads, Writes, Verifies, Erases, Identifies, ReadsBuffer, WritesBuffer, SetsGeometry, Diagnoses, Recalibrates, Seeks, Senses, Others}
-use Rattle.account.specs.Runs.{replaced, cleared}
+use Rattle.account.specs.Addressed.{Addressed, At, Bad}
+use Rattle.account.specs.CommandRows.{CommandRow, Reads, Writes, Verifies, Erases, Identifies, ReadsBuffer, WritesBuffer, SetsGeometry, Diagnoses, Recalibrates, Seeks, Senses, Others}
+use Rattle.account.specs.Sweeps.{replaced, cleared}
 use Rattle.account.specs.Table.{asked, first}
 use Rattle.account.specs.Host.{plainOf}
 use Rattle.account.specs.Notes.{Notes, noNotes}
 use Rattle.account.proofs.SameRow.{rowFor}
-use Rattle.account.proofs.Place.{asPlace}
+use Rattle.account.proofs.Addressed.{asAddressed}
 use Rattle.account.proofs.Seats.{Shaped, courseIn, seat-room}
 use Rattle.account.proofs.Settled.{erase-idle}
 use Rattle.account.proofs.Rest.{Rel}
@@ -33,11 +33,11 @@ use Rattle.hosts.proofs.Written.{Target, Nowhere, From, Lies}
 use Rattle.hosts.proofs.WrittenWord.{ask-lies}
 use Rattle.hosts.proofs.WrittenKeeps.{in-lies}
 
-abbrev pub targetAt : Place → Target
+abbrev pub targetAt : Addressed → Target
 targetAt (At i) = From i
 targetAt (Bad code) = Nowhere
 
-abbrev pub targetOf : Row → Plain → Target
+abbrev pub targetOf : CommandRow → Plain → Target
 targetOf Reads p = Nowhere
 targetOf Writes p = targetAt (first p)
 targetOf Verifies p = Nowhere
@@ -53,7 +53,7 @@ targetOf Senses p = Nowhere
 targetOf Others p = Nowhere
 
 write-begins : (n : ℕ) (m : Machine) (p : Plain) (l : Located) → p .store ≡ m .store → p .marks ≡ m .marks → Shaped (m .state .made) (m .state .current) → locatedIn (m .state) ≡ l →
-    Lies (targetAt (asPlace l)) p (withCore (askSector (suc n) First (m .state)) m) []
+    Lies (targetAt (asAddressed l)) p (withCore (askSector (suc n) First (m .state)) m) []
 unfolding askSector addressTest
 write-begins n m p (Located.Good spot) s k h e =
     unfold askSector addressTest in

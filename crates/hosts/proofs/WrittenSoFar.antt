@@ -15,33 +15,33 @@ use Rattle.registers.specs.declared.Phase.the-variants.{Idle, DataIn, DataOut}
 use Rattle.registers.specs.State.{runs}
 use Rattle.registers.specs.Machine.{Machine}
 use Rattle.transfers.specs.declared.Way.the-variants.{In, Out}
-use Rattle.account.specs.Plain.{Plain, withBuffer, withStore, starts, Ending, Well, NotFound, Unreadable, WriteFault, Aborted, Account, silent, moving}
-use Rattle.account.specs.Place.{Place, At, Bad}
-use Rattle.account.specs.Rows.{Row, Reads, Writes, Verifies, Erases, Identifies, ReadsBuffer, WritesBuffer, SetsGeometry, Diagnoses, Recalibrates, Seeks, Senses, Others}
+use Rattle.kept.specs.Lent.{storeMarksIn}
+use Rattle.account.specs.Plain.{Plain, withBuffer, withStore, starts, Finish, Well, NotFound, Unreadable, WriteFault, Aborted, Account, silent, moving}
+use Rattle.account.specs.Addressed.{Addressed, At, Bad}
+use Rattle.account.specs.CommandRows.{CommandRow, Reads, Writes, Verifies, Erases, Identifies, ReadsBuffer, WritesBuffer, SetsGeometry, Diagnoses, Recalibrates, Seeks, Senses, Others}
 use Rattle.account.specs.Course.{Course, courseOf}
-use Rattle.account.specs.Runs.{Run, writeRun, writeSectors, writeDone, firstSectors, lastSectors, movedBy, replaced, cleared}
+use Rattle.account.specs.Sweeps.{Sweep, writeSweep, writeSectors, writeDone, firstSectors, lastSectors, movedBy, replaced, cleared}
 use Rattle.account.specs.Table.{asked, first, fromFirst, account}
 use Rattle.account.specs.Host.{plainOf, asks}
 use Rattle.account.specs.Notes.{Waiting, Notes, wayOf}
-use Rattle.laws.specs.Changes.{storeMarksIn}
 use Rattle.hosts.specs.Moment.{storeMarksOf, wholeOf, storedFrom, writtenSoFar, soFar}
 use Rattle.account.proofs.Rest.{doneOut, restAt, here, Running, Waits, Rel}
 use Rattle.hosts.proofs.Due.{sectors-length}
 use Rattle.hosts.proofs.Written.{Written, Nowhere, From, LoadLies, LiesAt, Lies}
 use Rattle.hosts.proofs.WrittenBegins.{targetAt, targetOf}
-use Rattle.hosts.proofs.Unwritten.{run-left-alone, nowhere}
+use Rattle.hosts.proofs.Unwritten.{sweep-left-alone, nowhere}
 
 -- of the sectors that move all are stored but for one that can't be written
-moved-done : (e : Ending) (k : ℕ) → (k ≤ movedBy e k) × (movedBy e k ≤ suc k)
+moved-done : (e : Finish) (k : ℕ) → (k ≤ movedBy e k) × (movedBy e k ≤ suc k)
 moved-done Well k = (omega arith, omega arith)
 moved-done (NotFound code) k = (omega arith, omega arith)
 moved-done Unreadable k = (omega arith, omega arith)
 moved-done WriteFault k = (omega arith, omega arith)
 moved-done (Aborted code) k = (omega arith, omega arith)
 
-module _ (c : Course) (i : ℕ) (r : Run) (p : Plain) (m : Machine) (l : List ℕ) where
+module _ (c : Course) (i : ℕ) (r : Sweep) (p : Plain) (m : Machine) (l : List ℕ) where
   abbrev K : ℕ
-  K = movedBy (r .ending) (r .done)
+  K = movedBy (r .finish) (r .done)
 
   abbrev enough : ℕ → List ℕ
   enough n = replicate (512 * n) 0
@@ -56,11 +56,11 @@ module _ (c : Course) (i : ℕ) (r : Run) (p : Plain) (m : Machine) (l : List �
   unfolding restAt
   ended a d =
       let x : 512 * K ≡ length l = sym (moves K (omega arith)) ∙ ap (λ (y : Account). length (y .moved)) (a (enough K)) ∙ ap length (append-nil l) in
-      let y = moved-done (r .ending) (r .done) in
+      let y = moved-done (r .finish) (r .done) in
       let z = length-append l d in
       let k : min (wholeOf (l ++ d)) (r .done) ≡ r .done = min-eq-right (omega arith) in
       sym (ap (λ (u : Account). storeMarksOf (u .left)) (a d))
-      ∙ run-left-alone c r (withBuffer (lastSectors K (l ++ d) (p .buffer)) (withStore (replaced i (r .done) (l ++ d) (p .store)) (cleared i (r .done) (p .marks)) p))
+      ∙ sweep-left-alone c r (withBuffer (lastSectors K (l ++ d) (p .buffer)) (withStore (replaced i (r .done) (l ++ d) (p .store)) (cleared i (r .done) (p .marks)) p))
       ∙ ap (λ (n : ℕ). storedFrom i n p (l ++ d)) (sym k)
 
   -- in mid-transfer
@@ -97,7 +97,7 @@ module _ (c : Course) (i : ℕ) (r : Run) (p : Plain) (m : Machine) (l : List �
       let s = z .size in
       let f = h .0 in
       let x = sector-at-hand t f a in
-      let y = moved-done (r .ending) (r .done) in
+      let y = moved-done (r .finish) (r .done) in
       let e : wholeOf l ≡ z .k = omega arith in
       let k : min (wholeOf l) (r .done) ≡ z .k = min-eq-left (omega arith) ∙ e in
       sym (stored-whole (here (m .state)) (t .words) z) ∙ ap (λ (n : ℕ). storedFrom i n p l) (sym k)
@@ -111,16 +111,16 @@ module _ (c : Course) (i : ℕ) (r : Run) (p : Plain) (m : Machine) (l : List �
       running t w h a z ∙ ap (λ (x : List ℕ). storedFrom i (min (wholeOf x) (r .done)) p x) (sym (append-nil l) ∙ ap (λ (x : List ℕ). l ++ x) (sym (n refl)))
 
 -- p as the command found it; d is what the host writes when the card asks no more
-writes-moment : (g : Place) (p : Plain) (m : Machine) (q : Notes) → first p ≡ g → Rel Out (account Writes p) m q → Lies (targetAt g) (starts p) m (q .done) →
+writes-moment : (g : Addressed) (p : Plain) (m : Machine) (q : Notes) → first p ≡ g → Rel Out (account Writes p) m q → Lies (targetAt g) (starts p) m (q .done) →
     (d : List ℕ) → (asks m ≡ true → d ≡ []) → storeMarksIn m ≡ soFar Writes p (q .done ++ d)
 unfolding account soFar writtenSoFar writeSectors
 writes-moment (At i) p m q e y z d n =
-    rw e (write-moment (courseOf p) i (writeRun (courseOf p) (p .marks) i (asked (p .registers .count))) (starts p) m (q .done) (m .phase) (q .waiting) (y .waits)
-    (λ d. subst (λ (g : Place). fromFirst g silent (λ i. writeSectors (courseOf (starts p)) i (asked (p .registers .count)) (starts p) (q .done ++ d)) (starts p)
+    rw e (write-moment (courseOf p) i (writeSweep (courseOf p) (p .marks) i (asked (p .registers .count))) (starts p) m (q .done) (m .phase) (q .waiting) (y .waits)
+    (λ d. subst (λ (g : Addressed). fromFirst g silent (λ i. writeSectors (courseOf (starts p)) i (asked (p .registers .count)) (starts p) (q .done ++ d)) (starts p)
     ≡ moving (q .done) (restAt (m .phase) (plainOf m) d)) e (y .account d)) z d n)
 writes-moment (Bad code) p m q e y z d n = nowhere Writes p Out m q Nowhere refl (ap targetAt e) y z (q .done ++ d)
 
-pub moment : (row : Row) (p : Plain) (m : Machine) (q : Notes) → Rel (wayOf row) (account row p) m q → Lies (targetOf row p) (starts p) m (q .done) →
+pub moment : (row : CommandRow) (p : Plain) (m : Machine) (q : Notes) → Rel (wayOf row) (account row p) m q → Lies (targetOf row p) (starts p) m (q .done) →
     (d : List ℕ) → (asks m ≡ true → d ≡ []) → storeMarksIn m ≡ soFar row p (q .done ++ d)
 moment Reads p m q y z d n = nowhere Reads p In m q Nowhere refl refl y z (q .done ++ d)
 moment Writes p m q y z d n = writes-moment (first p) p m q refl y z d n

@@ -31,7 +31,7 @@ use Rattle.port.specs.Halves.{nextWord}
 use Rattle.port.specs.Data.{withPhase}
 use Rattle.account.specs.Plain.{Plain}
 use Rattle.account.specs.Course.{Course}
-use Rattle.account.specs.Runs.{putSector}
+use Rattle.account.specs.Sweeps.{putSector}
 use Rattle.account.specs.Host.{plainOf}
 use Rattle.account.proofs.Seats.{Shaped, Where, pastEnd, courseIn, onward, done-on, seat-next}
 use Rattle.account.proofs.Stored.{stored-is}

@@ -6,6 +6,7 @@ use mathlib.Core.Path.{_≡_}
 use lib.Dec.{eqb, leb}
 use lib.ListN.{length}
 use Rattle.ground.specs.Choice.{pick}
+use Rattle.ground.specs.Sizes.{tupleBufferBytes}
 use Rattle.maps.specs.declared.Mode.{Mode}
 use Rattle.maps.specs.declared.Mode.the-variants.{PcCard, TrueIde}
 use Rattle.maps.specs.declared.Port.{Port}
@@ -49,14 +50,14 @@ pub record Choice : Type 0 where
 
 -- the access, the command's way
 abbrev pub accessOf : Way → Choice → Asked
-accessOf way c = askedWith (record { space = c .space; width = width (c .port); write = writes way; address = c .address; value = c .value }) (c .tuples)
+accessOf way c = askedWith (record { space = c .space; width = width (c .port); address = c .address; value = c .value; write = writes way }) (c .tuples)
 
 -- a choice that the host has: by its notes, by the map that is set, by its value and by what is lent
 pub record Fitting (way : Way) (h : Hosted) (c : Choice) : Type 0 where
   pub half : fits (h .notes .waiting) (c .port) ≡ true
   pub place : dataAt (offsets (c .port)) (h .machine .state .made .mode) (indexIn (h .machine .state .option)) (c .space) (c .address) ≡ true
   pub value : Small way (c .port) (c .value)
-  pub tuples : length (c .tuples) ≡ 256
+  pub tuples : length (c .tuples) ≡ tupleBufferBytes
 
 -- step answers so: `step m a` is `perform (meaning m a) m`
 abbrev pub TakenChoice : Way → Hosted → Choice → Type 0

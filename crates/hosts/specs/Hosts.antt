@@ -1,4 +1,4 @@
--- Hosts: at each turn whatever accesses they like, then a part of the data.
+-- Hosts: at each round whatever accesses they like, then a part of the data.
 use Prim.Native.Nat.{ℕ}
 use mathlib.Core.Bool.{true}
 use mathlib.Core.List.{List, [], _∷_, _++_}
@@ -13,10 +13,10 @@ use Rattle.account.specs.Host.{asks, GoesBy, Hosted, hostedBy, meaningsBy}
 use Rattle.hosts.specs.Live.{fits, Small, dataMeaning}
 use Rattle.hosts.specs.Choices.{Choice, accessOf, Fitting}
 
--- ---- turns: of accesses, of what they mean, or of calls; `means` says what one means to the card
+-- ---- rounds: of accesses, of what they mean, or of calls; `means` says what one means to the card
 
 -- whatever the host likes, then its choice
-pub record Turn (A : Type 0) : Type 0 where
+pub record Round (A : Type 0) : Type 0 where
   pub aside : List A
   pub choice : A
 
@@ -29,19 +29,19 @@ module _ {A : Type 0} (means : Machine → A → Meaning) (way : Way) where
   abbrev pub Going : Hosted → List A → Type 0
   Going h l = GoesBy (h .machine) (meaningsBy means (h .machine) l)
 
-  -- those of a turn: the choice only if the card still asks
-  abbrev pub turn : Hosted → Turn A → List A
-  turn h t = t .aside ++ pick (asks (onward h (t .aside) .machine)) (t .choice ∷ []) []
+  -- those of a round: the choice only if the card still asks
+  abbrev pub round : Hosted → Round A → List A
+  round h t = t .aside ++ pick (asks (onward h (t .aside) .machine)) (t .choice ∷ []) []
 
-  -- those of all turns, as long as the card asks
-  unfoldable pub turns : Hosted → List (Turn A) → List A
-  turns h [] = []
-  turns h (t ∷ l) = let rest = turns (onward h (turn h t)) l in pick (asks (h .machine)) (turn h t ++ rest) []
+  -- those of all rounds, as long as the card asks
+  unfoldable pub rounds : Hosted → List (Round A) → List A
+  rounds h [] = []
+  rounds h (t ∷ l) = let rest = rounds (onward h (round h t)) l in pick (asks (h .machine)) (round h t ++ rest) []
 
-  -- a host that keeps choosing: as long as the card asks, each turn is ready where the host has come to with those before it
-  abbrev pub Willing : (Hosted → Turn A → Type 0) → Hosted → List (Turn A) → Type 0
+  -- a host that keeps choosing: as long as the card asks, each round is ready where the host has come to with those before it
+  abbrev pub Willing : (Hosted → Round A → Type 0) → Hosted → List (Round A) → Type 0
   Willing ready h [] = Unit {0}
-  Willing ready h (t ∷ l) = asks (h .machine) ≡ true → ready h t × Willing ready (onward h (turn h t)) l
+  Willing ready h (t ∷ l) = asks (h .machine) ≡ true → ready h t × Willing ready (onward h (round h t)) l
 
 -- what is meant is a part of the data that fits
 pub record Chosen (way : Way) (h : Hosted) (x : Meaning) : Type 0 where
@@ -51,15 +51,15 @@ pub record Chosen (way : Way) (h : Hosted) (x : Meaning) : Type 0 where
   pub half : fits (h .notes .waiting) port ≡ true
   pub small : Small way port value
 
--- a turn is ready: what is done aside is allowed, and the choice is such a part
+-- a round is ready: what is done aside is allowed, and the choice is such a part
 abbrev pub itself : Machine → Meaning → Meaning
 itself m x = x
 
-abbrev pub ReadyBy : Way → Hosted → Turn Meaning → Type 0
+abbrev pub ReadyBy : Way → Hosted → Round Meaning → Type 0
 ReadyBy way h t = let k = onward itself way h (t .aside) in Going itself way h (t .aside) × (asks (k .machine) ≡ true → Chosen way k (t .choice))
 
 -- the same of accesses, by 01's places
-abbrev pub Ready : Way → Hosted → Turn Asked → Type 0
+abbrev pub Ready : Way → Hosted → Round Asked → Type 0
 Ready way h t =
     let k = onward meaning way h (t .aside) in
     Going meaning way h (t .aside) × (asks (k .machine) ≡ true → (c : Choice) × (t .choice ≡ accessOf way c) × Fitting way k c)

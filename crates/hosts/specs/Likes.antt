@@ -5,6 +5,7 @@ use mathlib.Core.List.{List, [], _∷_}
 use lib.Dec.{eqb, leb}
 use lib.ListN.{replicate}
 use Rattle.ground.specs.Choice.{pick}
+use Rattle.ground.specs.Sizes.{tupleBufferBytes}
 use Rattle.maps.specs.declared.Mode.{Mode}
 use Rattle.maps.specs.declared.Mode.the-variants.{PcCard, TrueIde}
 use Rattle.maps.specs.declared.Port.{Port}
@@ -16,7 +17,7 @@ use Rattle.account.specs.Notes.{Waiting}
 use Rattle.account.specs.Host.{Hosted}
 use Rattle.hosts.specs.Live.{fits}
 use Rattle.hosts.specs.Choices.{Choice, accessOf}
-use Rattle.hosts.specs.Hosts.{Turn, onward, turn}
+use Rattle.hosts.specs.Hosts.{Round, onward, round}
 use Rattle.hosts.specs.Sends.{nextOf}
 
 -- the odd data place is memory's, and I/O's at index 1
@@ -45,7 +46,7 @@ addressOf Port.Odd mode index = 0x009
 addressOf Port.Word mode index = evenPlace mode index
 
 abbrev pub choiceAt : Port → Mode → ℕ → ℕ → Choice
-choiceAt port mode index value = record { port = port; space = spaceOf mode index; address = addressOf port mode index; value = value; tuples = replicate 256 0xFF }
+choiceAt port mode index value = record { port = port; space = spaceOf mode index; address = addressOf port mode index; value = value; tuples = replicate tupleBufferBytes 0xFF }
 
 abbrev pub portIn : State → Port → Waiting → Port
 portIn s like w = liked like w (oddThere (s .made .mode) (indexIn (s .option)))
@@ -54,10 +55,10 @@ abbrev pub choiceIn : (ℕ → ℕ) → Port → Hosted → Choice
 choiceIn b like h = choiceAt (portIn (h .machine .state) like (h .notes .waiting)) (h .machine .state .made .mode) (indexIn (h .machine .state .option))
     (nextOf b (h .notes) (portIn (h .machine .state) like (h .notes .waiting)))
 
--- turns of such a host: what it would like at each, and what it does aside, which may go by all that it and the card have come to
-unfoldable pub likedTurns : Way → (ℕ → ℕ) → (Hosted → List Asked) → Hosted → List Port → List (Turn Asked)
-likedTurns way b besides h [] = []
-likedTurns way b besides h (like ∷ l) =
-    let t : Turn Asked = record { aside = besides h; choice = accessOf way (choiceIn b like (onward meaning way h (besides h))) } in
-    let rest = likedTurns way b besides (onward meaning way h (turn meaning way h t)) l in
+-- rounds of such a host: what it would like at each, and what it does aside, which may go by all that it and the card have come to
+unfoldable pub likedRounds : Way → (ℕ → ℕ) → (Hosted → List Asked) → Hosted → List Port → List (Round Asked)
+likedRounds way b besides h [] = []
+likedRounds way b besides h (like ∷ l) =
+    let t : Round Asked = record { aside = besides h; choice = accessOf way (choiceIn b like (onward meaning way h (besides h))) } in
+    let rest = likedRounds way b besides (onward meaning way h (round meaning way h t)) l in
     t ∷ rest

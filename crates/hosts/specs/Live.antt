@@ -11,8 +11,8 @@ use Rattle.transfers.specs.declared.Way.the-variants.{In, Out}
 use Rattle.card.specs.declared.Meaning.{Meaning}
 use Rattle.card.specs.declared.Meaning.the-variants.{ReadData, WriteData}
 use Rattle.card.specs.Perform.{perform}
-use Rattle.account.specs.Plain.{Plain}
-use Rattle.account.specs.Rows.{Row}
+use Rattle.account.specs.Plain.{Plain, bytesPerSector}
+use Rattle.account.specs.CommandRows.{CommandRow}
 use Rattle.account.specs.Table.{account}
 use Rattle.account.specs.Notes.{Waiting, None, LowByte, HighByte, Notes, note, noteData}
 use Rattle.account.specs.Host.{calm, Hosted}
@@ -82,8 +82,8 @@ pub record Taken (way : Way) (h : Hosted) (port : Port) (value : ℕ) (x : Meani
 
 -- 256 sectors, more than any command moves
 unfoldable pub plenty : List ℕ
-plenty = replicate (512 * 256) 0
+plenty = replicate (bytesPerSector * 256) 0
 
 -- the bytes that a command moves, by its account
-unfoldable pub due : Row → Plain → ℕ
+unfoldable pub due : CommandRow → Plain → ℕ
 due row p = length (account row p plenty .moved)

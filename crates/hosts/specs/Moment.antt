@@ -9,11 +9,11 @@ use Rattle.registers.specs.Machine.{Machine}
 use Rattle.card.specs.declared.Meaning.{Meaning}
 use Rattle.card.specs.Access.{Asked}
 use Rattle.card.specs.Perform.{perform}
-use Rattle.account.specs.Plain.{Plain}
-use Rattle.account.specs.Place.{Place, At, Bad}
-use Rattle.account.specs.Rows.{Row, Reads, Writes, Verifies, Erases, Identifies, ReadsBuffer, WritesBuffer, SetsGeometry, Diagnoses, Recalibrates, Seeks, Senses, Others}
+use Rattle.account.specs.Plain.{Plain, bytesPerSector}
+use Rattle.account.specs.Addressed.{Addressed, At, Bad}
+use Rattle.account.specs.CommandRows.{CommandRow, Reads, Writes, Verifies, Erases, Identifies, ReadsBuffer, WritesBuffer, SetsGeometry, Diagnoses, Recalibrates, Seeks, Senses, Others}
 use Rattle.account.specs.Course.{courseOf}
-use Rattle.account.specs.Runs.{writeRun, replaced, cleared}
+use Rattle.account.specs.Sweeps.{writeSweep, replaced, cleared}
 use Rattle.account.specs.Table.{asked, first, account}
 use Rattle.account.specs.Host.{calm, meanings}
 use Rattle.account.specs.Follows.{SameOutside}
@@ -29,24 +29,24 @@ Calm m l = CalmBy m (meanings m l)
 abbrev pub storeMarksOf : Plain → StoreMarks
 storeMarksOf p = record { store = p .store; marks = p .marks }
 
--- "a sector is stored, and its mark set to 0, at its last byte only": as many as have moved whole, but none from the one on where the run stops
+-- "a sector is stored, and its mark set to 0, at its last byte only": as many as have moved whole, but none from the one on where the sweep stops
 abbrev pub wholeOf : List ℕ → ℕ
-wholeOf moved = length moved / 512
+wholeOf moved = length moved / bytesPerSector
 
 -- with the first sector at index i
 abbrev pub storedOf : ℕ → Plain → List ℕ → ℕ
-storedOf i p moved = min (wholeOf moved) (writeRun (courseOf p) (p .marks) i (asked (p .registers .count)) .done)
+storedOf i p moved = min (wholeOf moved) (writeSweep (courseOf p) (p .marks) i (asked (p .registers .count)) .done)
 
--- k sectors from index i, in the order of the run, each with the host's bytes for it
+-- k sectors from index i, in the order of the sweep, each with the host's bytes for it
 abbrev pub storedFrom : ℕ → ℕ → Plain → List ℕ → StoreMarks
 storedFrom i k p moved = record { store = replaced i k moved (p .store); marks = cleared i k (p .marks) }
 
-unfoldable pub writtenSoFar : Place → Plain → List ℕ → StoreMarks
+unfoldable pub writtenSoFar : Addressed → Plain → List ℕ → StoreMarks
 writtenSoFar (At i) p moved = storedFrom i (storedOf i p moved) p moved
 writtenSoFar (Bad code) p moved = storeMarksOf p
 
 -- a write's sectors one by one, Erase's at once, and no other command's
-unfoldable pub soFar : Row → Plain → List ℕ → StoreMarks
+unfoldable pub soFar : CommandRow → Plain → List ℕ → StoreMarks
 soFar Reads p moved = storeMarksOf p
 soFar Writes p moved = writtenSoFar (first p) p moved
 soFar Verifies p moved = storeMarksOf p
@@ -63,7 +63,7 @@ soFar Others p moved = storeMarksOf p
 
 -- the k sectors from index i hold the first 512 * k bytes that moved, in order, and have mark 0; every other byte and mark is as it was
 pub record FirstStored (i k : ℕ) (p : Plain) (moved : List ℕ) (x : StoreMarks) : Type 0 where
-  pub stored : (n : ℕ) → n < 512 * k → getD (x .store) (512 * i + n) 0 ≡ getD moved n 0
+  pub stored : (n : ℕ) → n < bytesPerSector * k → getD (x .store) (bytesPerSector * i + n) 0 ≡ getD moved n 0
   pub marked : (j : ℕ) → j < k → getD (x .marks) (i + j) 0 ≡ 0
-  pub others : SameOutside (512 * i) (512 * (i + k)) (p .store) (x .store)
+  pub others : SameOutside (bytesPerSector * i) (bytesPerSector * (i + k)) (p .store) (x .store)
   pub otherMarks : SameOutside i (i + k) (p .marks) (x .marks)

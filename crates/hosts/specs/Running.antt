@@ -3,7 +3,7 @@ use Prim.Native.Nat.{ℕ}
 use mathlib.Core.Bool.{true, false, _&&_}
 use mathlib.Core.List.{List, [], _∷_}
 use mathlib.Core.Path.{_≡_}
-use Rattle.ground.specs.Choice.{pick}
+use Rattle.ground.specs.Rows.{Unless, firstOf}
 use Rattle.answers.specs.declared.Refusal.{Refusal}
 use Rattle.answers.specs.declared.Refusal.the-variants.{NotWellMade, StoreLength, MarksLength}
 use Rattle.registers.specs.declared.State.{State}
@@ -19,7 +19,7 @@ use Rattle.card.specs.Doors.{machineOf, answered}
 use Rattle.account.specs.Notes.{Notes, note}
 use Rattle.account.specs.Host.{asks, Hosted, meaningsBy}
 use Rattle.hosts.specs.Choices.{Choice, accessOf, Fitting}
-use Rattle.hosts.specs.Hosts.{Turn, onward, Going}
+use Rattle.hosts.specs.Hosts.{Round, onward, Going}
 
 -- of `Card::access`: its answer, with the store and the marks that it leaves, is the step
 abbrev pub Promised : Card → List ℕ → List ℕ → Asked → Answer → List ℕ → List ℕ → Type 0
@@ -36,7 +36,7 @@ WrongLength s store marks = (storeSized s store && marksSized s marks) ≡ false
 
 -- the row with which it is refused: 12, 2 or 3
 abbrev pub wrongRow : Machine → List ℕ → Refusal
-wrongRow m store = pick (wellMade (m .phase) (m .state)) (pick (storeSized (m .state) store) MarksLength StoreLength) NotWellMade
+wrongRow m store = firstOf (Unless (wellMade (m .phase) (m .state)) NotWellMade ∷ Unless (storeSized (m .state) store) StoreLength ∷ []) (λ r. r) MarksLength
 
 abbrev pub lent : List ℕ → List ℕ → Machine → Machine
 lent store marks m = record { phase = m .phase; state = m .state; buffer = m .buffer; store = store; marks = marks }
@@ -49,8 +49,8 @@ callMeaning m (Wrong store marks a) = meaning (lent store marks m) a
 abbrev pub callMeanings : Machine → List Call → List Meaning
 callMeanings m l = meaningsBy callMeaning m l
 
--- a turn of calls is ready: those aside are allowed, and the choice is a call with the card's own store and marks at one of 01's places
-abbrev pub ReadyCall : Way → Hosted → Turn Call → Type 0
+-- a round of calls is ready: those aside are allowed, and the choice is a call with the card's own store and marks at one of 01's places
+abbrev pub ReadyCall : Way → Hosted → Round Call → Type 0
 ReadyCall way h t =
     let k = onward callMeaning way h (t .aside) in
     Going callMeaning way h (t .aside) × (asks (k .machine) ≡ true → (c : Choice) × (t .choice ≡ Own (accessOf way c)) × Fitting way k c)

@@ -12,7 +12,7 @@ use Rattle.card.specs.Access.{Asked, meaning}
 use Rattle.account.specs.Notes.{Waiting, None, LowByte, HighByte, Notes}
 use Rattle.account.specs.Host.{asks, Hosted}
 use Rattle.hosts.specs.Choices.{Choice, accessOf, Fitting}
-use Rattle.hosts.specs.Hosts.{Turn, onward, Going, Chosen, itself}
+use Rattle.hosts.specs.Hosts.{Round, onward, Going, Chosen, itself}
 
 -- what it sends next, by the place and by what it has sent
 abbrev pub next : (ℕ → ℕ) → ℕ → Waiting → Port → ℕ
@@ -25,13 +25,13 @@ next b n (HighByte x) port = b n
 abbrev pub nextOf : (ℕ → ℕ) → Notes → Port → ℕ
 nextOf b q port = next b (length (q .done)) (q .waiting) port
 
--- a turn that moves no data aside, and then sends its own
-abbrev pub SendsBy : (ℕ → ℕ) → Way → Hosted → Turn Meaning → Type 0
+-- a round that moves no data aside, and then sends its own
+abbrev pub SendsBy : (ℕ → ℕ) → Way → Hosted → Round Meaning → Type 0
 SendsBy b way h t =
     let k = onward itself way h (t .aside) in
     Going itself way h (t .aside) × (k .notes ≡ h .notes) × (asks (k .machine) ≡ true → (c : Chosen way k (t .choice)) × (c .value ≡ nextOf b (k .notes) (c .port)))
 
-abbrev pub Sends : (ℕ → ℕ) → Way → Hosted → Turn Asked → Type 0
+abbrev pub Sends : (ℕ → ℕ) → Way → Hosted → Round Asked → Type 0
 Sends b way h t =
     let k = onward meaning way h (t .aside) in
     Going meaning way h (t .aside) × (k .notes ≡ h .notes)

@@ -15,29 +15,20 @@ lowHalf n = n % 65536
 abbrev pub highHalf : ℕ → ℕ
 highHalf n = n / 65536 % 65536
 
--- "word 0 848AH; 1, 3, 6 default C, H, S; 7 high and 8 low half of N"
-abbrev pub firstWords : Facts → List (Entry ℕ)
-firstWords f =
+-- "word 0 848AH; 1, 3, 6 default C, H, S; 7 high and 8 low half of N; 10..19, 23..26, 27..46 are 2020H; 49 is 0200H; 53 is 1; 54..56 current C, H, S;
+-- 57 low and 58 high half of current C·H·S; 60 low, 61 high of N"
+abbrev pub wordTable : Facts → List (Entry ℕ)
+wordTable f =
     At 0 0x848A
     ∷ At 1 (f .default .cylinders)
     ∷ At 3 (f .default .heads)
     ∷ At 6 (f .default .sectors)
     ∷ At 7 (highHalf (totalOf (f .default)))
     ∷ At 8 (lowHalf (totalOf (f .default)))
-    ∷ []
-
--- "10..19, 23..26, 27..46 are 2020H"
-abbrev pub blankWords : List (Entry ℕ)
-blankWords =
-    Through 10 19 0x2020
+    ∷ Through 10 19 0x2020
     ∷ Through 23 26 0x2020
     ∷ Through 27 46 0x2020
-    ∷ []
-
--- "49 is 0200H; 53 is 1; 54..56 current C, H, S; 57 low and 58 high half of current C·H·S; 60 low, 61 high of N"
-abbrev pub laterWords : Facts → List (Entry ℕ)
-laterWords f =
-    At 49 0x0200
+    ∷ At 49 0x0200
     ∷ At 53 1
     ∷ At 54 (f .current .cylinders)
     ∷ At 55 (f .current .heads)
@@ -50,7 +41,7 @@ laterWords f =
 
 -- "the rest 0"
 unfoldable pub identifyWord : Facts → ℕ → ℕ
-identifyWord f n = lookup (firstWords f) n (lookup blankWords n (lookup (laterWords f) n 0))
+identifyWord f n = lookup (wordTable f) n 0
 
 -- byte i: "A sector moves as 256 words, low byte first."
 unfoldable pub identifyByte : Facts → ℕ → ℕ

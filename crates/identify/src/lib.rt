@@ -1,11 +1,13 @@
 // Identify: 256 words from the default and the current geometry.
 use geometry::Geometry;
+use ground::SECTOR_BYTES;
+use ground::Sector;
 ghost use mathlib.Core.Path.{_≡_};
-ghost use mathlib.Core.Bool.{_&&_};
-ghost use lib.Dec.{leb};
+ghost use lib.ListN.{drop};
+ghost use Rattle.ground.specs.Choice.{within};
 ghost use Rattle.ground.specs.Tables.{lookup};
 ghost use Rattle.geometry.specs.Limits.{totalOf, capacityOf};
-ghost use Rattle.identify.specs.Words.{lowHalf, highHalf, blankWords, laterWords, identifyWord, identifyByte, identifyBytes};
+ghost use Rattle.identify.specs.Words.{lowHalf, highHalf, wordTable, identifyWord, identifyByte, identifyBytes};
 
 // What Identify tells.
 pub struct Facts {
@@ -27,7 +29,7 @@ fn high_half(n: usize) -> u16
 
 // Whether n is from first to last.
 fn within(n: usize, first: usize, last: usize) -> bool
-    ensures { λ r. ⌜ r ≡ (leb first n && leb n last) ⌝ }
+    ensures { λ r. ⌜ r ≡ within first last n ⌝ }
 {
     if n < first {
         return false;
@@ -52,9 +54,9 @@ impl Facts {
         current.capacity()
     }
 
-    // The words from 49 on.
+    // The table's rows from word 49 on.
     fn later_word(self, n: usize) -> u16
-        ensures { λ r. ⌜ r ≡ lookup (laterWords self) n 0 ⌝ }
+        ensures { λ r. ⌜ r ≡ lookup (drop 9 (wordTable self)) n 0 ⌝ }
     {
         let current = self.current;
         if n == 49 {
@@ -87,9 +89,9 @@ impl Facts {
         0
     }
 
-    // The words from 10 on.
+    // The table's rows from word 10 on.
     fn blank_word(self, n: usize) -> u16
-        ensures { λ r. ⌜ r ≡ lookup blankWords n (lookup (laterWords self) n 0) ⌝ }
+        ensures { λ r. ⌜ r ≡ lookup (drop 6 (wordTable self)) n 0 ⌝ }
     {
         if within(n, 10, 19) {
             return 0x2020;
@@ -144,12 +146,12 @@ impl Facts {
     }
 
     // All 512 bytes into the buffer.
-    pub fn identify(self, buffer: &mut [u8; 512])
+    pub fn identify(self, buffer: &mut Sector)
         ensures { λ _. ⌜ now (buffer .exit) ≡ identifyBytes self ⌝ }
     {
         ground::length_known(buffer);
         let mut i = 0;
-        while i < 512 {
+        while i < SECTOR_BYTES {
             buffer[i] = self.byte(i);
             i += 1;
         }

@@ -14,7 +14,7 @@ use Rattle.registers.specs.declared.Phase.the-variants.{DataIn, DataOut}
 use Rattle.registers.specs.declared.Made.{Made}
 use Rattle.registers.specs.declared.State.{State}
 use Rattle.registers.specs.Machine.{Machine, coreOf}
-use Rattle.registers.specs.WellMade.{statusFits, heldIn, holdFits, wordsFit, loadFits, runFits}
+use Rattle.registers.specs.WellMade.{statusFits, inReset, holdFits, wordsFit, loadFits, runFits}
 use Rattle.port.specs.declared.Part.{Part}
 use Rattle.port.specs.Halves.{halved, nextWord}
 use Rattle.transfers.specs.declared.Way.{Way}
@@ -33,10 +33,10 @@ abbrev pub phaseOf : Way → Transfer → Phase
 phaseOf In t = DataIn t
 phaseOf Out t = DataOut t
 
-running : (way : Way) (t : Transfer) (s : State) → PhaseFits (phaseOf way t) s → (heldIn s ≡ false) × (loadFits (t .load) s ≡ true)
+running : (way : Way) (t : Transfer) (s : State) → PhaseFits (phaseOf way t) s → (inReset s ≡ false) × (loadFits (t .load) s ≡ true)
 unfolding holdFits runFits
-running In t s r = (un-not (heldIn s) _ (r .1), r .3)
-running Out t s r = (un-not (heldIn s) _ (r .1), r .3)
+running In t s r = (un-not (inReset s) _ (r .1), r .3)
+running Out t s r = (un-not (inReset s) _ (r .1), r .3)
 
 -- a word begun, and the next word
 halved-fits : (way : Way) (part : Part) (t : Transfer) (s : State) → PhaseFits (phaseOf way t) s → PhaseFits (phaseOf way (halved part t)) s

@@ -12,6 +12,7 @@ use Rattle.registers.specs.declared.Phase.{Phase}
 use Rattle.registers.specs.declared.Phase.the-variants.{Idle, DataIn, DataOut}
 use Rattle.registers.specs.Machine.{Machine, withBuffer}
 use Rattle.port.specs.declared.Part.{Part}
+use Rattle.port.specs.declared.Fill.the-variants.{Begun, Whole}
 use Rattle.port.specs.declared.Take.{Take}
 use Rattle.port.specs.Halves.{takeOf, partValue, withPart, halved, nextWord}
 use Rattle.transfers.specs.Steps.{loadRead, loadWritten, allMoved}
@@ -30,8 +31,8 @@ taken-read : (P : Effect → Type 0) (k : Take) (t : Transfer) (m : Machine) →
     P (takenRead k t m)
 unfolding wordRead
 taken-read P Take.Refused t m r h n l = r
-taken-read P (Take.Moves part false) t m r h n l = h _ part
-taken-read P (Take.Moves part true) t m r h n l =
+taken-read P (Take.Moves part Begun) t m r h n l = h _ part
+taken-read P (Take.Moves part Whole) t m r h n l =
     let v = partValue part (t .words) (m .buffer) in
     pick-elim (λ (x : Machine). P (accepted v x)) (ltb (t .words) 255) _ _ (n v) (λ e. l v)
 
@@ -66,8 +67,8 @@ taken-written : (P : Effect → Type 0) (k : Take) (value : ℕ) (t : Transfer) 
     P (takenWritten k value t m)
 unfolding wordWritten
 taken-written P Take.Refused value t m r h n l = r
-taken-written P (Take.Moves part false) value t m r h n l = h part
-taken-written P (Take.Moves part true) value t m r h n l = pick-elim (λ (x : Machine). P (accepted 0 x)) (ltb (t .words) 255) _ _ (n part) (λ e. l part)
+taken-written P (Take.Moves part Begun) value t m r h n l = h part
+taken-written P (Take.Moves part Whole) value t m r h n l = pick-elim (λ (x : Machine). P (accepted 0 x)) (ltb (t .words) 255) _ _ (n part) (λ e. l part)
 
 phase-written-elim : (P : Effect → Type 0) (p : Phase) (port : Port) (value : ℕ) (m : Machine) → P (accepted 0 m) → P (halfMoved m) →
     ((part : Part) (t : Transfer) → p ≡ DataOut t → P (accepted 0 (withPhase (DataOut (halved part t)) (partCome part t value m)))) →

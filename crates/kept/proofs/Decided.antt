@@ -1,7 +1,7 @@
 -- What the refusals before an access leave: an option that may be written, and no register written while SRESET holds.
 use Prim.Native.Nat.{ℕ, _*_, _%_, _≤_}
 use mathlib.Core.Bool.{Bool, true, false}
-use mathlib.Core.Path.{_≡_, refl, sym, subst}
+use mathlib.Core.Path.{_≡_, refl, sym, subst, _∙_}
 use native.Mathlib.Omega.{arith}
 use lib.Dec.{eqb}
 use lib.ListN.{length}
@@ -21,9 +21,9 @@ use Rattle.registers.specs.State.{sresetIn, indexIn, totalIn}
 use Rattle.registers.specs.Machine.{Machine}
 use Rattle.registers.specs.WellMade.{wellMade, indexFits, sresetFits}
 use Rattle.card.specs.declared.Meaning.{Meaning}
-use Rattle.card.specs.declared.Verdict.{Verdict}
-use Rattle.card.specs.Access.{Asked, standing, heldAway, decided, verdictOf, meantBy, meaning}
+use Rattle.card.specs.Access.{Asked, standing, heldAway, decided, meaning}
 use Rattle.card.proofs.Decided.{stands, decided-as}
+use Rattle.card.proofs.Verdicts.{meaning-as}
 use Rattle.kept.specs.Allowed.{Allowed}
 
 -- rows 8 and 7, then what stands there
@@ -44,21 +44,19 @@ pub meaning-elim : (P : Meaning → Type 0) (m : Machine) (a : Asked) →
     (wellMade (m .phase) (m .state) ≡ true → length (m .store) ≡ 512 * totalIn (m .state) → length (m .marks) ≡ totalIn (m .state) → length (a .tuples) ≡ 256 →
     P (decided (m .state) a)) →
     P (meaning m a)
-unfolding meaning verdictOf
 meaning-elim P m a x y z u f =
-    let Q : Verdict → Type 0 = λ v. P (meantBy v (decided (m .state) a)) in
-    pick-elim Q (wellMade (m .phase) (m .state)) _ _
-    (λ w. pick-elim Q (eqb (length (m .store)) _) _ _
-    (λ s. pick-elim Q (eqb (length (m .marks)) _) _ _
-    (λ k. pick-elim Q (eqb (length (a .tuples)) 256) _ _ (λ t. f w (eqb-true _ _ s) (eqb-true _ _ k) (eqb-true _ _ t)) (λ t. u))
+    subst P (sym (meaning-as m a))
+    (pick-elim P (wellMade (m .phase) (m .state)) _ _
+    (λ w. pick-elim P (eqb (length (m .store)) _) _ _
+    (λ s. pick-elim P (eqb (length (m .marks)) _) _ _
+    (λ k. pick-elim P (eqb (length (a .tuples)) 256) _ _ (λ t. f w (eqb-true _ _ s) (eqb-true _ _ k) (eqb-true _ _ t)) (λ t. u))
     (λ k. z))
     (λ s. y))
-    (λ w. x)
+    (λ w. x))
 
 pub meaning-decided : (m : Machine) (a : Asked) → wellMade (m .phase) (m .state) ≡ true →
     length (m .store) ≡ 512 * totalIn (m .state) → length (m .marks) ≡ totalIn (m .state) → length (a .tuples) ≡ 256 → meaning m a ≡ decided (m .state) a
-unfolding meaning verdictOf
-meaning-decided m a e s k t = rw (e, eq-eqb _ _ s, eq-eqb _ _ k, eq-eqb _ _ t)
+meaning-decided m a e s k t = meaning-as m a ∙ rw (e, eq-eqb _ _ s, eq-eqb _ _ k, eq-eqb _ _ t)
 
 -- attribute memory answers in mode 0 only
 sreset-fits : (mode : Mode) (space index v : ℕ) → space ≡ 0 → answersAt space mode index ≡ true → sresetFits mode v ≡ true

@@ -15,10 +15,11 @@ use Rattle.registers.specs.declared.Load.{Load}
 use Rattle.registers.specs.declared.Load.the-variants.{Sectors}
 use Rattle.registers.specs.declared.Made.{Made}
 use Rattle.registers.specs.declared.State.{State}
+use Rattle.registers.specs.Status.{idleStatus}
 use Rattle.registers.specs.State.{locatedIn}
 use Rattle.registers.specs.Machine.{Machine, coreOf}
-use Rattle.registers.specs.WellMade.{atRest, statusFits, heldIn, holdFits, wordsFit, sectorsFit, loadFits, runFits}
-use Rattle.geometry.specs.Address.{found}
+use Rattle.registers.specs.WellMade.{atRest, statusFits, inReset, holdFits, wordsFit, sectorsFit, loadFits, runFits}
+use Rattle.geometry.specs.Address.{validAddress}
 use Rattle.transfers.specs.declared.End.{End}
 use Rattle.transfers.specs.declared.Tested.{Tested}
 use Rattle.transfers.specs.declared.Tested.the-variants.{Passes, Fails}
@@ -36,7 +37,7 @@ abbrev pub Fine : Made → State → Type 0
 Fine d s = StateFits d s × CountFits s
 
 abbrev pub Ready : Made → State → Type 0
-Ready d s = Fine d s × (heldIn s ≡ false)
+Ready d s = Fine d s × (inReset s ≡ false)
 
 -- "1..256 sectors left, agreeing with Sector Count modulo 256"
 abbrev pub CountAgrees : ℕ → State → Type 0
@@ -64,30 +65,30 @@ pub reading-left : (d : Made) (s : State) → Fine d s → CoreFits d (readingEn
 reading-left d s f = (f .0, at-rest (readingEnded s .state) (end-rests End.Good), f .1)
 
 pub ready-left : (load : Load) (d : Made) (s : State) → Ready d s → loadFits load s ≡ true → CoreFits d (ready load s)
-unfolding statusFits holdFits wordsFit runFits heldIn
+unfolding statusFits holdFits wordsFit runFits inReset
 ready-left load d s r e = (r .0 .0, (refl, ap not (r .1), refl, load-same load s (ready load s .state) refl refl e), r .0 .1)
 
 pub asked-left : (load : Load) (order : Order) (d : Made) (s : State) → Ready d s → loadFits load s ≡ true → CoreFits d (askedFor load order s)
-unfolding statusFits holdFits wordsFit runFits heldIn
+unfolding statusFits holdFits wordsFit runFits inReset
 asked-left load order d s r e = (r .0 .0, (refl, ap not (r .1), refl, load-same load s (askedFor load order s .state) refl refl e), r .0 .1)
 
-pub sectors-fit : (left : ℕ) (s : State) → found (locatedIn s) ≡ true → CountAgrees left s → loadFits (Sectors left) s ≡ true
+pub sectors-fit : (left : ℕ) (s : State) → validAddress (locatedIn s) ≡ true → CountAgrees left s → loadFits (Sectors left) s ≡ true
 unfolding loadFits sectorsFit every
 sectors-fit left s g a = rw (g, le-leb _ _ (a .0), le-leb _ _ (a .1), eq-eqb _ _ (a .2))
 
 -- an end in error
 abbrev pub bad : End → Bool
-bad e = not (eqb (endStatus e) 0x50)
+bad e = not (eqb (endStatus e) idleStatus)
 
 -- what a sector's tests can say
-pub address-elim : (P : Tested → Type 0) (l : Located) → ((spot : Spot) → found l ≡ true → P (Passes spot)) → ((e : End) → bad e ≡ true → P (Fails e)) → P (testedOf l)
+pub address-elim : (P : Tested → Type 0) (l : Located) → ((spot : Spot) → validAddress l ≡ true → P (Passes spot)) → ((e : End) → bad e ≡ true → P (Fails e)) → P (testedOf l)
 address-elim P (Located.Good spot) f g = f spot refl
 address-elim P Located.BadHeadOrSector f g = g _ refl
 address-elim P Located.BadCylinder f g = g _ refl
 address-elim P Located.BadLba f g = g _ refl
 
 pub mark-elim : (P : Tested → Type 0) (allows : ℕ → Bool) (e : End) (marks : List ℕ) (l : Located) → bad e ≡ true →
-    ((spot : Spot) → found l ≡ true → P (Passes spot)) → ((e : End) → bad e ≡ true → P (Fails e)) → P (markTested allows e (testedOf l) marks)
+    ((spot : Spot) → validAddress l ≡ true → P (Passes spot)) → ((e : End) → bad e ≡ true → P (Fails e)) → P (markTested allows e (testedOf l) marks)
 mark-elim P allows e marks l b f g =
     address-elim (λ (t : Tested). P (markTested allows e t marks)) l
     (λ spot h. pick-elim P (allows (getD marks (spot .index) 0)) _ _ (λ x. f spot h) (λ x. g e b))
@@ -98,9 +99,9 @@ unfolding sectorDone
 done-fine left d s f =
     pick-elim (λ (x : State). Fine d x) (eqb left 0) _ _ (λ e. (f .0, omega arith)) (λ e. (f .0, omega arith))
 
-done-held : (left : ℕ) (s : State) → heldIn (sectorDone left s) ≡ heldIn s
-unfolding sectorDone heldIn
-done-held left s = pick-elim (λ (x : State). heldIn x ≡ heldIn s) (eqb left 0) _ _ (λ e. refl) (λ e. refl)
+done-held : (left : ℕ) (s : State) → inReset (sectorDone left s) ≡ inReset s
+unfolding sectorDone inReset
+done-held left s = pick-elim (λ (x : State). inReset x ≡ inReset s) (eqb left 0) _ _ (λ e. refl) (λ e. refl)
 
 pub done-ready : (left : ℕ) (d : Made) (s : State) → Ready d s → Ready d (sectorDone left s)
 done-ready left d s r = (done-fine left d s (r .0), done-held left s ∙ r .1)

@@ -9,7 +9,7 @@ use Rattle.registers.specs.declared.State.{State}
 use Rattle.registers.specs.declared.Core.{Core}
 use Rattle.registers.specs.State.{sresetIn, totalIn}
 use Rattle.registers.specs.Machine.{Machine, coreOf}
-use Rattle.registers.specs.WellMade.{wellMade, heldIn}
+use Rattle.registers.specs.WellMade.{wellMade, inReset}
 use Rattle.registers.specs.Resets.{optionTurn, controlWritten, optionCore}
 use Rattle.card.specs.declared.Meaning.{Meaning}
 use Rattle.card.specs.declared.Meaning.the-variants.{TupleByte, ReadOption, WriteOption, ReadRegister, WriteRegister, ReadData, WriteData}
@@ -38,8 +38,8 @@ option-next v d m o f = (
   λ b. (refl, refl, buffer-turned (optionTurn v (m .state)) (m .buffer) b),
 )
 
-pub not-held : (s : State) → sresetIn (s .option) ≡ false → s .control .held ≡ false → heldIn s ≡ false
-unfolding heldIn
+pub not-held : (s : State) → sresetIn (s .option) ≡ false → s .control .held ≡ false → inReset s ≡ false
+unfolding inReset
 not-held s a b = rw (a, b)
 
 register-next : (r : Register) (v : ℕ) (d : Made) (m : Machine) → sresetIn (m .state .option) ≡ false → v < 256 → CoreFits d (coreOf m) → Next d m (registerWritten r v m)

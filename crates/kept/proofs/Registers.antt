@@ -15,7 +15,7 @@ use Rattle.registers.specs.declared.State.{State}
 use Rattle.registers.specs.declared.Core.{Core}
 use Rattle.registers.specs.State.{runs, withInterrupt, totalIn, locatedIn}
 use Rattle.registers.specs.Machine.{core}
-use Rattle.registers.specs.WellMade.{wellMade, indexFits, sresetFits, statusFits, heldIn, holdFits, wordsFit, sectorsFit, loadFits, runFits}
+use Rattle.registers.specs.WellMade.{wellMade, indexFits, sresetFits, statusFits, inReset, holdFits, wordsFit, sectorsFit, loadFits, runFits}
 use Rattle.registers.specs.Values.{afterRead, registerSet}
 use Rattle.kept.specs.Sound.{CountFits}
 use Rattle.kept.proofs.RegisterElim.{read-elim, set-elim}
@@ -33,7 +33,7 @@ StateFits d s =
 abbrev pub PhaseFits : Phase → State → Type 0
 PhaseFits p s =
     (statusFits p (s .registers .status) ≡ true)
-    × (holdFits p (heldIn s) ≡ true)
+    × (holdFits p (inReset s) ≡ true)
     × (wordsFit p ≡ true)
     × (runFits p s ≡ true)
 
@@ -69,7 +69,7 @@ idle-fits (DataIn x) s t e f r = absurd (true≢false e)
 idle-fits (DataOut x) s t e f r = absurd (true≢false e)
 
 pub read-left : (r : Register) (d : Made) (p : Phase) (s : State) → CoreFits d (core p s) → CoreFits d (core p (afterRead r s))
-unfolding heldIn
+unfolding inReset
 read-left r d p s f =
     read-elim (λ (x : State). CoreFits d (core p x)) r s f (f .0, (f .1 .0, f .1 .1, f .1 .2, run-same p s (withInterrupt false s) refl refl (f .1 .3)), f .2)
 

@@ -15,9 +15,10 @@ use Rattle.registers.specs.declared.State.{State}
 use Rattle.registers.specs.declared.Core.{Core}
 use Rattle.registers.specs.declared.resets.Turn.{Turn}
 use Rattle.registers.specs.declared.resets.Turn.the-variants.{Enter, Leave, Stay}
+use Rattle.registers.specs.Status.{idleStatus}
 use Rattle.registers.specs.State.{withOption, withControl, sresetIn}
 use Rattle.registers.specs.Machine.{core}
-use Rattle.registers.specs.WellMade.{indexFits, sresetFits, atRest, statusFits, heldIn, holdFits, wordsFit, runFits}
+use Rattle.registers.specs.WellMade.{indexFits, sresetFits, atRest, statusFits, inReset, holdFits, wordsFit, runFits}
 use Rattle.registers.specs.PowerOn.{powerOn, zeros}
 use Rattle.registers.specs.Resets.{turnOf, restStatus, entered, optionTurned, bufferTurned, controlTurned, controlWritten, bitTwo, bitOne, optionCore}
 use Rattle.kept.specs.Sound.{CountFits}
@@ -50,12 +51,12 @@ entered-rests p s r = rest-status p (s .registers .status) (r .0)
 pub power-stands : (d : Made) (v : ℕ) → fits (d .default) ≡ true → indexFits v ≡ true → sresetFits (d .mode) v ≡ true → StateFits d (powerOn d v)
 power-stands d v f i m = (refl, f, fits-current (d .default) f, i, m)
 
-pub power-status : atRest 0x50 ≡ true
+pub power-status : atRest idleStatus ≡ true
 unfolding atRest
 power-status = refl
 
-same-sreset : (v : ℕ) (s : State) → sresetIn v ≡ sresetIn (s .option) → heldIn (withOption v s) ≡ heldIn s
-unfolding heldIn
+same-sreset : (v : ℕ) (s : State) → sresetIn v ≡ sresetIn (s .option) → inReset (withOption v s) ≡ inReset s
+unfolding inReset
 same-sreset v s e = ap (λ (b : Bool). pick b true (s .control .held)) e
 
 option-stays : (v : ℕ) (d : Made) (p : Phase) (s : State) → sresetIn v ≡ sresetIn (s .option) → OptionFits v s → StateFits d s → PhaseFits p s → Turned d s (core p (withOption v s))
@@ -76,7 +77,7 @@ pub option-turned : (v : ℕ) (d : Made) (p : Phase) (s : State) → OptionFits 
 option-turned v d p s o f r = option-by (sresetIn (s .option)) (sresetIn v) v d p s refl refl o f r
 
 control-by : (t : Turn) (masked : Bool) (d : Made) (p : Phase) (s : State) → StateFits d s → PhaseFits p s → Turned d s (controlTurned t masked p s)
-unfolding controlTurned heldIn
+unfolding controlTurned inReset
 control-by Enter masked d p s f r = (f, at-rest (withControl (record { held = true; masked = masked }) (entered p s)) (entered-rests p s r), λ c. c)
 control-by Leave masked d p s f r =
     let g = power-stands (s .made) (s .option) (f .1) (f .3) (f .4) in

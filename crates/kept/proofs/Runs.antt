@@ -3,7 +3,8 @@ use Prim.Native.Nat.{ℕ, zero, suc}
 use mathlib.Core.Path.{_≡_, refl, _∙_}
 use mathlib.Core.List.{List}
 use lib.ListN.{length, length-replicate}
-use Rattle.ground.specs.Left.{Left, left}
+use Rattle.ground.specs.Left.{Left, leaving}
+use Rattle.sectors.specs.Sectors.{StoreMarks, storeMarks}
 use Rattle.registers.specs.declared.Made.{Made}
 use Rattle.registers.specs.declared.State.{State}
 use Rattle.registers.specs.declared.Core.{Core}
@@ -14,18 +15,18 @@ use Rattle.transfers.specs.Ends.{ended}
 use Rattle.transfers.specs.declared.Way.the-variants.{In}
 use Rattle.transfers.specs.Before.{sectorTest, sectorStored, storedBy}
 use Rattle.transfers.specs.Steps.{sectorDone}
-use Rattle.commands.specs.Runs.{goesOn, verifyFrom, allFF, eraseFrom}
+use Rattle.commands.specs.Runs.{unlessFailed, verifyFrom, allFF, eraseFrom}
 use Rattle.kept.proofs.Registers.{CoreFits}
 use Rattle.kept.proofs.Ends.{Fine, ended-left, done-fine}
 use Rattle.kept.proofs.Steps.{sector-stored}
 
 -- a sector of Erase by its tests, with n to come
-abbrev pub erasesOn : Tested → ℕ → State → List ℕ → List ℕ → Left Core
+abbrev pub erasesOn : Tested → ℕ → State → List ℕ → List ℕ → Left Core StoreMarks
 erasesOn x n s t k =
-    goesOn (storedBy x allFF t k .result) (λ c. left c (storedBy x allFF t k .store) (storedBy x allFF t k .marks)) s
-    (eraseFrom n (sectorDone n s) (storedBy x allFF t k .store) (storedBy x allFF t k .marks))
+    unlessFailed (storedBy x allFF t k .outcome) (λ c. leaving c (storedBy x allFF t k .next)) s
+    (eraseFrom n (sectorDone n s) (storedBy x allFF t k .next .store) (storedBy x allFF t k .next .marks))
 
-goes-elim : {A : Type 0} (P : A → Type 0) (t : Tested) (end : Core → A) (s : State) (rest : A) → ((e : End) → P (end (ended e s))) → P rest → P (goesOn t end s rest)
+goes-elim : {A : Type 0} (P : A → Type 0) (t : Tested) (end : Core → A) (s : State) (rest : A) → ((e : End) → P (end (ended e s))) → P rest → P (unlessFailed t end s rest)
 goes-elim P (Passes spot) end s rest f g = g
 goes-elim P (Fails e) end s rest f g = f e
 
@@ -38,26 +39,26 @@ verify-elim I P f g (suc n) s marks h =
     goes-elim P (sectorTest In s marks) (λ k. k) s (verifyFrom n (sectorDone n s) marks) (λ e. g e s h) (verify-elim I P f g n (sectorDone n s) marks (f n s h))
 
 -- … and Erase, with the store and the marks
-pub erase-elim : (I : State → List ℕ → List ℕ → Type 0) (P : Left Core → Type 0) →
-    ((s : State) (store marks : List ℕ) → I s store marks → I s (sectorStored s allFF store marks .store) (sectorStored s allFF store marks .marks)) →
+pub erase-elim : (I : State → List ℕ → List ℕ → Type 0) (P : Left Core StoreMarks → Type 0) →
+    ((s : State) (store marks : List ℕ) → I s store marks → I s (sectorStored s allFF store marks .next .store) (sectorStored s allFF store marks .next .marks)) →
     ((n : ℕ) (s : State) (store marks : List ℕ) → I s store marks → I (sectorDone n s) store marks) →
-    ((e : End) (s : State) (store marks : List ℕ) → I s store marks → P (left (ended e s) store marks)) →
+    ((e : End) (s : State) (store marks : List ℕ) → I s store marks → P (leaving (ended e s) (storeMarks store marks))) →
     (n : ℕ) (s : State) (store marks : List ℕ) → I s store marks → P (eraseFrom n s store marks)
 unfolding eraseFrom
 erase-elim I P w f g zero s store marks h = g End.Good s store marks h
 erase-elim I P w f g (suc n) s store marks h =
     let k = sectorStored s allFF store marks in
     let i = w s store marks h in
-    goes-elim P (k .result) (λ c. left c (k .store) (k .marks)) s (eraseFrom n (sectorDone n s) (k .store) (k .marks))
-    (λ e. g e s (k .store) (k .marks) i)
-    (erase-elim I P w f g n (sectorDone n s) (k .store) (k .marks) (f n s (k .store) (k .marks) i))
+    goes-elim P (k .outcome) (λ c. leaving c (k .next)) s (eraseFrom n (sectorDone n s) (k .next .store) (k .next .marks))
+    (λ e. g e s (k .next .store) (k .next .marks) i)
+    (erase-elim I P w f g n (sectorDone n s) (k .next .store) (k .next .marks) (f n s (k .next .store) (k .next .marks) i))
 
 pub verify-left : (n : ℕ) (d : Made) (s : State) (marks : List ℕ) → Fine d s → CoreFits d (verifyFrom n s marks)
 verify-left n d = verify-elim (Fine d) (CoreFits d) (λ n s f. done-fine n d s f) (λ e s f. ended-left e d s f) n
 
 -- what Erase leaves
-abbrev pub Blanked : Made → List ℕ → List ℕ → Left Core → Type 0
-Blanked d store marks x = CoreFits d (x .result) × (length (x .store) ≡ length store) × (length (x .marks) ≡ length marks)
+abbrev pub Blanked : Made → List ℕ → List ℕ → Left Core StoreMarks → Type 0
+Blanked d store marks x = CoreFits d (x .outcome) × (length (x .next .store) ≡ length store) × (length (x .next .marks) ≡ length marks)
 
 pub all-FF-length : length allFF ≡ 512
 unfolding allFF

@@ -26,7 +26,7 @@ fit-step-kept m a b e = perform-well (decided (m .state) a) m (decided-allowed (
 
 -- Row 12: a card that is not well made is refused, and nothing changes.
 pub not-well-refused : (m : Machine) (a : Asked) → wellMade (m .phase) (m .state) ≡ false → step m a ≡ record { outcome = Outcome.Refused NotWellMade; next = m }
-unfolding step meaning verdictOf perform
+unfolding step meaning perform
 not-well-refused m a e = rw e
 
 -- what every card keeps, well made or not

@@ -77,18 +77,18 @@ written-left (Passes spot) left d s l r = on-asked left d s l r
 written-left (Fails e) left d s l r = ended-left e d s (r .0)
 
 stored-by : (t : Tested) (bytes store marks : List ℕ) → length bytes ≡ 512 →
-    (length (storedBy t bytes store marks .store) ≡ length store) × (length (storedBy t bytes store marks .marks) ≡ length marks)
+    (length (storedBy t bytes store marks .next .store) ≡ length store) × (length (storedBy t bytes store marks .next .marks) ≡ length marks)
 stored-by (Passes spot) bytes store marks b = stored-lengths store marks (spot .index) bytes b
 stored-by (Fails e) bytes store marks b = (refl, refl)
 
 pub sector-stored : (s : State) (bytes store marks : List ℕ) → length bytes ≡ 512 →
-    (length (sectorStored s bytes store marks .store) ≡ length store) × (length (sectorStored s bytes store marks .marks) ≡ length marks)
+    (length (sectorStored s bytes store marks .next .store) ≡ length store) × (length (sectorStored s bytes store marks .next .marks) ≡ length marks)
 unfolding sectorStored
 sector-stored s bytes store marks b = stored-by (sectorTest Out s marks) bytes store marks b
 
 pub load-written : (load : Load) (d : Made) (m : Machine) → Ready d (m .state) → loadFits load (m .state) ≡ true → Next d m (loadWritten load m)
 load-written Buffer d m r e = (ended-left End.Good d (m .state) (r .0), lent-same m)
 load-written (Sectors left) d m r e = (
-  written-left (sectorStored (m .state) (m .buffer) (m .store) (m .marks) .result) (left - 1) d (m .state) (few left (m .state) e) r,
+  written-left (sectorStored (m .state) (m .buffer) (m .store) (m .marks) .outcome) (left - 1) d (m .state) (few left (m .state) e) r,
   λ b. let w = sector-stored (m .state) (m .buffer) (m .store) (m .marks) b in (w .0, w .1, b),
 )

@@ -16,7 +16,7 @@ use Rattle.registers.specs.declared.Made.{Made}
 use Rattle.registers.specs.declared.State.{State}
 use Rattle.registers.specs.State.{withError, withCurrent, totalIn}
 use Rattle.registers.specs.Machine.{Machine}
-use Rattle.registers.specs.WellMade.{heldIn, loadFits}
+use Rattle.registers.specs.WellMade.{inReset, loadFits}
 use Rattle.transfers.specs.declared.End.{End}
 use Rattle.transfers.specs.declared.Order.the-variants.{First}
 use Rattle.commands.specs.declared.Command.{Command}
@@ -67,5 +67,5 @@ obeyed-next Sense d s m r f = (ended-left End.Good d (withError (m .state .code)
 obeyed-next Other d s m r f = (ended-left End.NoSuchCommand d s (r .0), lent-same m)
 
 pub command-next : (opcode : ℕ) (d : Made) (m : Machine) → Ready d (m .state) → Next d m (commandGiven opcode m)
-unfolding commandGiven heldIn
+unfolding commandGiven inReset
 command-next opcode d m r = obeyed-next (commandOf opcode) d (started (dropped m .state)) (dropped m) r (r .0)

@@ -1,2 +1,3 @@
 pub mod Sound
+pub mod Lent
 pub mod Allowed

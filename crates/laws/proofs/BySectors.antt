@@ -26,8 +26,9 @@ use Rattle.card.specs.declared.Meaning.the-variants.{TupleByte, ReadOption, Wri
 use Rattle.card.specs.Access.{Asked, meaning}
 use Rattle.card.specs.Perform.{optionWritten, registerWritten, perform}
 use Rattle.card.specs.Step.{step}
+use Rattle.kept.specs.Lent.{storeMarksIn}
 use Rattle.kept.proofs.DataElim.{data-read-elim}
-use Rattle.laws.specs.Changes.{Change, changed, storeMarksIn, commandChanges, registerChanges, phaseChanges, changes}
+use Rattle.laws.specs.Changes.{Change, changed, commandChanges, registerChanges, phaseChanges, changes}
 use Rattle.laws.proofs.ErasedSectors.{erase-kept}
 use Rattle.laws.proofs.WrittenSectors.{phase-written}
 

@@ -24,6 +24,7 @@ use Rattle.registers.specs.declared.Phase.the-variants.{Idle, DataIn, DataOut}
 use Rattle.registers.specs.declared.State.{State}
 use Rattle.registers.specs.State.{locatedIn}
 use Rattle.registers.specs.Machine.{Machine}
+use Rattle.port.specs.declared.Fill.the-variants.{Begun, Whole}
 use Rattle.port.specs.declared.Take.{Take}
 use Rattle.commands.specs.declared.Command.{Command}
 use Rattle.commands.specs.declared.Command.the-variants.{Read, Write, Verify, Erase, Identify, ReadBuffer, WriteBuffer, SetGeometry, Diagnose, Recalibrate, Seek, Sense, Other}
@@ -34,7 +35,8 @@ use Rattle.card.specs.declared.Meaning.the-variants.{TupleByte, ReadOption, Wri
 use Rattle.card.specs.Access.{Asked, meaning}
 use Rattle.card.specs.Perform.{perform}
 use Rattle.card.specs.Step.{step}
-use Rattle.laws.specs.Changes.{Change, changed, storeMarksIn, writes, erasures, commandChanges, registerChanges, loadChanges, takenChanges, phaseChanges, changes}
+use Rattle.kept.specs.Lent.{storeMarksIn}
+use Rattle.laws.specs.Changes.{Change, changed, sectorChanges, erasures, commandChanges, registerChanges, loadChanges, takenChanges, phaseChanges, changes}
 use Rattle.laws.specs.MayChange.{erases, erasesBy, mayChange}
 use Rattle.laws.proofs.BySectors.{meant-sectors}
 
@@ -91,20 +93,20 @@ untouched m a e = meant-untouched (meaning m a) m e
 abbrev AtMost : ℕ → List Change → Type 0
 AtMost n l = length l ≤ n
 
-writes-one : (l : Located) (marks bytes : List ℕ) (rest : List Change) (n : ℕ) → AtMost n rest → AtMost (suc n) (writes l marks bytes rest)
-writes-one (Located.Good spot) marks bytes rest n h = pick-elim (AtMost (suc n)) (writable (getD marks (spot .index) 0)) _ _ (λ e. omega arith) (λ e. omega arith)
-writes-one Located.BadHeadOrSector marks bytes rest n h = omega arith
-writes-one Located.BadCylinder marks bytes rest n h = omega arith
-writes-one Located.BadLba marks bytes rest n h = omega arith
+sector-one : (l : Located) (marks bytes : List ℕ) (rest : List Change) (n : ℕ) → AtMost n rest → AtMost (suc n) (sectorChanges l marks bytes rest)
+sector-one (Located.Good spot) marks bytes rest n h = pick-elim (AtMost (suc n)) (writable (getD marks (spot .index) 0)) _ _ (λ e. omega arith) (λ e. omega arith)
+sector-one Located.BadHeadOrSector marks bytes rest n h = omega arith
+sector-one Located.BadCylinder marks bytes rest n h = omega arith
+sector-one Located.BadLba marks bytes rest n h = omega arith
 
 load-one : (l : Load) (bytes : List ℕ) (m : Machine) → AtMost 1 (loadChanges l bytes m)
 load-one Buffer bytes m = omega arith
-load-one (Sectors left) bytes m = writes-one (locatedIn (m .state)) (m .marks) bytes [] 0 (omega arith)
+load-one (Sectors left) bytes m = sector-one (locatedIn (m .state)) (m .marks) bytes [] 0 (omega arith)
 
 taken-one : (k : Take) (v : ℕ) (t : Transfer) (m : Machine) → AtMost 1 (takenChanges k v t m)
 taken-one Take.Refused v t m = omega arith
-taken-one (Take.Moves part false) v t m = omega arith
-taken-one (Take.Moves part true) v t m = pick-elim (AtMost 1) (ltb (t .words) 255) _ _ (λ e. omega arith) (λ e. load-one (t .load) (withPart part (t .words) v (m .buffer)) m)
+taken-one (Take.Moves part Begun) v t m = omega arith
+taken-one (Take.Moves part Whole) v t m = pick-elim (AtMost 1) (ltb (t .words) 255) _ _ (λ e. omega arith) (λ e. load-one (t .load) (withPart part (t .words) v (m .buffer)) m)
 
 phase-one : (p : Phase) (port : Port) (v : ℕ) (m : Machine) → AtMost 1 (phaseChanges p port v m)
 phase-one Idle port v m = omega arith
@@ -120,4 +122,4 @@ one-sector m port v = pick-elim (AtMost 1) (m .state .control .held) _ _ (λ e. 
 pub erasures-few : (n : ℕ) (a : Address) (g : Geometry) (total : ℕ) (marks : List ℕ) → length (erasures n a g total marks) ≤ n
 unfolding erasures
 erasures-few zero a g total marks = omega arith
-erasures-few (suc n) a g total marks = writes-one (locate a g total) marks (replicate 512 0xFF) (erasures n (nextOf a g) g total marks) n (erasures-few n (nextOf a g) g total marks)
+erasures-few (suc n) a g total marks = sector-one (locate a g total) marks (replicate 512 0xFF) (erasures n (nextOf a g) g total marks) n (erasures-few n (nextOf a g) g total marks)

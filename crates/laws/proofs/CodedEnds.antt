@@ -6,6 +6,7 @@ use mathlib.Core.List.{List}
 use lib.Dec.{eqb}
 use borrow.Author.Tests.{eqb-false}
 use Rattle.ground.specs.Left.{Left}
+use Rattle.sectors.specs.Sectors.{StoreMarks}
 use Rattle.ground.proofs.Picks.{pick-elim}
 use Rattle.geometry.specs.declared.Reshaped.{Reshaped}
 use Rattle.geometry.specs.Shape.{reshaped}
@@ -14,6 +15,7 @@ use Rattle.registers.specs.declared.Load.{Load}
 use Rattle.registers.specs.declared.Load.the-variants.{Sectors, Buffer}
 use Rattle.registers.specs.declared.State.{State}
 use Rattle.registers.specs.declared.Core.{Core}
+use Rattle.registers.specs.Status.{dataStatus}
 use Rattle.registers.specs.State.{totalIn}
 use Rattle.registers.specs.Machine.{Machine}
 use Rattle.transfers.specs.declared.Order.{Order}
@@ -45,7 +47,7 @@ end-coded BadGeometry code p = eqb-false 0x21 0 refl
 end-coded NoSuchCommand code p = eqb-false 0x20 0 refl
 
 -- 58H is no error
-begun-coded : (code : ℕ) → inError 0x58 ≡ true → code ≡ 0 → ⊥
+begun-coded : (code : ℕ) → inError dataStatus ≡ true → code ≡ 0 → ⊥
 begun-coded code p = absurd (false≢true p)
 
 -- ---- reading
@@ -86,16 +88,16 @@ core-written (Fails e) left s = end-coded e _
 
 pub load-written : (l : Load) (m : Machine) → Coded (loadWritten l m .state)
 load-written Buffer m = end-coded Good _
-load-written (Sectors left) m = core-written (sectorStored (m .state) (m .buffer) (m .store) (m .marks) .result) (left - 1) (m .state)
+load-written (Sectors left) m = core-written (sectorStored (m .state) (m .buffer) (m .store) (m .marks) .outcome) (left - 1) (m .state)
 
 -- ---- Verify and Erase
 
 verified : (n : ℕ) (s : State) (marks : List ℕ) → Coded (verifyFrom n s marks .state)
 verified n s marks = verify-elim (λ (x : State). Unit {0}) (λ (k : Core). Coded (k .state)) (λ n s u. tt) (λ e s u. end-coded e _) n s marks tt
 
-erases : (n : ℕ) (s : State) (store marks : List ℕ) → Coded (eraseFrom n s store marks .result .state)
-erases n s store marks =
-    erase-elim (λ (x : State) (st mk : List ℕ). Unit {0}) (λ (k : Left Core). Coded (k .result .state)) (λ s st mk u. tt) (λ n s st mk u. tt) (λ e s st mk u. end-coded e _) n s store marks tt
+erased : (n : ℕ) (s : State) (store marks : List ℕ) → Coded (eraseFrom n s store marks .outcome .state)
+erased n s store marks =
+    erase-elim (λ (x : State) (st mk : List ℕ). Unit {0}) (λ (k : Left Core StoreMarks). Coded (k .outcome .state)) (λ s st mk u. tt) (λ n s st mk u. tt) (λ e s st mk u. end-coded e _) n s store marks tt
 
 -- ---- the table
 
@@ -107,7 +109,7 @@ obeys : (c : Command) (s : State) (m : Machine) → Coded (obeyed c s m .state)
 obeys Read s m = read-sector _ _
 obeys Write s m = ask-sector _ First s
 obeys Verify s m = verified _ s (m .marks)
-obeys Erase s m = erases _ s (m .store) (m .marks)
+obeys Erase s m = erased _ s (m .store) (m .marks)
 obeys Identify s m = begun-coded _
 obeys ReadBuffer s m = begun-coded _
 obeys WriteBuffer s m = begun-coded _

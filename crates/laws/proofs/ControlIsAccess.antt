@@ -14,7 +14,7 @@ use Rattle.maps.specs.declared.Register.the-variants.{AlternateControl}
 use Rattle.maps.specs.declared.Target.the-variants.{Named}
 use Rattle.maps.specs.declared.Standing.the-variants.{There}
 use Rattle.maps.specs.Spaces.{cardAnswers, answersAt}
-use Rattle.maps.specs.Offsets.{memoryAt, contiguousAt, within, windowAt, ioAt, offsetAt}
+use Rattle.maps.specs.Offsets.{memoryAt, contiguousAt, windowAt, ioAt, offsetAt}
 use Rattle.maps.specs.Places.{registerPlace, mapPlace, placeAt}
 use Rattle.maps.specs.Rows.{misfits, standsAt}
 use Rattle.maps.proofs.Standings.{stands-known}
@@ -77,8 +77,9 @@ control-is-access c store marks a r s k t = control-by (wellMade (c .phase) (c .
 
 -- offset E of each map is reached
 control-stands : (mode : Mode) (index v : ℕ) → index ≤ 3 → v < 256 →
-    standsAt mode index (record { space = controlSpace mode index; width = 1; write = true; address = controlAddress mode index; value = v }) ≡ There (Named AlternateControl)
-unfolding controlSpace controlAddress answersAt cardAnswers standsAt placeAt mapPlace registerPlace offsetAt memoryAt contiguousAt ioAt within windowAt misfits
+    standsAt mode index (record { space = controlSpace mode index; width = 1; address = controlAddress mode index; value = v; write = true }) ≡ There (Named AlternateControl)
+unfolding controlSpace controlAddress answersAt cardAnswers standsAt placeAt mapPlace registerPlace offsetAt memoryAt contiguousAt ioAt
+    windowAt misfits
 control-stands TrueIde index v i l = rw (le-ltb 255 v (omega arith))
 control-stands PcCard zero v i l = rw (le-ltb 255 v (omega arith))
 control-stands PcCard (suc zero) v i l = rw (le-ltb 255 v (omega arith))

@@ -8,7 +8,6 @@ use lib.Dec.{ltb, eqb}
 use lib.ListN.{length, getD, set, replicate}
 use lib.Seq.{getD-set-same, getD-set-other}
 use borrow.Author.Tests.{ltb-true, eqb-true, eqb-false, ne-eqb}
-use Rattle.ground.specs.Left.{Left}
 use Rattle.ground.specs.Choice.{pick}
 use Rattle.ground.proofs.Picks.{pick-elim}
 use Rattle.geometry.specs.declared.Spot.{Spot}
@@ -17,14 +16,13 @@ use Rattle.geometry.specs.Next.{nextOf}
 use Rattle.sectors.specs.Marks.{writable}
 use Rattle.sectors.specs.Sectors.{StoreMarks, storeMarks, stored}
 use Rattle.registers.specs.declared.State.{State}
-use Rattle.registers.specs.declared.Core.{Core}
 use Rattle.registers.specs.State.{totalIn, locatedIn}
 use Rattle.transfers.specs.declared.End.the-variants.{WriteFault}
 use Rattle.transfers.specs.declared.Tested.the-variants.{Passes, Fails}
 use Rattle.transfers.specs.Before.{testedOf, addressTest, markTested, sectorTest, sectorStored}
 use Rattle.transfers.specs.Steps.{sectorDone}
 use Rattle.commands.specs.Runs.{allFF, eraseFrom}
-use Rattle.laws.specs.Changes.{Change, changed, writes, erasures}
+use Rattle.laws.specs.Changes.{Change, changed, sectorChanges, erasures}
 use Rattle.kept.proofs.Runs.{erasesOn}
 
 -- ---- a stored sector's mark is 0, and so it can be written as before
@@ -49,16 +47,13 @@ same-stored store marks marks0 bytes i h w =
 
 -- ---- one sector, and the rest
 
-abbrev storeMarksOf : Left Core → StoreMarks
-storeMarksOf e = storeMarks (e .store) (e .marks)
-
 -- the rest of the run, from whatever store and marks
 abbrev Rest : ℕ → State → List Change → List ℕ → List ℕ → Type 0
-Rest n s rest store marks = storeMarksOf (eraseFrom n s store marks) ≡ changed rest (storeMarks store marks)
+Rest n s rest store marks = eraseFrom n s store marks .next ≡ changed rest (storeMarks store marks)
 
 by-mark : (b : Bool) (spot : Spot) (n : ℕ) (s : State) (store marks marks0 : List ℕ) (rest : List Change) →
     SameWritable marks marks0 → writable (getD marks (spot .index) 0) ≡ b → ((st mk : List ℕ) → SameWritable mk marks0 → Rest n (sectorDone n s) rest st mk) →
-    storeMarksOf (erasesOn (pick b (Passes spot) (Fails WriteFault)) n s store marks)
+    erasesOn (pick b (Passes spot) (Fails WriteFault)) n s store marks .next
     ≡ changed (pick b (record { index = spot .index; bytes = replicate 512 0xFF } ∷ rest) []) (storeMarks store marks)
 unfolding changed allFF
 by-mark true spot n s store marks marks0 rest h w f = f _ _ (same-stored store marks marks0 (replicate 512 0xFF) (spot .index) h w)
@@ -66,7 +61,7 @@ by-mark false spot n s store marks marks0 rest h w f = refl
 
 by-address : (l : Located) (n : ℕ) (s : State) (store marks marks0 : List ℕ) (rest : List Change) →
     SameWritable marks marks0 → ((st mk : List ℕ) → SameWritable mk marks0 → Rest n (sectorDone n s) rest st mk) →
-    storeMarksOf (erasesOn (markTested writable WriteFault (testedOf l) marks) n s store marks) ≡ changed (writes l marks0 (replicate 512 0xFF) rest) (storeMarks store marks)
+    erasesOn (markTested writable WriteFault (testedOf l) marks) n s store marks .next ≡ changed (sectorChanges l marks0 (replicate 512 0xFF) rest) (storeMarks store marks)
 unfolding changed
 by-address (Located.Good spot) n s store marks marks0 rest h f =
     by-mark (writable (getD marks (spot .index) 0)) spot n s store marks marks0 rest h refl f ∙
@@ -92,5 +87,5 @@ erased-sectors (suc n) s store marks marks0 h =
     (λ st mk g. subst (λ (r : List Change). Rest n (sectorDone n s) r st mk) (next-address n s marks0) (erased-sectors n (sectorDone n s) st mk marks0 g))
 
 pub erase-kept : (n : ℕ) (s : State) (store marks : List ℕ) →
-    storeMarks (eraseFrom n s store marks .store) (eraseFrom n s store marks .marks) ≡ changed (erasures n (s .registers .address) (s .current) (totalIn s) marks) (storeMarks store marks)
+    eraseFrom n s store marks .next ≡ changed (erasures n (s .registers .address) (s .current) (totalIn s) marks) (storeMarks store marks)
 erase-kept n s store marks = erased-sectors n s store marks marks (λ j. refl)

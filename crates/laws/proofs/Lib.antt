@@ -5,10 +5,10 @@ pub mod OnlyOne
 pub mod CodedEnds
 pub mod CodedSteps
 pub mod Coded
-pub mod MarkLaws
-pub mod MarkEnds
-pub mod MarkData
-pub mod MarkRule
+pub mod InterruptLaws
+pub mod InterruptEnds
+pub mod InterruptData
+pub mod InterruptRule
 pub mod LineRule
 pub mod ErasedSectors
 pub mod WrittenSectors

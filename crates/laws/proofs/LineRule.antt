@@ -19,9 +19,9 @@ use Rattle.card.specs.Doors.{answered, optionAnswered, controlAnswered}
 use Rattle.kept.proofs.DoorElim.{optionCard, opened-elim, option-elim, control-elim}
 use Rattle.laws.specs.Line.{lineUp}
 
-by-mask : (masked mark : Bool) → pick masked false mark ≡ (mark && not masked)
-by-mask true mark = sym (and-false mark)
-by-mask false mark = sym (and-true mark)
+by-mask : (masked interrupt : Bool) → pick masked false interrupt ≡ (interrupt && not masked)
+by-mask true interrupt = sym (and-false interrupt)
+by-mask false interrupt = sym (and-true interrupt)
 
 line-of : (s : State) → lineOf s ≡ lineUp s
 line-of s = by-mask (s .control .masked) (s .interrupt)

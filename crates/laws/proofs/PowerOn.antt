@@ -27,7 +27,8 @@ use Rattle.card.specs.declared.Answer.{Answer}
 use Rattle.card.specs.Opening.{powered, modeOf, openRefused, opened}
 use Rattle.card.specs.Doors.{machineOf}
 use Rattle.kept.proofs.DoorElim.{opened-elim}
-use Rattle.laws.specs.Turns.{bitSeven, bitTwo, bitOne, powerOnValue, ReadsPowerOn}
+use Rattle.laws.specs.Bits.{bitSeven, bitTwo, bitOne}
+use Rattle.laws.specs.Turns.{powerOnValue, ReadsPowerOn}
 use Rattle.laws.proofs.Turns.{sreset-left, control-left}
 
 -- with any map setting, mask and buffer, and whatever is lent

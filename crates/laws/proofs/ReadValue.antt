@@ -3,6 +3,7 @@ use Prim.Native.Nat.{ℕ}
 use mathlib.Core.Path.{_≡_, refl, sym, ap, _∙_}
 use mathlib.Core.Bool.{false}
 use Rattle.ground.specs.Choice.{pick}
+use Rattle.ground.specs.Rows.{firstOf}
 use Rattle.answers.specs.declared.Refusal.the-variants.{HeldBySreset}
 use Rattle.maps.specs.declared.Target.the-variants.{Tuple, Option, Named, Data}
 use Rattle.maps.specs.declared.Standing.{Standing}
@@ -13,10 +14,11 @@ use Rattle.registers.specs.declared.State.{State}
 use Rattle.registers.specs.State.{indexIn}
 use Rattle.registers.specs.Machine.{Machine}
 use Rattle.card.specs.declared.Meaning.{Meaning}
-use Rattle.card.specs.Access.{Asked, askedWith, standing, heldAway, decided, verdictOf, meantBy, meaning}
+use Rattle.card.specs.Access.{Asked, askedWith, standing, heldAway, lentTable, decided, meaning}
 use Rattle.card.specs.Perform.{perform}
 use Rattle.card.specs.Step.{step}
 use Rattle.card.proofs.Decided.{stands, decided-as}
+use Rattle.card.proofs.Verdicts.{meaning-as}
 
 -- what is asked with another value, all else the same
 abbrev valued : ℕ → Asked → Asked
@@ -37,8 +39,10 @@ decided-read s v a e =
 
 -- a read means the same
 pub read-means : (m : Machine) (a : Asked) (v : ℕ) → a .access .write ≡ false → meaning m (askedWith (withValue v (a .access)) (a .tuples)) ≡ meaning m a
-unfolding meaning
-read-means m a v e = ap (meantBy (verdictOf (m .phase) (m .state) (m .store) (m .marks) (a .tuples))) (decided-read (m .state) v a e)
+read-means m a v e =
+    meaning-as m (valued v a)
+    ∙ ap (firstOf (lentTable (m .phase) (m .state) (m .store) (m .marks) (a .tuples)) Meaning.Refused) (decided-read (m .state) v a e)
+    ∙ sym (meaning-as m a)
 
 -- and so it answers and leaves the same: outcome and machine
 pub read-value-free : (m : Machine) (a : Asked) (v : ℕ) → a .access .write ≡ false → step m (askedWith (withValue v (a .access)) (a .tuples)) ≡ step m a

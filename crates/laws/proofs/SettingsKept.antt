@@ -4,6 +4,7 @@ use mathlib.Core.Path.{_≡_, refl, _∙_}
 use mathlib.Core.List.{List}
 use lib.Dec.{eqb}
 use Rattle.ground.specs.Left.{Left}
+use Rattle.sectors.specs.Sectors.{StoreMarks}
 use Rattle.ground.proofs.Picks.{pick-elim}
 use Rattle.geometry.specs.declared.Reshaped.{Reshaped}
 use Rattle.geometry.specs.Shape.{reshaped}
@@ -66,16 +67,16 @@ core-written (Fails e) left s = refl
 
 pub load-written : (l : Load) (m : Machine) → settingsOf (loadWritten l m .state) ≡ settingsOf (m .state)
 load-written Buffer m = refl
-load-written (Sectors left) m = core-written (sectorStored (m .state) (m .buffer) (m .store) (m .marks) .result) (left - 1) (m .state)
+load-written (Sectors left) m = core-written (sectorStored (m .state) (m .buffer) (m .store) (m .marks) .outcome) (left - 1) (m .state)
 
 -- ---- the command table
 
 verified : (n : ℕ) (s : State) (marks : List ℕ) → settingsOf (verifyFrom n s marks .state) ≡ settingsOf s
 verified n s marks = verify-elim (λ (x : State). settingsOf x ≡ settingsOf s) (λ (k : Core). settingsOf (k .state) ≡ settingsOf s) (λ n x h. done n x ∙ h) (λ e x h. h) n s marks refl
 
-erases : (n : ℕ) (s : State) (store marks : List ℕ) → settingsOf (eraseFrom n s store marks .result .state) ≡ settingsOf s
-erases n s store marks =
-    erase-elim (λ (x : State) (st mk : List ℕ). settingsOf x ≡ settingsOf s) (λ (k : Left Core). settingsOf (k .result .state) ≡ settingsOf s)
+erased : (n : ℕ) (s : State) (store marks : List ℕ) → settingsOf (eraseFrom n s store marks .outcome .state) ≡ settingsOf s
+erased n s store marks =
+    erase-elim (λ (x : State) (st mk : List ℕ). settingsOf x ≡ settingsOf s) (λ (k : Left Core StoreMarks). settingsOf (k .outcome .state) ≡ settingsOf s)
     (λ x st mk h. h) (λ n x st mk h. done n x ∙ h) (λ e x st mk h. h) n s store marks refl
 
 reshaped-ended : (r : Reshaped) (s : State) → settingsOf (reshapedEnded r s .state) ≡ settingsOf s
@@ -87,7 +88,7 @@ obeys : (c : Command) (s : State) (m : Machine) → settingsOf s ≡ settingsOf 
 obeys Read s m h = read-sector (countOf s) (idleWith s m) ∙ h
 obeys Write s m h = ask-sector (countOf s) First s ∙ h
 obeys Verify s m h = verified (countOf s) s (m .marks) ∙ h
-obeys Erase s m h = erases (countOf s) s (m .store) (m .marks) ∙ h
+obeys Erase s m h = erased (countOf s) s (m .store) (m .marks) ∙ h
 obeys Identify s m h = h
 obeys ReadBuffer s m h = h
 obeys WriteBuffer s m h = h

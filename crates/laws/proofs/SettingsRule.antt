@@ -20,7 +20,7 @@ use Rattle.card.specs.Perform.{optionWritten, plainCore, registerWritten, perfo
 use Rattle.card.specs.Step.{step}
 use Rattle.kept.proofs.RegisterElim.{read-elim, set-elim, plain-elim}
 use Rattle.kept.proofs.DataElim.{partCome, data-read-elim, data-written-elim}
-use Rattle.laws.specs.Turns.{bitSeven, bitTwo, bitOne}
+use Rattle.laws.specs.Bits.{bitSeven, bitTwo, bitOne}
 use Rattle.laws.specs.Settings.{settingsOf, released, settingsAfter}
 use Rattle.laws.proofs.SettingsKept.{load-read, load-written, commanded}
 

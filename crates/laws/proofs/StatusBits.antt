@@ -11,9 +11,10 @@ use Rattle.maps.specs.declared.Register.the-variants.{StatusCommand}
 use Rattle.registers.specs.declared.Phase.{Phase}
 use Rattle.registers.specs.declared.Phase.the-variants.{Idle, DataIn, DataOut}
 use Rattle.registers.specs.declared.State.{State}
+use Rattle.registers.specs.Status.{idleStatus, dataStatus, errorStatus, faultStatus}
 use Rattle.registers.specs.State.{sresetIn, runs}
 use Rattle.registers.specs.Machine.{Machine}
-use Rattle.registers.specs.WellMade.{atRest, statusFits, heldIn, holdFits, wellMade}
+use Rattle.registers.specs.WellMade.{atRest, statusFits, inReset, holdFits, wellMade}
 use Rattle.registers.specs.Values.{valueRead}
 use Rattle.card.specs.declared.Meaning.{Meaning}
 use Rattle.card.specs.declared.Meaning.the-variants.{ReadRegister}
@@ -26,23 +27,23 @@ use Rattle.laws.specs.Bits.{bsy, rdy, dwf, dsc, drq, err}
 use Rattle.laws.proofs.Meant.{well-meant}
 
 -- what holds of each of the four, with whether a transfer runs, holds of Status
-at-rest : (P : ℕ → Type 0) (status : ℕ) → atRest status ≡ true → P 0x50 → P 0x51 → P 0x71 → P status
+at-rest : (P : ℕ → Type 0) (status : ℕ) → atRest status ≡ true → P idleStatus → P errorStatus → P faultStatus → P status
 unfolding atRest
 at-rest P status h a b c =
-    pick-elim (λ (t : Bool). t ≡ true → P status) (eqb status 0x50) _ _
-    (λ e i. subst P (sym (eqb-true status 0x50 e)) a)
-    (λ n. pick-elim (λ (t : Bool). t ≡ true → P status) (eqb status 0x51) _ _
-    (λ e i. subst P (sym (eqb-true status 0x51 e)) b)
-    (λ n i. subst P (sym (eqb-true status 0x71 i)) c))
+    pick-elim (λ (t : Bool). t ≡ true → P status) (eqb status idleStatus) _ _
+    (λ e i. subst P (sym (eqb-true status idleStatus e)) a)
+    (λ n. pick-elim (λ (t : Bool). t ≡ true → P status) (eqb status errorStatus) _ _
+    (λ e i. subst P (sym (eqb-true status errorStatus e)) b)
+    (λ n i. subst P (sym (eqb-true status faultStatus i)) c))
     h
 
-status-elim : (P : ℕ → Bool → Type 0) (p : Phase) (status : ℕ) → statusFits p status ≡ true → P 0x50 false → P 0x58 true → P 0x51 false → P 0x71 false → P status (runs p)
+status-elim : (P : ℕ → Bool → Type 0) (p : Phase) (status : ℕ) → statusFits p status ≡ true → P idleStatus false → P dataStatus true → P errorStatus false → P faultStatus false → P status (runs p)
 unfolding statusFits
 status-elim P Idle status h a d b c = at-rest (λ (n : ℕ). P n false) status h a b c
-status-elim P (DataIn t) status h a d b c = subst (λ (n : ℕ). P n true) (sym (eqb-true status 0x58 h)) d
-status-elim P (DataOut t) status h a d b c = subst (λ (n : ℕ). P n true) (sym (eqb-true status 0x58 h)) d
+status-elim P (DataIn t) status h a d b c = subst (λ (n : ℕ). P n true) (sym (eqb-true status dataStatus h)) d
+status-elim P (DataOut t) status h a d b c = subst (λ (n : ℕ). P n true) (sym (eqb-true status dataStatus h)) d
 
-made-elim : (P : ℕ → Bool → Type 0) (p : Phase) (s : State) → wellMade p s ≡ true → P 0x50 false → P 0x58 true → P 0x51 false → P 0x71 false → P (s .registers .status) (runs p)
+made-elim : (P : ℕ → Bool → Type 0) (p : Phase) (s : State) → wellMade p s ≡ true → P idleStatus false → P dataStatus true → P errorStatus false → P faultStatus false → P (s .registers .status) (runs p)
 made-elim P p s e = status-elim P p (s .registers .status) (apart p s e .1 .0)
 
 -- DRQ is set exactly while a transfer runs
@@ -53,8 +54,8 @@ drq-runs p s e = made-elim (λ (n : ℕ) (b : Bool). drq n ≡ b) p s e refl ref
 pub err-error : (p : Phase) (s : State) → wellMade p s ≡ true → err (s .registers .status) ≡ inError (s .registers .status)
 err-error p s e = made-elim (λ (n : ℕ) (b : Bool). err n ≡ inError n) p s e refl refl refl refl
 
-pub dwf-fault : (p : Phase) (s : State) → wellMade p s ≡ true → dwf (s .registers .status) ≡ eqb (s .registers .status) 0x71
-dwf-fault p s e = made-elim (λ (n : ℕ) (b : Bool). dwf n ≡ eqb n 0x71) p s e refl refl refl refl
+pub dwf-fault : (p : Phase) (s : State) → wellMade p s ≡ true → dwf (s .registers .status) ≡ eqb (s .registers .status) faultStatus
+dwf-fault p s e = made-elim (λ (n : ℕ) (b : Bool). dwf n ≡ eqb n faultStatus) p s e refl refl refl refl
 
 -- the others stay
 pub others-stay : (p : Phase) (s : State) → wellMade p s ≡ true →
@@ -74,10 +75,10 @@ held-by true b e = refl
 held-by false b e = e
 
 drq-value : (p : Phase) (s : State) → wellMade p s ≡ true → drq (valueRead StatusCommand p s) ≡ runs p
-unfolding valueRead heldIn
+unfolding valueRead inReset
 drq-value p s e =
     pick-elim (λ (n : ℕ). drq n ≡ runs p) (s .control .held) _ _
-    (λ h. sym (held-rests p (heldIn s) (apart p s e .1 .1) (held-by (sresetIn (s .option)) (s .control .held) h)))
+    (λ h. sym (held-rests p (inReset s) (apart p s e .1 .1) (held-by (sresetIn (s .option)) (s .control .held) h)))
     (λ h. drq-runs p s e)
 
 pub meant-drq : (m : Machine) → wellMade (m .phase) (m .state) ≡ true → drq (outcomeValue (perform (ReadRegister StatusCommand) m .outcome)) ≡ runs (m .phase)

@@ -5,12 +5,11 @@ use mathlib.Core.Bool.{Bool, true, false}
 use mathlib.Core.List.{List, [], _∷_}
 use lib.Dec.{ltb}
 use lib.ListN.{getD}
-use Rattle.ground.specs.Left.{Left}
 use Rattle.ground.specs.Choice.{pick}
 use Rattle.geometry.specs.declared.Spot.{Spot}
 use Rattle.geometry.specs.declared.Located.{Located}
 use Rattle.sectors.specs.Marks.{writable}
-use Rattle.sectors.specs.Sectors.{StoreMarks, storeMarks}
+use Rattle.sectors.specs.Sectors.{storeMarks}
 use Rattle.maps.specs.declared.Port.{Port}
 use Rattle.registers.specs.declared.Load.{Load}
 use Rattle.registers.specs.declared.Load.the-variants.{Sectors, Buffer}
@@ -20,26 +19,24 @@ use Rattle.registers.specs.declared.Phase.the-variants.{Idle, DataIn, DataOut}
 use Rattle.registers.specs.State.{locatedIn}
 use Rattle.registers.specs.Machine.{Machine, withBuffer}
 use Rattle.transfers.specs.declared.End.the-variants.{WriteFault}
-use Rattle.transfers.specs.declared.Tested.{Tested}
 use Rattle.transfers.specs.declared.Tested.the-variants.{Passes, Fails}
+use Rattle.port.specs.declared.Fill.the-variants.{Begun, Whole}
 use Rattle.port.specs.declared.Take.{Take}
 use Rattle.transfers.specs.Before.{testedOf, addressTest, markTested, sectorTest, storedBy, sectorStored}
 use Rattle.transfers.specs.Steps.{loadWritten, allMoved}
 use Rattle.port.specs.Halves.{takeOf, withPart}
 use Rattle.port.specs.Data.{wordWritten, takenWritten, phaseWritten}
-use Rattle.laws.specs.Changes.{changed, storeMarksIn, writes, loadChanges, takenChanges, phaseChanges}
-
-abbrev storeMarksOf : Left Tested → StoreMarks
-storeMarksOf k = storeMarks (k .store) (k .marks)
+use Rattle.kept.specs.Lent.{storeMarksIn}
+use Rattle.laws.specs.Changes.{changed, sectorChanges, loadChanges, takenChanges, phaseChanges}
 
 by-mark : (b : Bool) (spot : Spot) (bytes store marks : List ℕ) →
-    storeMarksOf (storedBy (pick b (Passes spot) (Fails WriteFault)) bytes store marks) ≡ changed (pick b (record { index = spot .index; bytes = bytes } ∷ []) []) (storeMarks store marks)
+    storedBy (pick b (Passes spot) (Fails WriteFault)) bytes store marks .next ≡ changed (pick b (record { index = spot .index; bytes = bytes } ∷ []) []) (storeMarks store marks)
 unfolding changed
 by-mark true spot bytes store marks = refl
 by-mark false spot bytes store marks = refl
 
 by-address : (l : Located) (bytes store marks : List ℕ) →
-    storeMarksOf (storedBy (markTested writable WriteFault (testedOf l) marks) bytes store marks) ≡ changed (writes l marks bytes []) (storeMarks store marks)
+    storedBy (markTested writable WriteFault (testedOf l) marks) bytes store marks .next ≡ changed (sectorChanges l marks bytes []) (storeMarks store marks)
 unfolding changed
 by-address (Located.Good spot) bytes store marks = by-mark (writable (getD marks (spot .index) 0)) spot bytes store marks
 by-address Located.BadHeadOrSector bytes store marks = refl
@@ -60,8 +57,8 @@ by-word false l bytes m x e = load-written l bytes m
 taken-written : (k : Take) (v : ℕ) (t : Transfer) (m : Machine) → storeMarksIn (takenWritten k v t m .next) ≡ changed (takenChanges k v t m) (storeMarksIn m)
 unfolding changed wordWritten
 taken-written Take.Refused v t m = refl
-taken-written (Take.Moves part false) v t m = refl
-taken-written (Take.Moves part true) v t m = by-word (ltb (t .words) 255) (t .load) (withPart part (t .words) v (m .buffer)) m _ refl
+taken-written (Take.Moves part Begun) v t m = refl
+taken-written (Take.Moves part Whole) v t m = by-word (ltb (t .words) 255) (t .load) (withPart part (t .words) v (m .buffer)) m _ refl
 
 pub phase-written : (p : Phase) (port : Port) (v : ℕ) (m : Machine) → storeMarksIn (phaseWritten p port v m .next) ≡ changed (phaseChanges p port v m) (storeMarksIn m)
 unfolding changed

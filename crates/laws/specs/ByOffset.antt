@@ -14,7 +14,7 @@ use Rattle.registers.specs.Machine.{Machine}
 use Rattle.port.specs.Data.{accepted}
 use Rattle.card.specs.Access.{Asked}
 use Rattle.card.specs.Step.{step}
-use Rattle.laws.specs.Holds.{byteInHold, offsetOf, unmarked}
+use Rattle.laws.specs.Holds.{byteInHold, offsetOf, interruptCleared}
 use Rattle.laws.specs.Turns.{goingOnWith}
 
 -- ---- reads
@@ -50,7 +50,7 @@ ReadTable m =
     × Reads m 4 (r .address .low) m
     × Reads m 5 (r .address .high) m
     × Reads m 6 (0xA0 + headStored (r .address .head)) m
-    × Reads m 7 (r .status) (unmarked m)
+    × Reads m 7 (r .status) (interruptCleared m)
     × Reads m 0xE (r .status) m
     × Reads m 0xF (driveAddressOf (m .phase) (r .address .head)) m
 

@@ -7,6 +7,7 @@ use mathlib.Core.List.{List, [], _∷_}
 use lib.Dec.{ltb}
 use lib.ListN.{length, getD, replicate}
 use Rattle.ground.specs.Choice.{pick}
+use Rattle.ground.specs.Sizes.{sectorBytes, lastWord}
 use Rattle.geometry.specs.declared.Address.{Address}
 use Rattle.geometry.specs.declared.Geometry.{Geometry}
 use Rattle.geometry.specs.declared.Located.{Located}
@@ -14,7 +15,7 @@ use Rattle.geometry.specs.declared.Located.the-variants.{Good, BadHeadOrSector,
 use Rattle.geometry.specs.Address.{locate}
 use Rattle.geometry.specs.Next.{nextOf}
 use Rattle.sectors.specs.Marks.{writable}
-use Rattle.sectors.specs.Sectors.{StoreMarks, storeMarks, stored}
+use Rattle.sectors.specs.Sectors.{StoreMarks, stored}
 use Rattle.maps.specs.declared.Port.{Port}
 use Rattle.maps.specs.declared.Register.{Register}
 use Rattle.maps.specs.declared.Register.the-variants.{ErrorFeature, SectorCount, SectorNumber, CylinderLow, CylinderHigh, DriveHead, StatusCommand, AlternateControl, DriveAddress}
@@ -26,6 +27,7 @@ use Rattle.registers.specs.declared.Phase.the-variants.{Idle, DataIn, DataOut}
 use Rattle.registers.specs.declared.State.{State}
 use Rattle.registers.specs.State.{totalIn, locatedIn}
 use Rattle.registers.specs.Machine.{Machine}
+use Rattle.port.specs.declared.Fill.the-variants.{Begun, Whole}
 use Rattle.port.specs.declared.Take.{Take}
 use Rattle.commands.specs.declared.Command.{Command}
 use Rattle.commands.specs.declared.Command.the-variants.{Read, Write, Verify, Erase, Identify, ReadBuffer, WriteBuffer, SetGeometry, Diagnose, Recalibrate, Seek, Sense, Other}
@@ -44,25 +46,22 @@ unfoldable pub changed : List Change → StoreMarks → StoreMarks
 changed [] k = k
 changed (c ∷ l) k = changed l (stored (k .store) (k .marks) (c .index) (c .bytes))
 
-abbrev pub storeMarksIn : Machine → StoreMarks
-storeMarksIn m = storeMarks (m .store) (m .marks)
-
 -- each is one of the card's sectors, and whole
-abbrev pub Whole : ℕ → List Change → Type 0
-Whole total [] = Unit {0}
-Whole total (c ∷ l) = (c .index < total) × (length (c .bytes) ≡ 512) × Whole total l
+abbrev pub WholeSectors : ℕ → List Change → Type 0
+WholeSectors total [] = Unit {0}
+WholeSectors total (c ∷ l) = (c .index < total) × (length (c .bytes) ≡ sectorBytes) × WholeSectors total l
 
 -- the sector of an address, where there is one and its mark lets it be written, and what comes after it
-abbrev pub writes : Located → List ℕ → List ℕ → List Change → List Change
-writes (Good spot) marks bytes rest = pick (writable (getD marks (spot .index) 0)) (record { index = spot .index; bytes = bytes } ∷ rest) []
-writes BadHeadOrSector marks bytes rest = []
-writes BadCylinder marks bytes rest = []
-writes BadLba marks bytes rest = []
+abbrev pub sectorChanges : Located → List ℕ → List ℕ → List Change → List Change
+sectorChanges (Good spot) marks bytes rest = pick (writable (getD marks (spot .index) 0)) (record { index = spot .index; bytes = bytes } ∷ rest) []
+sectorChanges BadHeadOrSector marks bytes rest = []
+sectorChanges BadCylinder marks bytes rest = []
+sectorChanges BadLba marks bytes rest = []
 
 -- C0H: sector after sector, until none is left or one cannot be written
 unfoldable pub erasures : ℕ → Address → Geometry → ℕ → List ℕ → List Change
 erasures zero a g total marks = []
-erasures (suc n) a g total marks = writes (locate a g total) marks (replicate 512 0xFF) (erasures n (nextOf a g) g total marks)
+erasures (suc n) a g total marks = sectorChanges (locate a g total) marks (replicate sectorBytes 0xFF) (erasures n (nextOf a g) g total marks)
 
 abbrev pub commandChanges : Command → State → List ℕ → List Change
 commandChanges Read s marks = []
@@ -94,13 +93,13 @@ registerChanges DriveAddress v m = []
 -- the sector of the address registers, in a transfer of sectors and not of the buffer
 abbrev pub loadChanges : Load → List ℕ → Machine → List Change
 loadChanges Buffer bytes m = []
-loadChanges (Sectors left) bytes m = writes (locatedIn (m .state)) (m .marks) bytes []
+loadChanges (Sectors left) bytes m = sectorChanges (locatedIn (m .state)) (m .marks) bytes []
 
 -- a write that makes the last of the 256 words whole stores the buffer, with what it writes in it
 abbrev pub takenChanges : Take → ℕ → Transfer → Machine → List Change
 takenChanges Take.Refused v t m = []
-takenChanges (Take.Moves part false) v t m = []
-takenChanges (Take.Moves part true) v t m = pick (ltb (t .words) 255) [] (loadChanges (t .load) (withPart part (t .words) v (m .buffer)) m)
+takenChanges (Take.Moves part Begun) v t m = []
+takenChanges (Take.Moves part Whole) v t m = pick (ltb (t .words) lastWord) [] (loadChanges (t .load) (withPart part (t .words) v (m .buffer)) m)
 
 abbrev pub phaseChanges : Phase → Port → ℕ → Machine → List Change
 phaseChanges Idle port v m = []

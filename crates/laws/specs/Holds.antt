@@ -45,8 +45,8 @@ dataInHold Port.Odd = byteInHold
 dataInHold Port.Word = 0x8080
 
 -- the interrupt mark is "cleared … by reading Status"; nothing else changes by reading a register
-abbrev pub unmarked : Machine → Machine
-unmarked m = withCore (core (m .phase) (withInterrupt false (m .state))) m
+abbrev pub interruptCleared : Machine → Machine
+interruptCleared m = withCore (core (m .phase) (withInterrupt false (m .state))) m
 
 abbrev pub afterReading : Register → Machine → Machine
 afterReading ErrorFeature m = m
@@ -55,7 +55,7 @@ afterReading SectorNumber m = m
 afterReading CylinderLow m = m
 afterReading CylinderHigh m = m
 afterReading DriveHead m = m
-afterReading StatusCommand m = unmarked m
+afterReading StatusCommand m = interruptCleared m
 afterReading AlternateControl m = m
 afterReading DriveAddress m = m
 

@@ -1,7 +1,7 @@
 pub mod Unchanged
 pub mod Coded
 pub mod Acts
-pub mod Mark
+pub mod Interrupt
 pub mod Line
 pub mod Changes
 pub mod MayChange

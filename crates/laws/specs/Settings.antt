@@ -17,7 +17,7 @@ use Rattle.card.specs.Access.{Asked}
 use Rattle.card.specs.Step.{step}
 use Rattle.card.specs.Rows.{atOption, offsetIn}
 use Rattle.laws.specs.Holds.{offsetOf}
-use Rattle.laws.specs.Turns.{bitSeven, bitTwo, bitOne}
+use Rattle.laws.specs.Bits.{bitSeven, bitTwo, bitOne}
 
 pub record Settings : Type 0 where
   pub option : ℕ

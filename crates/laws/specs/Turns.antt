@@ -1,13 +1,13 @@
 -- The machine after each of the two resets is entered, left, or stays as it was: 01, "Maps" (Configuration Option) and "Registers" (Device Control).
-use Prim.Native.Nat.{ℕ, _/_, _%_}
+use Prim.Native.Nat.{ℕ}
 use mathlib.Core.Path.{_≡_}
-use mathlib.Core.Bool.{Bool, true, false}
-use lib.Dec.{eqb, leb}
+use mathlib.Core.Bool.{true, false}
 use Rattle.ground.specs.Choice.{pick}
 use Rattle.answers.specs.declared.Outcome.{Outcome}
 use Rattle.maps.specs.declared.Register.{Register}
 use Rattle.maps.specs.declared.Register.the-variants.{ErrorFeature, SectorCount, SectorNumber, CylinderLow, CylinderHigh, DriveHead, StatusCommand, AlternateControl, DriveAddress}
 use Rattle.registers.specs.declared.State.{State}
+use Rattle.registers.specs.Status.{idleStatus}
 use Rattle.registers.specs.State.{runs, withStatus, withInterrupt, withOption, withControl}
 use Rattle.registers.specs.Machine.{Machine, core, withCore}
 use Rattle.transfers.specs.Steps.{idleWith}
@@ -17,16 +17,7 @@ use Rattle.card.specs.Access.{Asked, meaning}
 use Rattle.card.specs.Step.{step}
 use Rattle.card.specs.Opening.{powered}
 use Rattle.card.specs.Doors.{machineOf}
-
--- "bit 7 SRESET"; "Device Control bit 2 set", "Bit 1 masks the interrupt line"
-abbrev pub bitSeven : ℕ → Bool
-bitSeven v = leb 128 v
-
-abbrev pub bitTwo : ℕ → Bool
-bitTwo v = eqb (v / 4 % 2) 1
-
-abbrev pub bitOne : ℕ → Bool
-bitOne v = eqb (v / 2 % 2) 1
+use Rattle.laws.specs.Bits.{bitOne}
 
 -- the card that the opening made, at power-on
 abbrev pub poweredOf : Machine → Card
@@ -40,8 +31,8 @@ powerOnValue SectorNumber = 1
 powerOnValue CylinderLow = 0
 powerOnValue CylinderHigh = 0
 powerOnValue DriveHead = 0xA0
-powerOnValue StatusCommand = 0x50
-powerOnValue AlternateControl = 0x50
+powerOnValue StatusCommand = idleStatus
+powerOnValue AlternateControl = idleStatus
 powerOnValue DriveAddress = 0x7E
 
 abbrev pub ReadsPowerOn : Machine → Type 0
@@ -53,7 +44,7 @@ goingOnWith s m = withCore (core (m .phase) s) m
 
 -- a reset is entered: "A reset that ends one leaves Status 50H"; the interrupt mark is "Cleared by entering or leaving a reset"; all else stays
 abbrev pub restingState : Machine → State
-restingState m = withInterrupt false (withStatus (pick (runs (m .phase)) 0x50 (m .state .registers .status)) (m .state))
+restingState m = withInterrupt false (withStatus (pick (runs (m .phase)) idleStatus (m .state .registers .status)) (m .state))
 
 -- ---- the Configuration Option Register
 

@@ -1,8 +1,9 @@
 -- 01, "Maps": the offset of an address in the map of its space and index.
 use Prim.Native.Nat.{ℕ, _+_, _-_, _%_}
 use lib.Dec.{eqb, leb}
-use mathlib.Core.Bool.{Bool, _&&_}
-use Rattle.ground.specs.Choice.{pick}
+use mathlib.Core.List.{[], _∷_}
+use Rattle.ground.specs.Choice.{pick, within}
+use Rattle.ground.specs.Tables.{Entry, lookup}
 
 -- an address's offset in its map; `Nowhere` at an address that the map does not list
 pub data Offset : Type 0 where
@@ -25,9 +26,6 @@ memoryAt address =
 unfoldable pub contiguousAt : ℕ → Offset
 contiguousAt address = pick (leb address 0x7FF) (At (address % 16)) Nowhere
 
-unfoldable pub within : ℕ → ℕ → ℕ → Bool
-within first last address = leb first address && leb address last
-
 -- first..last are offsets 0 and up, the two others E and F; nothing else is listed.
 unfoldable pub windowAt : ℕ → ℕ → ℕ → ℕ → ℕ → Offset
 windowAt first last alternate drive address =
@@ -39,15 +37,19 @@ windowAt first last alternate drive address =
 -- Index 2: 1F0H..1F7H, 3F6H, 3F7H. Index 3: 170H..177H, 376H, 377H. 3F6H/376H is offset E, 3F7H/377H offset F.
 unfoldable pub ioAt : ℕ → ℕ → Offset
 ioAt index address =
-    pick (eqb index 1) (contiguousAt address)
-    (pick (eqb index 2) (windowAt 0x1F0 0x1F7 0x3F6 0x3F7 address)
-    (pick (eqb index 3) (windowAt 0x170 0x177 0x376 0x377 address)
-    Nowhere))
+    lookup
+    (Entry.At 1 (contiguousAt address)
+    ∷ Entry.At 2 (windowAt 0x1F0 0x1F7 0x3F6 0x3F7 address)
+    ∷ Entry.At 3 (windowAt 0x170 0x177 0x376 0x377 address)
+    ∷ [])
+    index Nowhere
 
 -- True IDE (H): 00H..07H first select; 16H, 17H are offsets E, F.
 unfoldable pub offsetAt : ℕ → ℕ → ℕ → Offset
 offsetAt space index address =
-    pick (eqb space 1) (pick (eqb index 0) (memoryAt address) Nowhere)
-    (pick (eqb space 2) (ioAt index address)
-    (pick (eqb space 3) (windowAt 0x00 0x07 0x16 0x17 address)
-    Nowhere))
+    lookup
+    (Entry.At 1 (pick (eqb index 0) (memoryAt address) Nowhere)
+    ∷ Entry.At 2 (ioAt index address)
+    ∷ Entry.At 3 (windowAt 0x00 0x07 0x16 0x17 address)
+    ∷ [])
+    space Nowhere

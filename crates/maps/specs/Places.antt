@@ -14,6 +14,13 @@ use Rattle.maps.specs.declared.Place.the-variants.{Silent, Nothing, Byte
 use Rattle.maps.specs.Spaces.{answersAt}
 use Rattle.maps.specs.Offsets.{Offset, At, Nowhere, offsetAt}
 
+-- Attribute: even 000H..1FEH are tuple bytes 0..255 (read only); 200H the Configuration Option Register.
+unfoldable pub attributePlace : ℕ → Place
+attributePlace address =
+    pick (leb address 0x1FE) (pick (eqb (address % 2) 0) (Bytes (Tuple (address / 2))) Nothing)
+    (pick (eqb address 0x200) (Bytes Option)
+    Nothing)
+
 -- Offsets: 0, 8, 9 data, 0 and 8 even; 1 and D Error/Feature; 2 Sector Count; 3 Sector Number; 4, 5 Cylinder; 6 Drive/Head; 7 Status/Command;
 -- E Alternate Status/Device Control; F Drive Address. No register stands at A, B, C.
 abbrev pub registerTable : List (Entry Place)
@@ -39,13 +46,6 @@ registerPlace offset = lookup registerTable offset Nothing
 abbrev pub offsetPlace : Offset → Place
 offsetPlace (At offset) = registerPlace offset
 offsetPlace Nowhere = Nothing
-
--- Attribute: even 000H..1FEH are tuple bytes 0..255 (read only); 200H the Configuration Option Register.
-unfoldable pub attributePlace : ℕ → Place
-attributePlace address =
-    pick (leb address 0x1FE) (pick (eqb (address % 2) 0) (Bytes (Tuple (address / 2))) Nothing)
-    (pick (eqb address 0x200) (Bytes Option)
-    Nothing)
 
 -- Attribute memory is decided apart: it answers at every index; the other spaces only by the offset in their map.
 unfoldable pub mapPlace : ℕ → ℕ → ℕ → Place

@@ -5,6 +5,7 @@ use mathlib.Core.Bool.{Bool, true, false, not, _&&_}
 use mathlib.Core.List.{List, [], _∷_}
 use Rattle.ground.specs.Choice.{pick}
 use Rattle.ground.specs.Rows.{Row, When, firstOf}
+use Rattle.ground.specs.Tables.{At, lookup}
 use Rattle.answers.specs.declared.Refusal.{Refusal}
 use Rattle.answers.specs.declared.Refusal.the-variants.{SpaceSilent, NoRegister, WidthOrValue, IndexAboveThree}
 use Rattle.maps.specs.declared.Access.{Access}
@@ -17,10 +18,6 @@ use Rattle.maps.specs.declared.Place.the-variants.{Silent, Nothing, Byte
 use Rattle.maps.specs.declared.Standing.{Standing}
 use Rattle.maps.specs.declared.Standing.the-variants.{There, Refused}
 use Rattle.maps.specs.Places.{placeAt}
-
--- the access with another value, all else the same
-abbrev pub withValue : ℕ → Access → Access
-withValue v a = record { space = a .space; width = a .width; write = a .write; address = a .address; value = v }
 
 -- 7: the space does not answer
 abbrev pub silent : Place → Bool
@@ -42,7 +39,7 @@ unregistered Nothing write = true
 unregistered (Bytes target) write = tuplesAt target && write
 unregistered EvenData write = false
 
--- 9: width not 1 or 2; a word anywhere but an even data address; a byte write above 255
+-- 9: width not 1 or 2; a word anywhere but an even data address; a byte write above 255: by the width
 abbrev pub evenData : Place → Bool
 evenData Silent = false
 evenData Nothing = false
@@ -51,9 +48,11 @@ evenData EvenData = true
 
 unfoldable pub misfits : Bool → Access → Bool
 misfits even a =
-    pick (eqb (a .width) 1) (a .write && ltb 255 (a .value))
-    (pick (eqb (a .width) 2) (not even)
-    true)
+    lookup
+    (At 1 (a .write && ltb 255 (a .value))
+    ∷ At 2 (not even)
+    ∷ [])
+    (a .width) true
 
 -- 10: Configuration Option write with index above 3; the index is bits 5..0
 abbrev pub optionAt : Target → Bool
@@ -80,7 +79,7 @@ placeTable p a =
     ∷ When (option p && aboveThree a) IndexAboveThree
     ∷ []
 
--- what is moved there: at an even data address a word, or the even byte
+-- what is moved there: at an even data address a word, or the even byte; the first two places have a row above
 abbrev pub moved : Place → ℕ → Standing
 moved Silent width = Refused SpaceSilent
 moved Nothing width = Refused NoRegister
@@ -92,3 +91,7 @@ standsAs p a = firstOf (placeTable p a) Refused (moved p (a .width))
 
 unfoldable pub standsAt : Mode → ℕ → Access → Standing
 standsAt mode index a = standsAs (placeAt mode index a) a
+
+-- the access with another value, all else the same
+abbrev pub withValue : ℕ → Access → Access
+withValue v a = record { space = a .space; width = a .width; address = a .address; value = v; write = a .write }

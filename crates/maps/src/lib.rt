@@ -58,7 +58,7 @@ pub enum Place {
     EvenData,
 }
 
-// What an access to a space that answers comes to.
+// What an access finds: what is read or written there, or its refusal by row 7, 6, 9 or 10.
 pub enum Standing {
     There(Target),
     Refused(Refusal),

@@ -1,6 +1,7 @@
 // 01, "Maps": the offset of an address in its map. Where the map does not list the address it is A, at which no register stands.
 ghost use mathlib.Core.Path.{_≡_};
-ghost use Rattle.maps.specs.Offsets.{within, windowAt, memoryAt, contiguousAt, offsetNumber};
+ghost use Rattle.ground.specs.Choice.{within};
+ghost use Rattle.maps.specs.Offsets.{windowAt, memoryAt, contiguousAt, offsetNumber};
 
 // Index 0, memory.
 pub(crate) fn memory_at(address: u16) -> u16

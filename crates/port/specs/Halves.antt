@@ -1,6 +1,5 @@
 -- 01, "Data": what of a word an access moves.
 use Prim.Native.Nat.{ℕ, _+_, _*_, _/_, _%_}
-use mathlib.Core.Bool.{true, false}
 use mathlib.Core.List.{List}
 use lib.ListN.{getD, set}
 use Rattle.maps.specs.declared.Port.{Port}
@@ -8,22 +7,9 @@ use Rattle.registers.specs.declared.Half.{Half}
 use Rattle.registers.specs.declared.Transfer.{Transfer}
 use Rattle.port.specs.declared.Part.{Part}
 use Rattle.port.specs.declared.Part.the-variants.{Low, High, Both}
+use Rattle.port.specs.declared.Fill.the-variants.{Begun, Whole}
 use Rattle.port.specs.declared.Take.{Take}
 use Rattle.port.specs.declared.Take.the-variants.{Refused, Moves}
-
--- "Within a word nothing, the low half or the high half has moved."
--- "A byte at 0 or 8 moves the low half if it hasn't moved, else the high. A byte at 9 moves the high half, else refusal 11";
--- a word moves both, where nothing has moved. Beside the part: whether the word is whole with it.
-unfoldable pub takeOf : Half → Port → Take
-takeOf Half.Nothing Port.Even = Moves Low false
-takeOf Half.Nothing Port.Odd = Moves High false
-takeOf Half.Nothing Port.Word = Moves Both true
-takeOf Half.Low Port.Even = Moves High true
-takeOf Half.Low Port.Odd = Moves High true
-takeOf Half.Low Port.Word = Refused
-takeOf Half.High Port.Even = Moves Low true
-takeOf Half.High Port.Odd = Refused
-takeOf Half.High Port.Word = Refused
 
 -- "A sector moves as 256 words, low byte first."
 abbrev pub lowAt : ℕ → ℕ
@@ -31,6 +17,20 @@ lowAt words = 2 * words
 
 abbrev pub highAt : ℕ → ℕ
 highAt words = 2 * words + 1
+
+-- "Within a word nothing, the low half or the high half has moved."
+-- "A byte at 0 or 8 moves the low half if it hasn't moved, else the high. A byte at 9 moves the high half, else refusal 11";
+-- a word moves both, where nothing has moved. Beside the part: whether the word is whole with it.
+unfoldable pub takeOf : Half → Port → Take
+takeOf Half.Nothing Port.Even = Moves Low Begun
+takeOf Half.Nothing Port.Odd = Moves High Begun
+takeOf Half.Nothing Port.Word = Moves Both Whole
+takeOf Half.Low Port.Even = Moves High Whole
+takeOf Half.Low Port.Odd = Moves High Whole
+takeOf Half.Low Port.Word = Refused
+takeOf Half.High Port.Even = Moves Low Whole
+takeOf Half.High Port.Odd = Refused
+takeOf Half.High Port.Word = Refused
 
 -- the part of a word in the buffer
 abbrev pub partValue : Part → ℕ → List ℕ → ℕ

@@ -1,8 +1,11 @@
 // Reads and writes of the data port.
 use super::Done;
+use super::Fill;
 use super::Part;
 use super::Take;
 use answers::Refusal;
+use ground::LAST_WORD;
+use ground::Sector;
 use maps::Port;
 use registers::Core;
 use registers::Phase;
@@ -13,17 +16,20 @@ ghost use Rattle.registers.specs.Machine.{machine, core};
 ghost use Rattle.port.specs.Halves.{takeOf};
 ghost use Rattle.port.specs.Data.{effect, wordRead, partRead, takenRead, absentValue, heldValue, dataRead, wordWritten, partWritten, takenWritten, dataWritten};
 
+// 01, "Registers": what data words read as while Device Control holds the card.
+pub(crate) const BUSY_WORD: u16 = 0x8080;
+
 // A word is whole: the next one, or the last byte has gone.
 fn word_read(
     state: State,
     transfer: Transfer,
-    buffer: &mut [u8; 512],
+    buffer: &mut Sector,
     store: &[u8],
     marks: &[u8],
 ) -> Core
     ensures { λ r. ⌜ machine r (now (buffer .exit)) (now (store .entry)) (now (marks .entry)) ≡ wordRead transfer (machine (core (Phase.DataIn transfer) state) (now (buffer .entry)) (now (store .entry)) (now (marks .entry))) ⌝ }
 {
-    if transfer.words < 255 {
+    if transfer.words < LAST_WORD {
         let next = super::halves::next_word(transfer);
         return Core {
             phase: Phase::DataIn(next),
@@ -39,21 +45,23 @@ fn part_read(
     core: Core,
     transfer: Transfer,
     part: Part,
-    whole: bool,
-    buffer: &mut [u8; 512],
+    fill: Fill,
+    buffer: &mut Sector,
     store: &[u8],
     marks: &[u8],
 ) -> Core
-    ensures { λ r. ⌜ machine r (now (buffer .exit)) (now (store .entry)) (now (marks .entry)) ≡ partRead whole part transfer (machine core (now (buffer .entry)) (now (store .entry)) (now (marks .entry))) ⌝ }
+    ensures { λ r. ⌜ machine r (now (buffer .exit)) (now (store .entry)) (now (marks .entry)) ≡ partRead fill part transfer (machine core (now (buffer .entry)) (now (store .entry)) (now (marks .entry))) ⌝ }
 {
     let state = core.state;
-    if whole {
-        return word_read(state, transfer, buffer, store, marks);
-    }
-    let next = super::halves::halved(transfer, part);
-    Core {
-        phase: Phase::DataIn(next),
-        state: state,
+    match fill {
+        Fill::Begun => {
+            let next = super::halves::halved(transfer, part);
+            Core {
+                phase: Phase::DataIn(next),
+                state: state,
+            }
+        }
+        Fill::Whole => word_read(state, transfer, buffer, store, marks),
     }
 }
 
@@ -62,7 +70,7 @@ fn taken_read(
     core: Core,
     transfer: Transfer,
     port: Port,
-    buffer: &mut [u8; 512],
+    buffer: &mut Sector,
     store: &[u8],
     marks: &[u8],
 ) -> Done
@@ -71,9 +79,9 @@ fn taken_read(
     let half = transfer.half;
     match super::halves::take_of(half, port) {
         Take::Refused => super::refused(core, Refusal::HalfMoved),
-        Take::Moves(part, whole) => {
+        Take::Moves(part, fill) => {
             let value = super::halves::part_value(part, transfer.words, buffer);
-            let next = part_read(core, transfer, part, whole, buffer, store, marks);
+            let next = part_read(core, transfer, part, fill, buffer, store, marks);
             super::accepted(next, value)
         }
     }
@@ -89,18 +97,19 @@ fn absent_value(port: Port) -> u16
     }
 }
 
+// 01, "Registers": while Device Control holds the card, reads give 80H, data words 8080H.
 fn held_value(port: Port) -> u16
     ensures { λ r. ⌜ r ≡ heldValue port ⌝ }
 {
     match port {
-        Port::Even => 0x80,
-        Port::Odd => 0x80,
-        Port::Word => 0x8080,
+        Port::Even => registers::BUSY_STATUS as u16,
+        Port::Odd => registers::BUSY_STATUS as u16,
+        Port::Word => BUSY_WORD,
     }
 }
 
 // A read of the data port.
-pub fn read_data(core: Core, port: Port, buffer: &mut [u8; 512], store: &[u8], marks: &[u8]) -> Done
+pub fn read_data(core: Core, port: Port, buffer: &mut Sector, store: &[u8], marks: &[u8]) -> Done
     ensures { λ r. ⌜ effect r (now (buffer .exit)) (now (store .entry)) (now (marks .entry)) ≡ dataRead port (machine core (now (buffer .entry)) (now (store .entry)) (now (marks .entry))) ⌝ }
 {
     let state = core.state;
@@ -120,13 +129,13 @@ pub fn read_data(core: Core, port: Port, buffer: &mut [u8; 512], store: &[u8], m
 fn word_written(
     state: State,
     transfer: Transfer,
-    buffer: &[u8; 512],
+    buffer: &Sector,
     store: &mut [u8],
     marks: &mut [u8],
 ) -> Core
     ensures { λ r. ⌜ machine r (now (buffer .entry)) (now (store .exit)) (now (marks .exit)) ≡ wordWritten transfer (machine (core (Phase.DataOut transfer) state) (now (buffer .entry)) (now (store .entry)) (now (marks .entry))) ⌝ }
 {
-    if transfer.words < 255 {
+    if transfer.words < LAST_WORD {
         let next = super::halves::next_word(transfer);
         return Core {
             phase: Phase::DataOut(next),
@@ -142,21 +151,23 @@ fn part_written(
     core: Core,
     transfer: Transfer,
     part: Part,
-    whole: bool,
-    buffer: &[u8; 512],
+    fill: Fill,
+    buffer: &Sector,
     store: &mut [u8],
     marks: &mut [u8],
 ) -> Core
-    ensures { λ r. ⌜ machine r (now (buffer .entry)) (now (store .exit)) (now (marks .exit)) ≡ partWritten whole part transfer (machine core (now (buffer .entry)) (now (store .entry)) (now (marks .entry))) ⌝ }
+    ensures { λ r. ⌜ machine r (now (buffer .entry)) (now (store .exit)) (now (marks .exit)) ≡ partWritten fill part transfer (machine core (now (buffer .entry)) (now (store .entry)) (now (marks .entry))) ⌝ }
 {
     let state = core.state;
-    if whole {
-        return word_written(state, transfer, buffer, store, marks);
-    }
-    let next = super::halves::halved(transfer, part);
-    Core {
-        phase: Phase::DataOut(next),
-        state: state,
+    match fill {
+        Fill::Begun => {
+            let next = super::halves::halved(transfer, part);
+            Core {
+                phase: Phase::DataOut(next),
+                state: state,
+            }
+        }
+        Fill::Whole => word_written(state, transfer, buffer, store, marks),
     }
 }
 
@@ -166,7 +177,7 @@ fn taken_written(
     transfer: Transfer,
     port: Port,
     value: u16,
-    buffer: &mut [u8; 512],
+    buffer: &mut Sector,
     store: &mut [u8],
     marks: &mut [u8],
 ) -> Done
@@ -175,9 +186,9 @@ fn taken_written(
     let half = transfer.half;
     match super::halves::take_of(half, port) {
         Take::Refused => super::refused(core, Refusal::HalfMoved),
-        Take::Moves(part, whole) => {
+        Take::Moves(part, fill) => {
             super::halves::put_part(part, transfer.words, value, buffer);
-            let next = part_written(core, transfer, part, whole, buffer, store, marks);
+            let next = part_written(core, transfer, part, fill, buffer, store, marks);
             super::accepted(next, 0)
         }
     }
@@ -188,7 +199,7 @@ pub fn write_data(
     core: Core,
     port: Port,
     value: u16,
-    buffer: &mut [u8; 512],
+    buffer: &mut Sector,
     store: &mut [u8],
     marks: &mut [u8],
 ) -> Done

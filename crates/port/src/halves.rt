@@ -1,12 +1,16 @@
 // 01, "Data": what of a word an access moves.
+use super::Fill;
 use super::Part;
 use super::Take;
+use ground::SECTOR_BYTES;
+use ground::Sector;
 use maps::Port;
 use registers::Half;
 use registers::Transfer;
 ghost use mathlib.Core.Path.{_≡_};
 ghost use Prim.Native.Nat.{_<_};
 ghost use lib.ListN.{getD, set};
+ghost use Rattle.ground.specs.Sizes.{lastWord};
 ghost use Rattle.port.specs.Halves.{takeOf, partValue, withPart, halfOf, halved, nextWord};
 
 // What an access at a port may take of a word.
@@ -15,40 +19,40 @@ pub(crate) fn take_of(half: Half, port: Port) -> Take
 {
     match half {
         Half::Nothing => match port {
-            Port::Even => Take::Moves(Part::Low, false),
-            Port::Odd => Take::Moves(Part::High, false),
-            Port::Word => Take::Moves(Part::Both, true),
+            Port::Even => Take::Moves(Part::Low, Fill::Begun),
+            Port::Odd => Take::Moves(Part::High, Fill::Begun),
+            Port::Word => Take::Moves(Part::Both, Fill::Whole),
         },
         Half::Low => match port {
-            Port::Even => Take::Moves(Part::High, true),
-            Port::Odd => Take::Moves(Part::High, true),
+            Port::Even => Take::Moves(Part::High, Fill::Whole),
+            Port::Odd => Take::Moves(Part::High, Fill::Whole),
             Port::Word => Take::Refused, // a word begun halfway
         },
         Half::High => match port {
-            Port::Even => Take::Moves(Part::Low, true),
+            Port::Even => Take::Moves(Part::Low, Fill::Whole),
             Port::Odd => Take::Refused,
             Port::Word => Take::Refused,
         },
     }
 }
 
-fn buffer_byte(buffer: &[u8; 512], at: usize) -> u16
+fn buffer_byte(buffer: &Sector, at: usize) -> u16
     ensures { λ r. ⌜ (r ≡ getD (now (buffer .entry)) at 0) × (r < 256) ⌝ }
 {
     ground::wide(ground::byte_or_zero(buffer, at))
 }
 
-fn set_byte(buffer: &mut [u8; 512], at: usize, byte: u8)
+fn set_byte(buffer: &mut Sector, at: usize, byte: u8)
     ensures { λ _. ⌜ now (buffer .exit) ≡ set (now (buffer .entry)) at byte ⌝ }
 {
     ground::length_known(buffer);
-    if at < 512 {
+    if at < SECTOR_BYTES {
         buffer[at] = byte;
     }
 }
 
 // The part of the word that stands in the buffer.
-pub(crate) fn part_value(part: Part, words: u16, buffer: &[u8; 512]) -> u16
+pub(crate) fn part_value(part: Part, words: u16, buffer: &Sector) -> u16
     ensures { λ r. ⌜ r ≡ partValue part words (now (buffer .entry)) ⌝ }
 {
     let low = 2 * (words as usize);
@@ -60,7 +64,7 @@ pub(crate) fn part_value(part: Part, words: u16, buffer: &[u8; 512]) -> u16
 }
 
 // The part of the word is written into the buffer.
-pub(crate) fn put_part(part: Part, words: u16, value: u16, buffer: &mut [u8; 512])
+pub(crate) fn put_part(part: Part, words: u16, value: u16, buffer: &mut Sector)
     ensures { λ _. ⌜ now (buffer .exit) ≡ withPart part words value (now (buffer .entry)) ⌝ }
 {
     let low = 2 * (words as usize);
@@ -98,7 +102,7 @@ pub(crate) fn halved(transfer: Transfer, part: Part) -> Transfer
 }
 
 pub(crate) fn next_word(transfer: Transfer) -> Transfer
-    requires { ⌜ transfer .words < 255 ⌝ }
+    requires { ⌜ transfer .words < lastWord ⌝ }
     ensures { λ r. ⌜ r ≡ nextWord transfer ⌝ }
 {
     let load = transfer.load;

@@ -14,10 +14,16 @@ pub enum Part {
     Both,
 }
 
-// Whether a part may move: it is refused, or it moves, and the word is whole with it or only begun.
+// What becomes of the word with that part: it is begun, or whole.
+pub enum Fill {
+    Begun,
+    Whole,
+}
+
+// Whether a part may move: it is refused, or it moves, with what becomes of the word.
 pub enum Take {
     Refused,
-    Moves(Part, bool),
+    Moves(Part, Fill),
 }
 
 // An access's outcome, and the card without its buffer after it.

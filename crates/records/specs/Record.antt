@@ -4,7 +4,7 @@ use mathlib.Core.Bool.{Bool, false, _||_}
 use mathlib.Core.List.{List, [], _∷_, _++_}
 use lib.Dec.{eqb, leb, ltb}
 use lib.ListN.{length, getD}
-use Rattle.ground.specs.Choice.{pick}
+use Rattle.ground.specs.Choice.{pick, within}
 use Rattle.ground.specs.Rows.{Row, When, Unless, firstOf}
 use Rattle.maps.specs.declared.Access.{Access}
 use Rattle.records.specs.declared.Break.{Break}
@@ -31,8 +31,8 @@ abbrev pub sizesIn : List ℕ → Sizes
 sizesIn file = record { cylinders = wordAt file 4; heads = wordAt file 6; sectors = wordAt file 8; mode = wordAt file 10 }
 
 -- "Kind 2, length 10"; "Kind 3, length 8": the length of an access's record
-abbrev pub sizeOf : Bool → ℕ
-sizeOf write = pick write 10 8
+abbrev pub accessLength : Bool → ℕ
+accessLength write = pick write 10 8
 
 -- "Kind 2 …: space, width (a byte each), address, value"; "Kind 3 …: the same without value", which is 0 then
 abbrev pub valueAt : List ℕ → ℕ → Bool → ℕ
@@ -40,7 +40,7 @@ valueAt file at write = pick write (wordAt file (at + 8)) 0
 
 abbrev pub accessIn : List ℕ → ℕ → Bool → Access
 accessIn file at write =
-    record { space = getD file (at + 4) 0; width = getD file (at + 5) 0; value = valueAt file at write; address = wordAt file (at + 6); write = write }
+    record { space = getD file (at + 4) 0; width = getD file (at + 5) 0; address = wordAt file (at + 6); value = valueAt file at write; write = write }
 
 -- "a byte value above 255"
 unfoldable pub valueAbove : ℕ → ℕ → Bool
@@ -49,47 +49,42 @@ valueAbove width value = pick (eqb width 1) (ltb 255 value) false
 -- ---- "Broken: …": the tests of a record, in their order
 
 -- "or a record that doesn't fit": it has its length and its kind at least; a length below that leaves no place for a kind
-abbrev pub fitRows : ℕ → ℕ → List (Row Break)
-fitRows left size = When (ltb left headLength) DoesNotFit ∷ When (ltb left size) DoesNotFit ∷ When (ltb size headLength) Length ∷ []
+abbrev pub fitBreaks : ℕ → ℕ → List (Row Break)
+fitBreaks left size = When (ltb left headLength || ltb left size) DoesNotFit ∷ When (ltb size headLength) Length ∷ []
 
 -- "any other … kind"
-abbrev pub kindRow : ℕ → Row Break
-kindRow kind = Unless (eqb kind 1 || eqb kind 2 || eqb kind 3) Kind
+abbrev pub kindBreak : ℕ → Row Break
+kindBreak kind = Unless (eqb kind 1 || eqb kind 2 || eqb kind 3) Kind
 
 -- "an opening missing", "any other length": where an opening is due
-abbrev pub openingRows : ℕ → ℕ → List (Row Break)
-openingRows kind size = kindRow kind ∷ Unless (eqb kind 1) Misplaced ∷ Unless (eqb size openingLength) Length ∷ []
+abbrev pub openingBreaks : ℕ → ℕ → List (Row Break)
+openingBreaks kind size = kindBreak kind ∷ Unless (eqb kind 1) Misplaced ∷ Unless (eqb size openingLength) Length ∷ []
 
 -- "or not first": where none is due
-abbrev pub afterRows : ℕ → List (Row Break)
-afterRows kind = kindRow kind ∷ When (eqb kind 1) Misplaced ∷ []
+abbrev pub afterBreaks : ℕ → List (Row Break)
+afterBreaks kind = kindBreak kind ∷ When (eqb kind 1) Misplaced ∷ []
 
 -- "any other length, … space or width, a byte value above 255"
-abbrev pub fieldRows : Access → List (Row Break)
-fieldRows a =
+abbrev pub fieldBreaks : Access → List (Row Break)
+fieldBreaks a =
     Unless (leb (a .space) 3) Space
-    ∷ Unless (leb 1 (a .width)) Width
-    ∷ Unless (leb (a .width) 2) Width
+    ∷ Unless (within 1 2 (a .width)) Width
     ∷ When (valueAbove (a .width) (a .value)) Value
     ∷ []
 
-abbrev pub accessRows : ℕ → Access → List (Row Break)
-accessRows size a = Unless (eqb size (sizeOf (a .write))) Length ∷ fieldRows a
+abbrev pub accessBreaks : ℕ → Access → List (Row Break)
+accessBreaks size a = Unless (eqb size (accessLength (a .write))) Length ∷ fieldBreaks a
 
 -- ---- what stands there
 
 -- "Kind 1, … first and once": at the start of the file
 unfoldable pub firstRecord : List ℕ → First
-firstRecord file = firstOf (fitRows (length file) (wordAt file 0) ++ openingRows (kindAt file 0) (wordAt file 0)) First.Stop (First.Opening (sizesIn file))
+firstRecord file = firstOf (fitBreaks (length file) (wordAt file 0) ++ openingBreaks (kindAt file 0) (wordAt file 0)) First.Stop (First.Opening (sizesIn file))
 
--- an access, if none of these tests breaks it
-abbrev pub tested : List (Row Break) → Access → After
-tested rows a = firstOf rows After.Stop (After.Access a)
-
--- an access's record, by its kind: 2 is a write
-abbrev pub byKind : ℕ → List ℕ → ℕ → ℕ → After
-byKind kind file at size = tested (afterRows kind ++ accessRows size (accessIn file at (eqb kind 2))) (accessIn file at (eqb kind 2))
-
--- after the opening
+-- after the opening: an access, of which kind 2 is a write
 unfoldable pub nextRecord : List ℕ → ℕ → After
-nextRecord file at = firstOf (fitRows (length file - at) (wordAt file at)) After.Stop (byKind (kindAt file at) file at (wordAt file at))
+nextRecord file at =
+    let size = wordAt file at in
+    let kind = kindAt file at in
+    let a = accessIn file at (eqb kind 2) in
+    firstOf (fitBreaks (length file - at) size ++ afterBreaks kind ++ accessBreaks size a) After.Stop (After.Access a)

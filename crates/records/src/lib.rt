@@ -3,15 +3,23 @@ use maps::Access;
 ghost use mathlib.Core.Path.{_≡_};
 ghost use mathlib.Core.Bool.{_||_};
 ghost use Prim.Native.Nat.{_+_, _≤_};
+ghost use mathlib.Core.List.{_++_};
 ghost use lib.ListN.{length};
 ghost use lib.Dec.{eqb};
 ghost use Rattle.ground.specs.Choice.{pick};
 ghost use Rattle.ground.specs.Rows.{firstOf};
 ghost use Rattle.records.specs.declared.Break.the-variants.{Kind, Misplaced};
 ghost use Rattle.records.specs.declared.First.{First};
-ghost use Rattle.records.specs.Record.{wordAt, valueAbove, fieldRows, sizeOf, valueAt, accessIn, accessRows, tested, byKind, kindAt, nextRecord, openingRows, sizesIn, firstRecord};
+ghost use Rattle.records.specs.declared.After.{After};
+ghost use Rattle.records.specs.Record.{headLength, wordAt, valueAbove, fieldBreaks, accessLength, valueAt, accessIn, afterBreaks, accessBreaks, kindAt, nextRecord, openingBreaks, sizesIn, firstRecord};
 
-// Which test of a record, or of the whole file, broke it.
+// 01: "total length (2 bytes), kind (2)": a record has these at least.
+const HEAD_LENGTH: u16 = 4;
+
+// 01: "Kind 1, length 12".
+pub const OPENING_LENGTH: u16 = 12;
+
+// Which test of the whole file, or of a record, broke it, in the order in which the tests are first made.
 pub enum Break {
     Empty,
     TooLong,
@@ -62,7 +70,7 @@ fn value_above(width: u8, value: u16) -> bool
 
 // The tests of an access's fields.
 fn fields_tested(access: Access) -> After
-    ensures { λ r. ⌜ r ≡ tested (fieldRows access) access ⌝ }
+    ensures { λ r. ⌜ r ≡ firstOf (fieldBreaks access) After.Stop (After.Access access) ⌝ }
 {
     if 3 < access.space {
         return After::Stop(Break::Space);
@@ -80,8 +88,8 @@ fn fields_tested(access: Access) -> After
 }
 
 // The length of an access's record.
-pub fn size_of(write: bool) -> u16
-    ensures { λ r. ⌜ (r ≡ sizeOf write) × (8 ≤ r) ⌝ }
+pub fn access_length(write: bool) -> u16
+    ensures { λ r. ⌜ (r ≡ accessLength write) × (8 ≤ r) ⌝ }
 {
     if write {
         return 10;
@@ -91,7 +99,7 @@ pub fn size_of(write: bool) -> u16
 
 // A write has a value, a read has 0.
 fn value_at(file: &[u8], at: usize, write: bool) -> u16
-    requires { ⌜ at + sizeOf write ≤ length (now file) ⌝ }
+    requires { ⌜ at + accessLength write ≤ length (now file) ⌝ }
     ensures { λ r. ⌜ r ≡ valueAt (now (file .entry)) at write ⌝ }
 {
     if write {
@@ -100,12 +108,12 @@ fn value_at(file: &[u8], at: usize, write: bool) -> u16
     0
 }
 
-// A write's or a read's record that fits, by its length.
-fn access_at(file: &[u8], at: usize, size: u16, write: bool) -> After
+// The tests of a write's or a read's record that fits.
+fn access_tested(file: &[u8], at: usize, size: u16, write: bool) -> After
     requires { ⌜ at + size ≤ length (now file) ⌝ }
-    ensures { λ r. ⌜ r ≡ tested (accessRows size (accessIn (now (file .entry)) at write)) (accessIn (now (file .entry)) at write) ⌝ }
+    ensures { λ r. ⌜ r ≡ firstOf (accessBreaks size (accessIn (now (file .entry)) at write)) After.Stop (After.Access (accessIn (now (file .entry)) at write)) ⌝ }
 {
-    if size != size_of(write) {
+    if size != access_length(write) {
         return After::Stop(Break::Length);
     }
     let space = file[at + 4];
@@ -121,20 +129,20 @@ fn access_at(file: &[u8], at: usize, size: u16, write: bool) -> After
     })
 }
 
-// By the kind of a record that fits.
-fn kind_at(file: &[u8], at: usize, size: u16) -> After
-    requires { ⌜ (4 ≤ size) × (at + size ≤ length (now file)) ⌝ }
-    ensures { λ r. ⌜ r ≡ byKind (kindAt (now (file .entry)) at) (now (file .entry)) at size ⌝ }
+// The tests of a record that fits, by its kind.
+fn kind_tested(file: &[u8], at: usize, size: u16) -> After
+    requires { ⌜ (headLength ≤ size) × (at + size ≤ length (now file)) ⌝ }
+    ensures { λ r. ⌜ r ≡ (let kind = kindAt (now (file .entry)) at in let a = accessIn (now (file .entry)) at (eqb kind 2) in firstOf (afterBreaks kind ++ accessBreaks size a) After.Stop (After.Access a)) ⌝ }
 {
     let kind = word_at(file, at + 2);
     if kind == 1 {
         return After::Stop(Break::Misplaced);
     }
     if kind == 2 {
-        return access_at(file, at, size, true);
+        return access_tested(file, at, size, true);
     }
     if kind == 3 {
-        return access_at(file, at, size, false);
+        return access_tested(file, at, size, false);
     }
     After::Stop(Break::Kind)
 }
@@ -147,17 +155,17 @@ pub fn next_record(file: &[u8], at: usize) -> After
         return After::Stop(Break::DoesNotFit);
     }
     let left = file.len() - at;
-    if left < 4 {
+    if left < HEAD_LENGTH as usize {
         return After::Stop(Break::DoesNotFit);
     }
     let size = word_at(file, at);
     if left < size as usize {
         return After::Stop(Break::DoesNotFit);
     }
-    if size < 4 {
+    if size < HEAD_LENGTH {
         return After::Stop(Break::Length);
     }
-    kind_at(file, at, size)
+    kind_tested(file, at, size)
 }
 
 // A kind that is no opening's: an access's, or any other.
@@ -176,9 +184,9 @@ fn no_opening(kind: u16) -> First
 // An opening's record that fits, by its length.
 fn opening_of(file: &[u8], size: u16) -> First
     requires { ⌜ size ≤ length (now file) ⌝ }
-    ensures { λ r. ⌜ r ≡ firstOf (openingRows 1 size) First.Stop (First.Opening (sizesIn (now (file .entry)))) ⌝ }
+    ensures { λ r. ⌜ r ≡ firstOf (openingBreaks 1 size) First.Stop (First.Opening (sizesIn (now (file .entry)))) ⌝ }
 {
-    if size != 12 {
+    if size != OPENING_LENGTH {
         return First::Stop(Break::Length);
     }
     let cylinders = word_at(file, 4);
@@ -197,14 +205,14 @@ fn opening_of(file: &[u8], size: u16) -> First
 pub fn first_record(file: &[u8]) -> First
     ensures { λ r. ⌜ r ≡ firstRecord (now (file .entry)) ⌝ }
 {
-    if file.len() < 4 {
+    if file.len() < HEAD_LENGTH as usize {
         return First::Stop(Break::DoesNotFit);
     }
     let size = word_at(file, 0);
     if file.len() < size as usize {
         return First::Stop(Break::DoesNotFit);
     }
-    if size < 4 {
+    if size < HEAD_LENGTH {
         return First::Stop(Break::Length);
     }
     let kind = word_at(file, 2);

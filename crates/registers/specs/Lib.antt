@@ -1,7 +1,7 @@
-pub mod Status
 pub mod Machine
 pub mod State
+pub mod Status
 pub mod WellMade
+pub mod Values
 pub mod PowerOn
 pub mod Resets
-pub mod Values

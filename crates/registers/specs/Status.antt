@@ -2,7 +2,10 @@
 -- IDNF, 04H ABRT."
 use Prim.Native.Nat.{ℕ}
 
--- the values of Status
+-- the values of Status; BSY alone is what a held card reads as
+abbrev pub busyStatus : ℕ
+busyStatus = 0x80
+
 abbrev pub idleStatus : ℕ
 idleStatus = 0x50
 

@@ -8,6 +8,7 @@ use Rattle.maps.specs.declared.Register.the-variants.{ErrorFeature, SectorCount
 use Rattle.registers.specs.declared.Phase.{Phase}
 use Rattle.registers.specs.declared.Phase.the-variants.{Idle, DataIn, DataOut}
 use Rattle.registers.specs.declared.State.{State}
+use Rattle.registers.specs.Status.{busyStatus}
 use Rattle.registers.specs.State.{withInterrupt, withCount, withAddress}
 
 -- bits 6 and 4..0 of Drive/Head: bits 7 and 5 are not stored
@@ -45,7 +46,7 @@ registerValue DriveAddress p s = driveAddress p (s .registers .address .head)
 
 -- "Device Control bit 2 set: … reads of all offsets give 80H"
 unfoldable pub valueRead : Register → Phase → State → ℕ
-valueRead r p s = pick (s .control .held) 0x80 (registerValue r p s)
+valueRead r p s = pick (s .control .held) busyStatus (registerValue r p s)
 
 -- the interrupt mark is "cleared … by reading Status"
 unfoldable pub afterRead : Register → State → State

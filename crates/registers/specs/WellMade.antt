@@ -4,8 +4,9 @@ use mathlib.Core.Bool.{Bool, true, not}
 use mathlib.Core.List.{[], _∷_}
 use lib.Dec.{leb, eqb}
 use Rattle.ground.specs.Choice.{pick, every}
+use Rattle.ground.specs.Sizes.{lastWord}
 use Rattle.geometry.specs.Limits.{fits, currentFor}
-use Rattle.geometry.specs.Address.{found}
+use Rattle.geometry.specs.Address.{validAddress}
 use Rattle.maps.specs.declared.Mode.{Mode}
 use Rattle.maps.specs.declared.Mode.the-variants.{PcCard, TrueIde}
 use Rattle.registers.specs.declared.Load.{Load}
@@ -35,8 +36,8 @@ statusFits (DataIn t) status = eqb status dataStatus
 statusFits (DataOut t) status = eqb status dataStatus
 
 -- no transfer runs in a held reset
-unfoldable pub heldIn : State → Bool
-heldIn s = pick (sresetIn (s .option)) true (s .control .held)
+unfoldable pub inReset : State → Bool
+inReset s = pick (sresetIn (s .option)) true (s .control .held)
 
 unfoldable pub holdFits : Phase → Bool → Bool
 holdFits Idle held = true
@@ -46,14 +47,14 @@ holdFits (DataOut t) held = not held
 -- words already moved are 0..255
 unfoldable pub wordsFit : Phase → Bool
 wordsFit Idle = true
-wordsFit (DataIn t) = leb (t .words) 255
-wordsFit (DataOut t) = leb (t .words) 255
+wordsFit (DataIn t) = leb (t .words) lastWord
+wordsFit (DataOut t) = leb (t .words) lastWord
 
 -- a running sector transfer has a valid address in its registers and 1..256 sectors left, agreeing with Sector Count modulo 256
 unfoldable pub sectorsFit : ℕ → State → Bool
 sectorsFit left s =
     every
-    (found (locatedIn s)
+    (validAddress (locatedIn s)
     ∷ leb 1 left
     ∷ leb left 256
     ∷ eqb (left % 256) (s .registers .count)
@@ -77,7 +78,7 @@ wellMade p s =
     ∷ indexFits (s .option)
     ∷ sresetFits (s .made .mode) (s .option)
     ∷ statusFits p (s .registers .status)
-    ∷ holdFits p (heldIn s)
+    ∷ holdFits p (inReset s)
     ∷ wordsFit p
     ∷ runFits p s
     ∷ [])

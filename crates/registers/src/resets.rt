@@ -1,13 +1,10 @@
 // The two resets: SRESET in the Configuration Option Register, and bit 2 of Device Control.
-use super::Control;
 use super::Core;
-use super::Made;
 use super::Phase;
-use super::Registers;
 use super::State;
-use geometry::Address;
+use ground::SECTOR_BYTES;
+use ground::Sector;
 ghost use mathlib.Core.Path.{_≡_};
-ghost use Rattle.registers.specs.PowerOn.{powerOn};
 ghost use Rattle.registers.specs.Resets.{turnOf, restStatus, entered, optionTurned, bufferTurned, controlTurned, controlWritten, optionCore, optionBuffer};
 
 // What writing a reset's bit does to the hold.
@@ -46,37 +43,6 @@ impl Phase {
     }
 }
 
-impl Made {
-    // 01, power-on, with a map setting.
-    pub fn power_on(self, option: u8) -> State
-        ensures { λ r. ⌜ r ≡ powerOn self option ⌝ }
-    {
-        let default = self.default;
-        State {
-            made: self,
-            current: default,
-            registers: Registers {
-                status: super::IDLE_STATUS,
-                error: 0x01,
-                count: 1,
-                address: Address {
-                    sector: 1,
-                    low: 0,
-                    high: 0,
-                    head: 0,
-                },
-            },
-            option: option,
-            control: Control {
-                held: false,
-                masked: false,
-            },
-            interrupt: false,
-            code: 0x00,
-        }
-    }
-}
-
 impl State {
     // A reset is entered: the transfer ends, the interrupt mark is cleared.
     fn entered(mut self, phase: Phase) -> State
@@ -91,7 +57,7 @@ impl State {
 }
 
 impl Core {
-    fn option_turned(self, turn: Turn, value: u8, buffer: &mut [u8; 512]) -> Core
+    fn option_turned(self, turn: Turn, value: u8, buffer: &mut Sector) -> Core
         ensures { λ r. ⌜ (r ≡ optionTurned turn value (self .phase) (self .state)) × (now (buffer .exit) ≡ bufferTurned turn (now (buffer .entry))) ⌝ }
     {
         let phase = self.phase;
@@ -106,7 +72,7 @@ impl Core {
                 }
             }
             Turn::Leave => {
-                *buffer = [0u8; 512];
+                *buffer = [0u8; SECTOR_BYTES];
                 let made = state.made;
                 let powered = made.power_on(value);
                 Core {
@@ -126,11 +92,14 @@ impl Core {
     }
 
     // A write of the Configuration Option Register; row 10 is tested before it (D131).
-    pub fn write_option(self, value: u8, buffer: &mut [u8; 512]) -> Core
+    pub fn write_option(self, value: u8, buffer: &mut Sector) -> Core
         ensures { λ r. ⌜ (r ≡ optionCore value (self .phase) (self .state)) × (now (buffer .exit) ≡ optionBuffer value (self .state) (now (buffer .entry))) ⌝ }
     {
         let state = self.state;
-        let turn = turn_of(super::sreset_in(state.option), super::sreset_in(value));
+        let turn = turn_of(
+            super::states::sreset_in(state.option),
+            super::states::sreset_in(value),
+        );
         self.option_turned(turn, value, buffer)
     }
 
@@ -175,7 +144,9 @@ impl Core {
     {
         let state = self.state;
         let control = state.control;
-        let turn = turn_of(control.held, value / 4 % 2 == 1);
-        self.control_turned(turn, value / 2 % 2 == 1)
+        let held = value / 4 % 2 == 1; // bit 2
+        let masked = value / 2 % 2 == 1; // bit 1
+        let turn = turn_of(control.held, held);
+        self.control_turned(turn, masked)
     }
 }

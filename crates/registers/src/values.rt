@@ -75,7 +75,7 @@ impl Core {
         let state = self.state;
         let control = state.control;
         if control.held {
-            return 0x80;
+            return super::BUSY_STATUS;
         }
         self.register_value(register)
     }

@@ -15,7 +15,7 @@ use Rattle.card.specs.Access.{Asked, askedWith}
 abbrev pub elsewhere : (ℕ → ℕ) → Asked → Asked
 elsewhere f a =
     pick (eqb (a .access .space) 1)
-    (askedWith (record { space = 1; width = a .access .width; write = a .access .write; address = f (a .access .address); value = a .access .value }) (a .tuples))
+    (askedWith (record { space = 1; width = a .access .width; address = f (a .access .address); value = a .access .value; write = a .access .write }) (a .tuples))
     a
 
 -- the machine with another state, with another address in its registers, with other sectors and marks

@@ -7,6 +7,7 @@ use Rattle.ground.specs.Choice.{pick}
 use Rattle.maps.specs.declared.Register.{Register}
 use Rattle.maps.specs.declared.Register.the-variants.{ErrorFeature, SectorCount, SectorNumber, CylinderLow, CylinderHigh, DriveHead, StatusCommand, AlternateControl, DriveAddress}
 use Rattle.registers.specs.declared.State.{State}
+use Rattle.registers.specs.Status.{errorStatus, IDNF}
 use Rattle.registers.specs.State.{runs}
 use Rattle.registers.specs.Machine.{Machine}
 use Rattle.card.specs.declared.Meaning.{Meaning}
@@ -68,7 +69,7 @@ inCommand m a = givesAny m a || runs (m .phase)
 
 -- a command ended in IDNF with this code; this access ends one so
 abbrev pub idnfIn : ℕ → State → Bool
-idnfIn code s = eqb (s .registers .status) 0x51 && (eqb (s .registers .error) 0x10 && eqb (s .code) code)
+idnfIn code s = eqb (s .registers .status) errorStatus && (eqb (s .registers .error) IDNF && eqb (s .code) code)
 
 abbrev pub endsInIdnf : ℕ → Machine → Asked → Bool
 endsInIdnf code m a = inCommand m a && idnfIn code (step m a .next .state)

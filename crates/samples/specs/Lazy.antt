@@ -5,6 +5,7 @@ use lib.Dec.{eqb}
 use Rattle.ground.specs.Choice.{pick}
 use Rattle.answers.specs.declared.Outcome.the-variants.{Accepted, Refused}
 use Rattle.answers.specs.declared.Refusal.{Refusal}
+use Rattle.registers.specs.Status.{errorStatus}
 use Rattle.registers.specs.Machine.{Machine}
 use Rattle.port.specs.Data.{Effect}
 use Rattle.card.specs.Access.{Asked}
@@ -26,4 +27,4 @@ ignoresWrites m a = pick (a .access .write) (record { outcome = Accepted 0; next
 
 -- "A made-up Sector Count": at an error end, where Status is 51H, Sector Count reads as this number
 unfoldable pub makesUpCount : ℕ → Machine → Asked → Effect
-makesUpCount n m a = pick (eqb (m .state .registers .status) 0x51 && readsAt 0x2 m a) (answersWith n (step m a)) (step m a)
+makesUpCount n m a = pick (eqb (m .state .registers .status) errorStatus && readsAt 0x2 m a) (answersWith n (step m a)) (step m a)

@@ -13,6 +13,7 @@ use Rattle.card.specs.Access.{Asked, askedWith}
 use Rattle.card.specs.Opening.{opened}
 use Rattle.card.specs.Doors.{machineOf}
 use Rattle.ground.specs.Lists.{listed}
+use Rattle.ground.specs.Sizes.{sectorBytes, tupleBufferBytes}
 
 -- "Each answer says if the line is up": what it must say, or that a sample asks nothing of it
 pub data Level : Type 0 where
@@ -36,22 +37,25 @@ pub record Line : Type 0 where
 abbrev pub geometry : Geometry
 geometry = record { cylinders = 4; heads = 2; sectors = 4 }
 
+abbrev pub total : ℕ
+total = 32
+
 -- a store whose sectors differ: byte j of sector i is i + j, in eight bits
 abbrev pub byteIn : ℕ → ℕ → ℕ
 byteIn i j = (i + j) % 256
 
 unfoldable pub store : List ℕ
-store = listed (λ n. byteIn (n / 512) (n % 512)) 0 16384
+store = listed (λ n. byteIn (n / sectorBytes) (n % sectorBytes)) 0 (sectorBytes * total)
 
 -- the words of sector i, low byte first
 abbrev pub wordIn : ℕ → ℕ → ℕ
 wordIn i k = byteIn i (2 * k) + 256 * byteIn i (2 * k + 1)
 
 unfoldable pub marks : List ℕ
-marks = replicate 32 0
+marks = replicate total 0
 
 unfoldable pub tuples : List ℕ
-tuples = replicate 256 0xFF
+tuples = replicate tupleBufferBytes 0xFF
 
 -- "Mode: 0 PC Card, 1 True IDE."
 unfoldable pub opening : ℕ → Machine
@@ -59,7 +63,7 @@ opening mode = machineOf (opened geometry mode store marks tuples .card) store m
 
 abbrev pub reads : ℕ → ℕ → ℕ → ℕ → Line
 reads space width address value = record {
-  access = askedWith (record { space = space; width = width; write = false; address = address; value = 0 }) tuples;
+  access = askedWith (record { space = space; width = width; address = address; value = 0; write = false }) tuples;
   number = 0;
   value = value;
   level = Either;
@@ -67,7 +71,7 @@ reads space width address value = record {
 
 abbrev pub writes : ℕ → ℕ → ℕ → ℕ → Line
 writes space width address value = record {
-  access = askedWith (record { space = space; width = width; write = true; address = address; value = value }) tuples;
+  access = askedWith (record { space = space; width = width; address = address; value = value; write = true }) tuples;
   number = 0;
   value = 0;
   level = Either;

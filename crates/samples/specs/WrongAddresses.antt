@@ -5,6 +5,7 @@ use mathlib.Core.List.{List, _++_}
 use lib.Dec.{eqb, leb}
 use lib.ListN.{length, take, drop}
 use Rattle.ground.specs.Choice.{pick}
+use Rattle.ground.specs.Sizes.{sectorBytes}
 use Rattle.geometry.specs.declared.Address.{Address}
 use Rattle.geometry.specs.Limits.{capacityOf}
 use Rattle.geometry.specs.Address.{byLba, cylinderOf, lbaOf}
@@ -26,10 +27,10 @@ abbrev pub firstLast : ℕ → List ℕ → List ℕ
 firstLast n l = drop n l ++ take n l
 
 abbrev pub forth : Machine → Machine
-forth m = withLent (firstLast 512 (m .store)) (firstLast 1 (m .marks)) m
+forth m = withLent (firstLast sectorBytes (m .store)) (firstLast 1 (m .marks)) m
 
 abbrev pub back : Machine → Machine
-back m = withLent (firstLast (length (m .store) - 512) (m .store)) (firstLast (length (m .marks) - 1) (m .marks)) m
+back m = withLent (firstLast (length (m .store) - sectorBytes) (m .store)) (firstLast (length (m .marks) - 1) (m .marks)) m
 
 unfoldable pub oneTooFar : Machine → Asked → Effect
 oneTooFar m a = let s = step (forth m) a in pick (inCommand m a && not (byLba (addressIn m))) (leaving (back (s .next)) s) (step m a)

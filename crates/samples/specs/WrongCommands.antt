@@ -7,6 +7,7 @@ use lib.ListN.{take, drop}
 use Rattle.ground.specs.Choice.{pick}
 use Rattle.geometry.specs.Shape.{geometryBy}
 use Rattle.registers.specs.declared.State.{State}
+use Rattle.registers.specs.Status.{errorStatus}
 use Rattle.registers.specs.State.{withCode, withCurrent, totalIn}
 use Rattle.registers.specs.Machine.{Machine, withBuffer}
 use Rattle.maps.specs.Rows.{withValue}
@@ -46,4 +47,4 @@ withHeads heads s = withCurrent (geometryBy heads (s .current .sectors) (totalIn
 unfoldable pub takesHeads : Machine → Asked → Effect
 takesHeads m a =
     let s = step m a in
-    pick (gives 0x91 m a && eqb (s .next .state .registers .status) 0x51) (altered (withHeads (m .state .registers .address .head % 16 + 1)) s) s
+    pick (gives 0x91 m a && eqb (s .next .state .registers .status) errorStatus) (altered (withHeads (m .state .registers .address .head % 16 + 1)) s) s

@@ -18,14 +18,14 @@ use Rattle.card.specs.Access.{Asked}
 use Rattle.card.specs.Step.{play, step}
 use Rattle.card.specs.Doors.{machineOf}
 use Rattle.card.specs.Opening.{opened}
-use Rattle.text.specs.Text.{header, shownValue}
+use Rattle.text.specs.Lines.{header, shownValue}
 use Rattle.text.proofs.Length.{line-length, bad-length, unopened-length}
 use Rattle.records.specs.declared.Sizes.{Sizes}
 use Rattle.records.specs.declared.First.{First}
 use Rattle.records.specs.declared.After.{After}
 use Rattle.session.specs.declared.Ending.{Ending}
 use Rattle.session.specs.declared.Ending.the-variants.{Whole, Broken, Unopened}
-use Rattle.records.specs.Record.{nextRecord, firstRecord, sizeOf, openingLength}
+use Rattle.records.specs.Record.{nextRecord, firstRecord, accessLength, openingLength}
 use Rattle.session.specs.Run.{Script, byAfter, scriptFrom, wrapped, lineText, linesOf, endText, Session, resultOf}
 use Rattle.session.specs.Play.{longestFile, mostSectors, opensAs, openedOn, opening, byFirst, sessionOf, printOf, geometryOf, zeroBytes, noTuples}
 use Rattle.records.proofs.Fits.{access-fits}
@@ -34,7 +34,7 @@ use Rattle.records.proofs.Fits.{access-fits}
 abbrev Short : ℕ → ℕ → Script → Type 0
 Short bound at s = (at + 8 * length (s .accesses) ≤ bound) × (s .place ≤ bound)
 
-size-least : (write : Bool) → 8 ≤ sizeOf write
+size-least : (write : Bool) → 8 ≤ accessLength write
 size-least true = omega arith
 size-least false = omega arith
 
@@ -43,7 +43,7 @@ turn-short : (t : After) (bound : ℕ) (part tuples : List ℕ) (rest : ℕ → 
 turn-short (After.Access q) bound part tuples rest at h g e ih =
     let f = access-fits q part at g e in
     let w = size-least (q .write) in
-    let i = ih (at + sizeOf (q .write)) (omega arith) in
+    let i = ih (at + accessLength (q .write)) (omega arith) in
     (omega (arith, i .0), i .1)
 turn-short (After.Stop why) bound part tuples rest at h g e ih = (omega arith, omega arith)
 
@@ -73,7 +73,7 @@ end-length (Broken why) place h = bad-length place h
 end-length (Unopened r) place h = let f = unopened-length r in omega arith
 
 -- a run of a whole file's accesses
-run-length : (file tuples : List ℕ) (m : Machine) → length file ≤ longestFile → length (resultOf 0 1 0 m (scriptFrom (length file) file tuples openingLength) .session .text) ≤ 61420
+run-length : (file tuples : List ℕ) (m : Machine) → length file ≤ longestFile → length (resultOf 0 1 m (scriptFrom (length file) file tuples openingLength) .session .text) ≤ 61420
 unfolding resultOf
 run-length file tuples m h =
     let s = scriptFrom (length file) file tuples openingLength in
@@ -95,7 +95,7 @@ unfolding opening openedOn
 opening-length s file h =
     let n = capacityOf (geometryOf s) in
     let answer = opened (geometryOf s) (s .mode) (zeroBytes (512 * n)) (zeroBytes n) noTuples in
-    pick-elim (λ (x : Session). length (x .text) ≤ 61420) (ltb mostSectors (capacityOf (geometryOf s))) _ _
+    pick-elim (λ (x : Session (List ℕ)). length (x .text) ≤ 61420) (ltb mostSectors (capacityOf (geometryOf s))) _ _
     (λ _. let f = unopened-length GeometryOrMode in omega arith)
     (λ _. opens-length (answer .outcome) (answer .card) file (zeroBytes (512 * n)) (zeroBytes n) noTuples h)
 
@@ -106,11 +106,11 @@ first-length (First.Stop why) file h = let f = bad-length 0 (omega arith) in ome
 session-length : (file : List ℕ) → length (sessionOf file .text) ≤ 61420
 unfolding sessionOf
 session-length file =
-    pick-elim (λ (x : Session). length (x .text) ≤ 61420) (ltb longestFile (length file)) _ _
-    (λ _. let f = bad-length longestFile (omega arith) in omega arith)
-    (λ e. pick-elim (λ (x : Session). length (x .text) ≤ 61420) (eqb (length file) 0) _ _
+    pick-elim (λ (x : Session (List ℕ)). length (x .text) ≤ 61420) (eqb (length file) 0) _ _
     (λ _. let f = bad-length 0 (omega arith) in omega arith)
-    (λ _. first-length (firstRecord file) file (ltb-false longestFile (length file) e)))
+    (λ _. pick-elim (λ (x : Session (List ℕ)). length (x .text) ≤ 61420) (ltb longestFile (length file)) _ _
+    (λ _. let f = bad-length longestFile (omega arith) in omega arith)
+    (λ e. first-length (firstRecord file) file (ltb-false longestFile (length file) e)))
 
 -- everything that is printed of any file
 pub print-length : (file : List ℕ) → length (printOf file) ≤ 61438

@@ -9,10 +9,10 @@ use lib.Seq.{length-take-le}
 use borrow.Author.Tests.{leb-true, leb-false}
 use mathlib.Core.Bool.{Bool, true, false}
 use lib.ListN.{length, take, drop, length-replicate, length-append, length-take, length-drop}
-use Rattle.text.specs.Text.{header}
+use Rattle.text.specs.Lines.{header}
 use Rattle.session.specs.declared.Told.{Told}
 use Rattle.text.specs.Output.{Output, output, put, holding, LiesIn}
-use Rattle.session.specs.Run.{Printed, printedIn, printedAt, toldAs}
+use Rattle.session.specs.Run.{Session, printedIn, printedAt, toldAs}
 use Rattle.session.specs.Play.{zeroBytes, sessionOf, printed, printOf}
 use Rattle.text.proofs.Outputs.{put-then, put-holds}
 use Rattle.ground.proofs.Lists.{take-replicate}
@@ -48,7 +48,7 @@ holding-length bytes text =
 -- the bytes that are told lie in the output
 pub text-lies : (bytes file : List ℕ) (t : Told) (out : List ℕ) → toldAs t out ≡ printed bytes file → LiesIn (t .text) out
 text-lies bytes file t out e =
-    let n : t .text ≡ min (length (printOf file)) (length bytes) = ap (λ (p : Printed). p .out .at) e in
-    let l : length out ≡ length bytes = ap (λ (p : Printed). length (p .out .bytes)) e ∙ holding-length bytes (printOf file) in
+    let n : t .text ≡ min (length (printOf file)) (length bytes) = ap (λ (p : Session Output). p .text .at) e in
+    let l : length out ≡ length bytes = ap (λ (p : Session Output). length (p .text .bytes)) e ∙ holding-length bytes (printOf file) in
     let h : t .text ≤ length out = rw (n, l) (min-le-right (length (printOf file)) (length bytes)) in
     (h, sym (length-take-le (t .text) out h))

@@ -14,10 +14,10 @@ use Rattle.records.specs.declared.After.{After}
 use Rattle.records.specs.declared.Break.{Break}
 use Rattle.session.specs.declared.Ending.{Ending}
 use Rattle.session.specs.declared.Ending.the-variants.{Whole, Broken}
-use Rattle.records.specs.Record.{nextRecord, sizeOf}
-use Rattle.text.specs.Text.{bad}
+use Rattle.records.specs.Record.{nextRecord, accessLength}
+use Rattle.text.specs.Lines.{bad}
 use Rattle.text.specs.Output.{Output, put}
-use Rattle.session.specs.Run.{Script, ends, goesOn, scriptFrom, wrapped, lineText, endText, Result, resultOf, Shown, shownAt}
+use Rattle.session.specs.Run.{Script, ends, goesOn, scriptFrom, wrapped, lineText, endText, Result, resultOf, shownAt}
 use Rattle.text.proofs.Outputs.{put-then}
 
 -- the part's end, a broken record, an access
@@ -32,12 +32,19 @@ unfolding scriptFrom
 script-stop n k part tuples at why h g e = rw h (simp (lt-leb _ _ g, e))
 
 script-access : (n k : ℕ) (part tuples : List ℕ) (at : ℕ) (q : Access) → n ≡ suc k → at < length part → nextRecord part at ≡ After.Access q →
-    scriptFrom n part tuples at ≡ goesOn (askedWith q tuples) (scriptFrom k part tuples (at + sizeOf (q .write)))
+    scriptFrom n part tuples at ≡ goesOn (askedWith q tuples) (scriptFrom k part tuples (at + accessLength (q .write)))
 unfolding scriptFrom
 script-access n k part tuples at q h g e = rw h (simp (lt-leb _ _ g, e))
 
--- what a run leaves, with more text before it
-abbrev ahead : List ℕ → Result → Result
+-- what a run leaves, with so many accesses done before it; and with more text before it
+abbrev after : ℕ → Result (List ℕ) → Result (List ℕ)
+after done r =
+    record {
+      machine = r .machine;
+      session = record { place = r .session .place; done = done + r .session .done; end = r .session .end; text = r .session .text };
+    }
+
+abbrev ahead : List ℕ → Result (List ℕ) → Result (List ℕ)
 ahead text r =
     record {
       machine = r .machine;
@@ -45,32 +52,36 @@ ahead text r =
     }
 
 result-ends : (first number done : ℕ) (m : Machine) (at : ℕ) (e : Ending) →
-    resultOf first number done m (ends at e) ≡ record { machine = m; session = record { place = wrapped (first + at); done = done; end = e; text = endText e (wrapped (first + at)) } }
+    after done (resultOf first number m (ends at e)) ≡ record { machine = m; session = record { place = wrapped (first + at); done = done; end = e; text = endText e (wrapped (first + at)) } }
 unfolding resultOf play
 result-ends first number done m at e = let z : done + 0 ≡ done = omega arith in rw z
 
 result-goes-on : (first number done : ℕ) (m : Machine) (a : Asked) (s : Script) →
-    resultOf first number done m (goesOn a s) ≡ ahead (lineText number a (step m a .outcome)) (resultOf first (wrapped (number + 1)) (done + 1) (step m a .next) s)
+    after done (resultOf first number m (goesOn a s)) ≡ ahead (lineText number a (step m a .outcome)) (after (done + 1) (resultOf first (wrapped (number + 1)) (step m a .next) s))
 unfolding resultOf play
 result-goes-on first number done m a s =
     let z : done + suc (length (s .accesses)) ≡ done + 1 + length (s .accesses) = omega arith in
     simp (z, append-assoc)
 
-shown-ahead : (o : Output) (text : List ℕ) (r : Result) → shownAt o (ahead text r) ≡ shownAt (put o text) r
+shown-ahead : (o : Output) (text : List ℕ) (r : Result (List ℕ)) → shownAt o (ahead text r) ≡ shownAt (put o text) r
 shown-ahead o text r = simp put-then
 
 -- what is still to be done at a place of the part: no access begins before the place of its number, so fewer than its bytes are left
-abbrev pub toCome : Output → ℕ → ℕ → ℕ → Machine → List ℕ → List ℕ → ℕ → Shown
-toCome o first number done m part tuples at = shownAt o (resultOf first number done m (scriptFrom (length part - done) part tuples at))
+abbrev pub toCome : Output → ℕ → ℕ → ℕ → Machine → List ℕ → List ℕ → ℕ → Result Output
+toCome o first number done m part tuples at = shownAt o (after done (resultOf first number m (scriptFrom (length part - done) part tuples at)))
+
+-- at the start none is done
+pub from-start : (o : Output) (r : Result (List ℕ)) → shownAt o (after 0 r) ≡ shownAt o r
+from-start o r = let z : 0 + r .session .done ≡ r .session .done = omega arith in rw z refl
 
 -- a run that comes to its end here
-abbrev pub stopsAt : Machine → ℕ → ℕ → Ending → Output → Shown
-stopsAt m place done e o = record { machine = m; printed = record { place = place; done = done; end = e; out = o } }
+abbrev pub stopsAt : Machine → ℕ → ℕ → Ending → Output → Result Output
+stopsAt m place done e o = record { machine = m; session = record { place = place; done = done; end = e; text = o } }
 
 lines-ended : (o : Output) (first number done at : ℕ) (part tuples : List ℕ) (m : Machine) (e : Ending) → scriptFrom (length part - done) part tuples at ≡ ends at e →
     toCome o first number done m part tuples at ≡ stopsAt m (wrapped (first + at)) done e (put o (endText e (wrapped (first + at))))
 lines-ended o first number done at part tuples m e f =
-    ap (λ (s : Script). shownAt o (resultOf first number done m s)) f ∙ ap (shownAt o) (result-ends first number done m at e)
+    ap (λ (s : Script). shownAt o (after done (resultOf first number m s))) f ∙ ap (shownAt o) (result-ends first number done m at e)
 
 pub lines-end : (o : Output) (first number done at : ℕ) (part tuples : List ℕ) (m : Machine) → length part ≤ at →
     toCome o first number done m part tuples at ≡ stopsAt m (wrapped (first + at)) done Whole o
@@ -85,13 +96,13 @@ lines-stop o first number done at part tuples m why h g e =
 pub lines-turn : (o o′ : Output) (first number done at : ℕ) (part tuples : List ℕ) (m : Machine) (q : Access) (s : Effect) →
     done ≤ at → at < length part → nextRecord part at ≡ After.Access q → s ≡ step m (askedWith q tuples) →
     o′ ≡ put o (lineText number (askedWith q tuples) (s .outcome)) →
-    toCome o′ first (wrapped (number + 1)) (done + 1) (s .next) part tuples (at + sizeOf (q .write)) ≡ toCome o first number done m part tuples at
+    toCome o′ first (wrapped (number + 1)) (done + 1) (s .next) part tuples (at + accessLength (q .write)) ≡ toCome o first number done m part tuples at
 lines-turn o o′ first number done at part tuples m q s h g e f p =
     let a = askedWith q tuples in
-    let rest = scriptFrom (length part - (done + 1)) part tuples (at + sizeOf (q .write)) in
-    let after : Effect → Result = λ (s : Effect). resultOf first (wrapped (number + 1)) (done + 1) (s .next) rest in
-    ap (λ (x : Output). shownAt x (after s)) p
-    ∙ ap (λ (s : Effect). shownAt (put o (lineText number a (s .outcome))) (after s)) f
-    ∙ sym (shown-ahead o (lineText number a (step m a .outcome)) (after (step m a)))
+    let rest = scriptFrom (length part - (done + 1)) part tuples (at + accessLength (q .write)) in
+    let then : Effect → Result (List ℕ) = λ (s : Effect). after (done + 1) (resultOf first (wrapped (number + 1)) (s .next) rest) in
+    ap (λ (x : Output). shownAt x (then s)) p
+    ∙ ap (λ (s : Effect). shownAt (put o (lineText number a (s .outcome))) (then s)) f
+    ∙ sym (shown-ahead o (lineText number a (step m a .outcome)) (then (step m a)))
     ∙ ap (shownAt o) (sym (result-goes-on first number done m a rest))
-    ∙ ap (λ (s : Script). shownAt o (resultOf first number done m s)) (sym (script-access (length part - done) (length part - (done + 1)) part tuples at q (omega arith) g e))
+    ∙ ap (λ (s : Script). shownAt o (after done (resultOf first number m s))) (sym (script-access (length part - done) (length part - (done + 1)) part tuples at q (omega arith) g e))

@@ -7,13 +7,14 @@ use native.Mathlib.Omega.{arith}
 use lib.Dec.{eqb}
 use lib.ListN.{length}
 use borrow.Author.Tests.{eq-eqb, eqb-true}
+use Rattle.ground.specs.Rows.{firstOf}
 use Rattle.answers.specs.declared.Refusal.{Refusal}
 use Rattle.answers.specs.declared.Refusal.the-variants.{NotWellMade, StoreLength, MarksLength, TupleBufferLength}
 use Rattle.registers.specs.State.{totalIn}
 use Rattle.registers.specs.Machine.{Machine}
 use Rattle.registers.specs.WellMade.{wellMade}
 use Rattle.port.specs.Data.{Effect}
-use Rattle.card.specs.Access.{Asked, verdictBy, verdictOf}
+use Rattle.card.specs.Access.{Asked, fitTable, verdictOf}
 use Rattle.card.specs.Perform.{perform}
 use Rattle.card.specs.Step.{step, fitStep, byVerdict}
 use Rattle.card.proofs.Verdicts.{verdict-step}
@@ -25,7 +26,7 @@ use Rattle.card.specs.declared.Verdict.the-variants.{Fit, Refused}
 not-fit : (r : Refusal) → Fit ≡ Refused r → ⊥
 not-fit r e = let z : _≡_ {A = ℕ} 0 1 = cc in omega arith
 
-all-hold : (w s k t : Bool) → Fit ≡ verdictBy w s k t → (w ≡ true) × (s ≡ true) × (k ≡ true) × (t ≡ true)
+all-hold : (w s k t : Bool) → Fit ≡ firstOf (fitTable w s k t) Refused Fit → (w ≡ true) × (s ≡ true) × (k ≡ true) × (t ≡ true)
 all-hold true true true true e = (refl, refl, refl, refl)
 all-hold true true true false e = absurd (not-fit TupleBufferLength e)
 all-hold true true false t e = absurd (not-fit MarksLength e)

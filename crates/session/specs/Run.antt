@@ -16,9 +16,9 @@ use Rattle.session.specs.declared.Ending.{Ending}
 use Rattle.session.specs.declared.Ending.the-variants.{Whole, Broken, Unopened}
 use Rattle.session.specs.declared.Told.{Told}
 use Rattle.session.specs.declared.Ran.{Ran}
-use Rattle.records.specs.Record.{nextRecord, sizeOf}
-use Rattle.text.specs.Text.{line, shownValue, bad, unopened}
-use Rattle.text.specs.Output.{Output, output, put, heldIn}
+use Rattle.records.specs.Record.{nextRecord, accessLength}
+use Rattle.text.specs.Lines.{line, shownValue, bad, unopened}
+use Rattle.text.specs.Output.{Output, output, put, putAtStart}
 
 -- what the records of a part ask for: its accesses, and the place where it ends and how
 pub record Script : Type 0 where
@@ -33,7 +33,7 @@ abbrev pub goesOn : Asked → Script → Script
 goesOn a s = record { accesses = a ∷ s .accesses; place = s .place; end = s .end }
 
 abbrev pub byAfter : After → (ℕ → Script) → List ℕ → ℕ → Script
-byAfter (After.Access a) rest tuples at = goesOn (askedWith a tuples) (rest (at + sizeOf (a .write)))
+byAfter (After.Access a) rest tuples at = goesOn (askedWith a tuples) (rest (at + accessLength (a .write)))
 byAfter (After.Stop why) rest tuples at = ends at (Broken why)
 
 -- at most so many accesses, from a place on: "accesses before it stand", and nothing after it
@@ -60,65 +60,55 @@ endText Whole place = []
 endText (Broken why) place = bad place
 endText (Unopened r) place = unopened (numberOf r)
 
--- what a session or a part of one comes to: the place reached, the accesses done, how it ended, and its text
-pub record Session : Type 0 where
+-- what a session or a part of one comes to: the place reached, the accesses done, how it ended, and its text, as bytes or as the output that holds it
+pub record Session (T : Type 0) : Type 0 where
   pub place : ℕ
   pub done : ℕ
   pub end : Ending
-  pub text : List ℕ
+  pub text : T
 
 -- what a run leaves
-pub record Result : Type 0 where
+pub record Result (T : Type 0) : Type 0 where
   pub machine : Machine
-  pub session : Session
+  pub session : Session T
 
-abbrev pub sessionBy : List Effect → ℕ → ℕ → ℕ → Script → Session
-sessionBy steps first number done s =
+abbrev pub sessionBy : List Effect → ℕ → ℕ → Script → Session (List ℕ)
+sessionBy steps first number s =
     record {
       place = wrapped (first + s .place);
-      done = done + length (s .accesses);
+      done = length (s .accesses);
       end = s .end;
       text = linesOf number (s .accesses) steps ++ endText (s .end) (wrapped (first + s .place));
     }
 
-abbrev pub resultAs : Played → ℕ → ℕ → ℕ → Script → Result
-resultAs p first number done s = record { machine = p .last; session = sessionBy (p .steps) first number done s }
+abbrev pub resultAs : Played → ℕ → ℕ → Script → Result (List ℕ)
+resultAs p first number s = record { machine = p .last; session = sessionBy (p .steps) first number s }
 
 -- the part begins at the place `first` of its file, its first access has this number
-unfoldable pub resultOf : ℕ → ℕ → ℕ → Machine → Script → Result
-resultOf first number done m s = resultAs (play m (s .accesses)) first number done s
+unfoldable pub resultOf : ℕ → ℕ → Machine → Script → Result (List ℕ)
+resultOf first number m s = resultAs (play m (s .accesses)) first number s
 
 -- ---- with the text in an output
 
-pub record Printed : Type 0 where
-  pub place : ℕ
-  pub done : ℕ
-  pub end : Ending
-  pub out : Output
+abbrev pub printedIn : Output → Session (List ℕ) → Session Output
+printedIn o s = record { place = s .place; done = s .done; end = s .end; text = o }
 
-pub record Shown : Type 0 where
-  pub machine : Machine
-  pub printed : Printed
-
-abbrev pub printedIn : Output → Session → Printed
-printedIn o s = record { place = s .place; done = s .done; end = s .end; out = o }
-
-abbrev pub printedAt : Output → Session → Printed
+abbrev pub printedAt : Output → Session (List ℕ) → Session Output
 printedAt o s = printedIn (put o (s .text)) s
 
-abbrev pub shownIn : Output → Result → Shown
-shownIn o r = record { machine = r .machine; printed = printedIn o (r .session) }
+abbrev pub shownIn : Output → Result (List ℕ) → Result Output
+shownIn o r = record { machine = r .machine; session = printedIn o (r .session) }
 
-abbrev pub shownAt : Output → Result → Shown
+abbrev pub shownAt : Output → Result (List ℕ) → Result Output
 shownAt o r = shownIn (put o (r .session .text)) r
 
 -- of an output from its start
-abbrev pub shown : List ℕ → Result → Shown
-shown bytes r = shownIn (heldIn bytes (r .session .text)) r
+abbrev pub shown : List ℕ → Result (List ℕ) → Result Output
+shown bytes r = shownIn (putAtStart bytes (r .session .text)) r
 
 -- all that is left, of an answer and what was lent
-abbrev pub toldAs : Told → List ℕ → Printed
-toldAs t bytes = record { place = t .place; done = t .done; end = t .end; out = output bytes (t .text) }
+abbrev pub toldAs : Told → List ℕ → Session Output
+toldAs t bytes = record { place = t .place; done = t .done; end = t .end; text = output bytes (t .text) }
 
-abbrev pub ranAs : Ran → List ℕ → List ℕ → List ℕ → Shown
-ranAs r store marks bytes = record { machine = machineOf (r .card) store marks; printed = toldAs (r .told) bytes }
+abbrev pub ranAs : Ran → List ℕ → List ℕ → List ℕ → Result Output
+ranAs r store marks bytes = record { machine = machineOf (r .card) store marks; session = toldAs (r .told) bytes }

@@ -6,6 +6,11 @@ use records::Break;
 pub mod play;
 pub mod run;
 
+// 01: the longest file, and the most sectors of its card.
+pub const LONGEST_FILE: usize = 32768;
+
+pub(crate) const MOST_SECTORS: usize = 32;
+
 // How a session or a part of one ended.
 pub enum Ending {
     Whole,

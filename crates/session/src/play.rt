@@ -1,25 +1,36 @@
 // A whole file: the card from its opening, with a zero store, zero marks and tuples of FFH, and everything that is printed.
 use super::Ending;
+use super::LONGEST_FILE;
+use super::MOST_SECTORS;
 use super::Told;
 use super::run;
 use answers::Outcome;
 use answers::Refusal;
 use card::Card;
 use geometry::Geometry;
+use ground::SECTOR_BYTES;
+use ground::TUPLE_BUFFER_BYTES;
 use records::Break;
 use records::First;
+use records::OPENING_LENGTH;
 use records::Sizes;
 ghost use mathlib.Core.Path.{_≡_};
 ghost use Rattle.session.specs.declared.Ending.the-variants.{Broken, Unopened};
 ghost use Prim.Native.Nat.{_*_};
+ghost use Rattle.ground.specs.Sizes.{sectorBytes};
 ghost use Rattle.text.specs.Output.{output, LiesIn};
 ghost use Rattle.session.specs.Run.{printedAt, toldAs};
 ghost use Rattle.session.specs.Play.{stopped, openedOn, mostSectors, zeroBytes, noTuples, opening, sessionOf, printed, endNumber};
 
+// A file's first byte has the place 0; 01: an access has "its number from 1".
+const FILE_START: u64 = 0;
+
+const FIRST_NUMBER: u64 = 1;
+
 fn bad(out: &mut [u8], at: usize, place: u64, why: Break) -> Told
     ensures { λ r. ⌜ toldAs r (now (out .exit)) ≡ printedAt (output (now (out .entry)) at) (stopped place (Broken why)) ⌝ }
 {
-    let next = text::put_bad(out, at, place);
+    let next = text::lines::put_bad(out, at, place);
     Told {
         place: place,
         done: 0,
@@ -31,7 +42,7 @@ fn bad(out: &mut [u8], at: usize, place: u64, why: Break) -> Told
 fn unopened(out: &mut [u8], at: usize, refusal: Refusal) -> Told
     ensures { λ r. ⌜ toldAs r (now (out .exit)) ≡ printedAt (output (now (out .entry)) at) (stopped 0 (Unopened refusal)) ⌝ }
 {
-    let next = text::put_unopened(out, at, refusal.number());
+    let next = text::lines::put_unopened(out, at, refusal.number());
     Told {
         place: 0,
         done: 0,
@@ -65,29 +76,40 @@ fn opened_on(
     let card = answer.card;
     match outcome {
         Outcome::Accepted(_) => {
-            let ran = run::run_from(card, file, 12, 0, 1, store, marks, tuples, out, at);
+            let ran = run::run_from(
+                card,
+                file,
+                OPENING_LENGTH as usize,
+                FILE_START,
+                FIRST_NUMBER,
+                store,
+                marks,
+                tuples,
+                out,
+                at,
+            );
             ran.told
         }
         Outcome::Refused(refusal) => unopened(out, at, refusal),
     }
 }
 
-fn zero_store() -> [u8; 16384]
-    ensures { λ r. ⌜ r ≡ zeroBytes (512 * mostSectors) ⌝ }
+fn zero_store() -> [u8; SECTOR_BYTES * MOST_SECTORS]
+    ensures { λ r. ⌜ r ≡ zeroBytes (sectorBytes * mostSectors) ⌝ }
 {
-    [0u8; 16384]
+    [0u8; SECTOR_BYTES * MOST_SECTORS]
 }
 
-fn zero_marks() -> [u8; 32]
+fn zero_marks() -> [u8; MOST_SECTORS]
     ensures { λ r. ⌜ r ≡ zeroBytes mostSectors ⌝ }
 {
-    [0u8; 32]
+    [0u8; MOST_SECTORS]
 }
 
-fn no_tuples() -> [u8; 256]
+fn no_tuples() -> [u8; TUPLE_BUFFER_BYTES]
     ensures { λ r. ⌜ r ≡ noTuples ⌝ }
 {
-    [255u8; 256]
+    [0xFFu8; TUPLE_BUFFER_BYTES]
 }
 
 // 01: N at most 32.
@@ -100,10 +122,10 @@ fn opening(sizes: Sizes, file: &[u8], out: &mut [u8], at: usize) -> Told
         sectors: sizes.sectors,
     };
     let total = geometry.capacity();
-    if 32 < total {
+    if MOST_SECTORS < total {
         return unopened(out, at, Refusal::GeometryOrMode);
     }
-    let size = 512 * total;
+    let size = SECTOR_BYTES * total;
     let mut store = zero_store();
     let mut marks = zero_marks();
     let tuples = no_tuples();
@@ -118,12 +140,12 @@ fn opening(sizes: Sizes, file: &[u8], out: &mut [u8], at: usize) -> Told
     )
 }
 
-// What follows the header.
+// What follows the header. That a file is too long is asked first: then the loop over its accesses takes fewer instructions.
 fn session(file: &[u8], out: &mut [u8], at: usize) -> Told
     ensures { λ r. ⌜ toldAs r (now (out .exit)) ≡ printedAt (output (now (out .entry)) at) (sessionOf (now (file .entry))) ⌝ }
 {
-    if 32768 < file.len() {
-        return bad(out, at, 32768, Break::TooLong);
+    if LONGEST_FILE < file.len() {
+        return bad(out, at, LONGEST_FILE as u64, Break::TooLong);
     }
     if file.len() == 0 {
         return bad(out, at, 0, Break::Empty);
@@ -139,7 +161,7 @@ pub fn play(file: &[u8], out: &mut [u8]) -> Told
     ensures { λ r. ⌜ toldAs r (now (out .exit)) ≡ printed (now (out .entry)) (now (file .entry)) ⌝ }
     ensures { λ r. ⌜ LiesIn (r .text) (now (out .exit)) ⌝ }
 {
-    let at = text::put_header(out, 0);
+    let at = text::lines::put_header(out, 0);
     session(file, out, at)
 }
 
@@ -150,7 +172,7 @@ impl Ending {
     {
         match self {
             Ending::Whole => 0,
-            Ending::Broken(_) => 17,
+            Ending::Broken(_) => Refusal::SessionBroken.number(),
             Ending::Unopened(refusal) => refusal.number(),
         }
     }

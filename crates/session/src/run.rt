@@ -5,10 +5,12 @@ use super::Told;
 use answers::Outcome;
 use card::Card;
 use card::Verdict;
+use ground::Sector;
 use maps::Access;
 use port::Done;
 use records::After;
 use registers::Core;
+use text::digits::HexTable;
 use text::digits::LineNumber;
 ghost use mathlib.Core.Path.{_≡_};
 ghost use Prim.Native.Nat.{_+_, _<_};
@@ -19,7 +21,7 @@ ghost use Rattle.port.specs.Data.{effect};
 ghost use Rattle.card.specs.Step.{step};
 ghost use Rattle.card.specs.Doors.{machineOf, cardOf};
 ghost use Rattle.answers.specs.Answers.{outcomeNumber};
-ghost use Rattle.text.specs.Text.{line, shownValue};
+ghost use Rattle.text.specs.Lines.{line, shownValue};
 ghost use Rattle.text.specs.Digits.{lineNumber, hexTable};
 ghost use Rattle.text.specs.Output.{output, put};
 ghost use Rattle.session.specs.Run.{wrapped, scriptFrom, resultOf, shownAt, shown, ranAs};
@@ -42,7 +44,7 @@ fn count_known(core: Core)
 // What a run leaves at a place of its part.
 fn ran(
     core: Core,
-    buffer: [u8; 512],
+    buffer: Sector,
     first: u64,
     at: usize,
     done: usize,
@@ -74,7 +76,7 @@ fn answer(
     verdict: Verdict,
     core: Core,
     access: Access,
-    buffer: &mut [u8; 512],
+    buffer: &mut Sector,
     store: &mut [u8],
     marks: &mut [u8],
     tuples: &[u8],
@@ -95,7 +97,7 @@ fn put_answer(
     number: LineNumber,
     access: Access,
     outcome: Outcome,
-    table: &[u8; 512],
+    table: &HexTable,
 ) -> usize
     requires { ⌜ (number ≡ lineNumber (number .value)) × (now table ≡ hexTable) ⌝ }
     ensures { λ r. ⌜ output (now (out .exit)) r ≡ put (output (now (out .entry)) at) (line (number .value) (access .write) (outcomeNumber outcome) (shownValue outcome (access .write) (access .value))) ⌝ }
@@ -103,11 +105,11 @@ fn put_answer(
     match outcome {
         Outcome::Accepted(read) => {
             let shown = written_or_read(access.write, access.value, read);
-            text::put_accepted(out, at, number, access.write, table, shown)
+            text::lines::put_accepted(out, at, number, access.write, table, shown)
         }
         Outcome::Refused(refusal) => {
             let answer = refusal.number();
-            text::put_line(out, at, number, access.write, answer, table, 0)
+            text::lines::put_line(out, at, number, access.write, answer, table, 0)
         }
     }
 }
@@ -127,7 +129,7 @@ fn lines(
     start: usize,
 ) -> Ran
     requires { ⌜ verdict ≡ verdictOf (card .phase) (card .state) (now store) (now marks) (now tuples) ⌝ }
-    ensures { λ r. ⌜ ranAs r (now (store .exit)) (now (marks .exit)) (now (out .exit)) ≡ shownAt (output (now (out .entry)) start) (resultOf first number 0 (machineOf card (now (store .entry)) (now (marks .entry))) (scriptFrom (length (now (part .entry))) (now (part .entry)) (now (tuples .entry)) from)) ⌝ }
+    ensures { λ r. ⌜ ranAs r (now (store .exit)) (now (marks .exit)) (now (out .exit)) ≡ shownAt (output (now (out .entry)) start) (resultOf first number (machineOf card (now (store .entry)) (now (marks .entry))) (scriptFrom (length (now (part .entry))) (now (part .entry)) (now (tuples .entry)) from)) ⌝ }
 {
     let mut buffer = card.buffer;
     let phase = card.phase;
@@ -138,29 +140,29 @@ fn lines(
     };
     let mut at = from;
     let mut counter = LineNumber::of(number);
-    let mut done = 0;
+    let mut count = 0;
     let mut text = start;
     let table = text::digits::hex_table();
     while at < part.len() {
         match records::next_record(part, at) {
             After::Stop(why) => {
                 let place = std::num::wrapping_add_u64(first, at as u64);
-                let next = text::put_bad(out, text, place);
-                return ran(core, buffer, first, at, done, Ending::Broken(why), next);
+                let next = text::lines::put_bad(out, text, place);
+                return ran(core, buffer, first, at, count, Ending::Broken(why), next);
             }
             After::Access(access) => {
-                let reply = answer(verdict, core, access, &mut buffer, store, marks, tuples);
-                let outcome = reply.outcome;
-                let after = reply.core;
+                let done = answer(verdict, core, access, &mut buffer, store, marks, tuples);
+                let outcome = done.outcome;
+                let after = done.core;
                 text = put_answer(out, text, counter, access, outcome, &table);
                 core = after;
                 counter = counter.next();
-                at += records::size_of(access.write) as usize;
-                done += 1;
+                at += records::access_length(access.write) as usize;
+                count += 1;
             }
         }
     }
-    ran(core, buffer, first, at, done, Ending::Whole, text)
+    ran(core, buffer, first, at, count, Ending::Whole, text)
 }
 
 // The same of any card with anything lent.
@@ -176,7 +178,7 @@ pub(crate) fn run_from(
     out: &mut [u8],
     start: usize,
 ) -> Ran
-    ensures { λ r. ⌜ ranAs r (now (store .exit)) (now (marks .exit)) (now (out .exit)) ≡ shownAt (output (now (out .entry)) start) (resultOf first number 0 (machineOf card (now (store .entry)) (now (marks .entry))) (scriptFrom (length (now (part .entry))) (now (part .entry)) (now (tuples .entry)) from)) ⌝ }
+    ensures { λ r. ⌜ ranAs r (now (store .exit)) (now (marks .exit)) (now (out .exit)) ≡ shownAt (output (now (out .entry)) start) (resultOf first number (machineOf card (now (store .entry)) (now (marks .entry))) (scriptFrom (length (now (part .entry))) (now (part .entry)) (now (tuples .entry)) from)) ⌝ }
 {
     let phase = card.phase;
     let state = card.state;
@@ -211,7 +213,7 @@ pub fn run(
     tuples: &[u8],
     out: &mut [u8],
 ) -> Ran
-    ensures { λ r. ⌜ ranAs r (now (store .exit)) (now (marks .exit)) (now (out .exit)) ≡ shown (now (out .entry)) (resultOf first number 0 (machineOf card (now (store .entry)) (now (marks .entry))) (scriptFrom (length (now (part .entry))) (now (part .entry)) (now (tuples .entry)) 0)) ⌝ }
+    ensures { λ r. ⌜ ranAs r (now (store .exit)) (now (marks .exit)) (now (out .exit)) ≡ shown (now (out .entry)) (resultOf first number (machineOf card (now (store .entry)) (now (marks .entry))) (scriptFrom (length (now (part .entry))) (now (part .entry)) (now (tuples .entry)) 0)) ⌝ }
 {
     run_from(card, part, 0, first, number, store, marks, tuples, out, 0)
 }

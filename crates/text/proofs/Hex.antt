@@ -4,8 +4,7 @@ use mathlib.Core.Path.{_≡_, refl, ap, _∙_}
 use native.Mathlib.Omega.{arith}
 use lib.ListN.{length, getD}
 use Rattle.ground.proofs.Lists.{listed-at, listed-length}
-use Rattle.text.specs.Text.{hexDigit, hexFour}
-use Rattle.text.specs.Digits.{hexAt, hexTable, hexBy}
+use Rattle.text.specs.Digits.{hexDigit, hexFour, hexAt, hexTable, hexBy}
 
 pub table-length : length hexTable ≡ 512
 unfolding hexTable

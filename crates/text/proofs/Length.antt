@@ -10,7 +10,8 @@ use Rattle.answers.specs.declared.Refusal.{Refusal}
 use Rattle.answers.specs.declared.Outcome.{Outcome}
 use Rattle.answers.specs.Answers.{numberOf, outcomeNumber}
 use Rattle.answers.proofs.Outcomes.{number-range}
-use Rattle.text.specs.Text.{furtherDigits, decimal, hexFour, blank, newline, letter, line, bad, unopened}
+use Rattle.text.specs.Digits.{furtherDigits, decimal, hexFour}
+use Rattle.text.specs.Lines.{blank, newline, letter, line, bad, unopened}
 use Rattle.text.proofs.Texts.{further-small, last-length}
 
 -- numbers below a bound have at most so many digits more than one; those below ten times the bound one more

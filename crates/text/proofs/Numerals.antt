@@ -8,8 +8,8 @@ use lib.Dec.{eqb, leb, ltb}
 use borrow.Author.Tests.{ltb-true, ltb-false, leb-true, leb-false, eqb-true, eqb-false}
 use Rattle.ground.proofs.Picks.{pick-elim}
 use Rattle.text.specs.declared.digits.LineNumber.{LineNumber}
-use Rattle.text.specs.Text.{furtherDigits, lastDigits, decimal, lineBy, line}
-use Rattle.text.specs.Digits.{packed, fourBytes, lineNumber, nextNumber, noZeros, shortNumeral, numeral, hexTable, hexBy}
+use Rattle.text.specs.Digits.{digitCode, furtherDigits, lastDigits, decimal, packed, fourBytes, lineNumber, nextNumber, noZeros, shortNumeral, numeral, hexTable, hexBy}
+use Rattle.text.specs.Lines.{lineBy, line}
 use Rattle.text.proofs.Hex.{table-hex}
 use Rattle.text.proofs.Texts.{digits-one, digits-more}
 
@@ -49,7 +49,7 @@ up-ten n h i =
     let f : (n + 1) / 100 ≡ n / 100 = by-tens (n + 1) .0 ∙ ap (λ (q : ℕ). q / 10) m ∙ over (n / 10) i .0 ∙ sym (by-tens n .0) in
     let g : (n / 10 + 1) % 10 ≡ n / 10 % 10 + 1 = omega arith in
     let k : (n + 1) % 10 ≡ 0 = omega arith in
-    let l = low-three (48 + n / 1000 % 10) (48 + n / 100 % 10) (48 + n / 10 % 10) (48 + n % 10) (omega arith) (omega arith) (omega arith) in
+    let l = low-three (digitCode (n / 1000 % 10)) (digitCode (n / 100 % 10)) (digitCode (n / 10 % 10)) (digitCode (n % 10)) (omega arith) (omega arith) (omega arith) in
     rw (l, e, f, m, g, k) (omega arith)
 
 abbrev told : ℕ → ℕ → LineNumber
@@ -60,7 +60,7 @@ pub next-number : (n : ℕ) → n < 2 ^ 64 → lineNumber ((n + 1) % 2 ^ 64) ≡
 unfolding nextNumber
 next-number n h =
     let p = lineNumber n .digits in
-    let l = low-three (48 + n / 1000 % 10) (48 + n / 100 % 10) (48 + n / 10 % 10) (48 + n % 10) (omega arith) (omega arith) (omega arith) in
+    let l = low-three (digitCode (n / 1000 % 10)) (digitCode (n / 100 % 10)) (digitCode (n / 10 % 10)) (digitCode (n % 10)) (omega arith) (omega arith) (omega arith) in
     let Next : LineNumber → Type 0 = λ (f : LineNumber). lineNumber ((n + 1) % 2 ^ 64) ≡ f in
     pick-elim Next (eqb ((n + 1) % 2 ^ 64) 0) _ _
     (λ e. ap lineNumber (eqb-true _ _ e))
@@ -75,26 +75,26 @@ next-number n h =
     (λ g. refl)))
 
 -- two, three and four digits
-two : (k n : ℕ) → 10 ≤ n → n < 100 → lastDigits (furtherDigits (suc k) n + 1) n ≡ (48 + n / 10 % 10) ∷ (48 + n % 10) ∷ []
-two k n g h = digits-more k n g ∙ ap (λ (l : List ℕ). l ++ ((48 + n % 10) ∷ [])) (digits-one k (n / 10) (omega arith))
+two : (k n : ℕ) → 10 ≤ n → n < 100 → lastDigits (furtherDigits (suc k) n + 1) n ≡ digitCode (n / 10 % 10) ∷ digitCode (n % 10) ∷ []
+two k n g h = digits-more k n g ∙ ap (λ (l : List ℕ). l ++ (digitCode (n % 10) ∷ [])) (digits-one k (n / 10) (omega arith))
 
-three : (k n : ℕ) → 100 ≤ n → n < 1000 → lastDigits (furtherDigits (suc (suc k)) n + 1) n ≡ (48 + n / 100 % 10) ∷ (48 + n / 10 % 10) ∷ (48 + n % 10) ∷ []
+three : (k n : ℕ) → 100 ≤ n → n < 1000 → lastDigits (furtherDigits (suc (suc k)) n + 1) n ≡ digitCode (n / 100 % 10) ∷ digitCode (n / 10 % 10) ∷ digitCode (n % 10) ∷ []
 three k n g h =
     let e : n / 10 / 10 ≡ n / 100 = omega arith in
-    digits-more (suc k) n (omega arith) ∙ ap (λ (l : List ℕ). l ++ ((48 + n % 10) ∷ [])) (rw e at (two k (n / 10) (omega arith) (omega arith)))
+    digits-more (suc k) n (omega arith) ∙ ap (λ (l : List ℕ). l ++ (digitCode (n % 10) ∷ [])) (rw e at (two k (n / 10) (omega arith) (omega arith)))
 
 all-four : (k n : ℕ) → 1000 ≤ n → n < 10000 →
-    lastDigits (furtherDigits (suc (suc (suc k))) n + 1) n ≡ (48 + n / 1000 % 10) ∷ (48 + n / 100 % 10) ∷ (48 + n / 10 % 10) ∷ (48 + n % 10) ∷ []
+    lastDigits (furtherDigits (suc (suc (suc k))) n + 1) n ≡ digitCode (n / 1000 % 10) ∷ digitCode (n / 100 % 10) ∷ digitCode (n / 10 % 10) ∷ digitCode (n % 10) ∷ []
 all-four k n g h =
     let e : n / 10 / 10 ≡ n / 100 = omega arith in
     let f : n / 10 / 100 ≡ n / 1000 = omega arith in
-    digits-more (suc (suc k)) n (omega arith) ∙ ap (λ (l : List ℕ). l ++ ((48 + n % 10) ∷ [])) (rw (e, f) at (three k (n / 10) (omega arith) (omega arith)))
+    digits-more (suc (suc k)) n (omega arith) ∙ ap (λ (l : List ℕ). l ++ (digitCode (n % 10) ∷ [])) (rw (e, f) at (three k (n / 10) (omega arith) (omega arith)))
 
 short : (n : ℕ) → n < 10000 → shortNumeral (lineNumber n) ≡ decimal n
 unfolding shortNumeral
 short n h =
     let Prints : List ℕ → Type 0 = λ (t : List ℕ). t ≡ decimal n in
-    ap (noZeros n) (bytes-of (48 + n / 1000 % 10) (48 + n / 100 % 10) (48 + n / 10 % 10) (48 + n % 10) (omega arith) (omega arith) (omega arith))
+    ap (noZeros n) (bytes-of (digitCode (n / 1000 % 10)) (digitCode (n / 100 % 10)) (digitCode (n / 10 % 10)) (digitCode (n % 10)) (omega arith) (omega arith) (omega arith))
     ∙ pick-elim Prints (leb 1000 n) _ _
     (λ e. sym (all-four 16 n (leb-true _ _ e) h))
     (λ e. pick-elim Prints (leb 100 n) _ _

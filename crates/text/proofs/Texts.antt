@@ -7,7 +7,7 @@ use native.Mathlib.Numerals.{add-one, sub-one}
 use native.Mathlib.Omega.{arith}
 use lib.ListN.{length, set, length-append}
 use borrow.Author.Tests.{lt-ltb, le-ltb}
-use Rattle.text.specs.Text.{furtherDigits, lastDigits}
+use Rattle.text.specs.Digits.{digitCode, furtherDigits, lastDigits}
 use Rattle.text.specs.Output.{written}
 use Rattle.text.proofs.Outputs.{written-last}
 
@@ -32,7 +32,7 @@ pub last-length : (k n : ℕ) → length (lastDigits k n) ≡ k
 unfolding lastDigits
 last-length zero n = refl
 last-length (suc k) n =
-    let e = length-append (lastDigits k (n / 10)) ((48 + n % 10) ∷ []) in
+    let e = length-append (lastDigits k (n / 10)) (digitCode (n % 10) ∷ []) in
     let h = last-length k (n / 10) in
     omega arith
 
@@ -41,18 +41,18 @@ unfolding lastDigits written
 last-none zero n at b h = refl
 last-none (suc k) n at b h = absurd (not-suc-le-zero h)
 
-pub last-turn : (k n at : ℕ) (b : List ℕ) → 0 < k → written b at (lastDigits k n) ≡ written (set b (at + (k - 1)) (48 + n % 10)) at (lastDigits (k - 1) (n / 10))
+pub last-turn : (k n at : ℕ) (b : List ℕ) → 0 < k → written b at (lastDigits k n) ≡ written (set b (at + (k - 1)) (digitCode (n % 10))) at (lastDigits (k - 1) (n / 10))
 unfolding lastDigits
 last-turn zero n at b h = absurd (not-suc-le-zero h)
 last-turn (suc k) n at b h =
-    let e = written-last (lastDigits k (n / 10)) b at (48 + n % 10) in
+    let e = written-last (lastDigits k (n / 10)) b at (digitCode (n % 10)) in
     rw sub-one (rw (last-length k (n / 10)) at e)
 
 -- a number's text, a digit at a time from its end
-pub digits-one : (k n : ℕ) → n < 10 → lastDigits (furtherDigits k n + 1) n ≡ (48 + n % 10) ∷ []
+pub digits-one : (k n : ℕ) → n < 10 → lastDigits (furtherDigits k n + 1) n ≡ digitCode (n % 10) ∷ []
 unfolding lastDigits
 digits-one k n h = rw (further-small k n h) refl
 
-pub digits-more : (k n : ℕ) → 10 ≤ n → lastDigits (furtherDigits (suc k) n + 1) n ≡ lastDigits (furtherDigits k (n / 10) + 1) (n / 10) ++ ((48 + n % 10) ∷ [])
+pub digits-more : (k n : ℕ) → 10 ≤ n → lastDigits (furtherDigits (suc k) n + 1) n ≡ lastDigits (furtherDigits k (n / 10) + 1) (n / 10) ++ (digitCode (n % 10) ∷ [])
 unfolding furtherDigits lastDigits
 digits-more k n h = rw (le-ltb n 10 h, add-one (furtherDigits k (n / 10) + 1)) refl

@@ -1,3 +1,3 @@
-pub mod Text
 pub mod Digits
+pub mod Lines
 pub mod Output

@@ -19,10 +19,10 @@ abbrev pub output : List ℕ → ℕ → Output
 output bytes at = record { bytes = bytes; at = at }
 
 -- an output that text was put into from its start
-abbrev pub heldIn : List ℕ → List ℕ → Output
-heldIn bytes text = output (holding bytes text) (min (length text) (length bytes))
+abbrev pub putAtStart : List ℕ → List ℕ → Output
+putAtStart bytes text = output (holding bytes text) (min (length text) (length bytes))
 
--- a byte past the end is dropped
+-- a byte past the end is left out
 unfoldable pub putByte : Output → ℕ → Output
 putByte o b = pick (ltb (o .at) (length (o .bytes))) (output (set (o .bytes) (o .at) b) (o .at + 1)) o
 

@@ -4,9 +4,16 @@ use super::output::two;
 ghost use mathlib.Core.Path.{_≡_};
 ghost use Prim.Native.Nat.{_+_, _≤_, _<_};
 ghost use lib.ListN.{length};
-ghost use Rattle.text.specs.Text.{digitCount, lastDigits, decimal, hexDigit};
-ghost use Rattle.text.specs.Digits.{lineNumber, nextNumber, shortNumeral, numeral, hexAt, hexTable, hexPair, hexBy};
+ghost use Rattle.text.specs.Digits.{digitCount, lastDigits, decimal, hexDigit, lineNumber, nextNumber, shortNumeral, numeral, hexTableBytes, hexAt, hexTable, hexPair, hexBy};
 ghost use Rattle.text.specs.Output.{written, Wrote};
+
+// A hex digit above 9 is a letter, of which 10 is A.
+const LETTERS_FROM: u8 = b'A' - 10;
+
+// Two hex digits for each byte.
+const HEX_TABLE_BYTES: usize = 512;
+
+pub type HexTable = [u8; HEX_TABLE_BYTES];
 
 // An access's number, and the text of its last four decimal digits as one number, the first in the lowest byte.
 pub struct LineNumber {
@@ -18,10 +25,11 @@ impl LineNumber {
     pub fn of(n: u64) -> LineNumber
         ensures { λ r. ⌜ r ≡ lineNumber n ⌝ }
     {
-        let thousands = 48 + (n / 1000 % 10) as u32;
-        let hundreds = 48 + (n / 100 % 10) as u32;
-        let tens = 48 + (n / 10 % 10) as u32;
-        let ones = 48 + (n % 10) as u32;
+        let zero = b'0' as u32;
+        let thousands = zero + (n / 1000 % 10) as u32;
+        let hundreds = zero + (n / 100 % 10) as u32;
+        let tens = zero + (n / 10 % 10) as u32;
+        let ones = zero + (n % 10) as u32;
         LineNumber {
             value: n,
             digits: thousands + 0x100 * hundreds + 0x10000 * tens + 0x1000000 * ones,
@@ -76,7 +84,7 @@ fn last_digits(out: &mut [u8], at: usize, count: usize, n: u64)
     let mut k = count;
     while 0 < k {
         k -= 1;
-        out[at + k] = 48 + (left % 10) as u8;
+        out[at + k] = b'0' + (left % 10) as u8;
         left = left / 10;
     }
 }
@@ -128,14 +136,14 @@ fn hex_digit(d: usize) -> u8
     ensures { λ r. ⌜ r ≡ hexDigit d ⌝ }
 {
     if d < 10 {
-        return 48 + d as u8;
+        return b'0' + d as u8;
     }
-    55 + d as u8
+    LETTERS_FROM + d as u8
 }
 
 // The place's digit in the table.
 fn hex_at(i: usize) -> u8
-    requires { ⌜ i < 512 ⌝ }
+    requires { ⌜ i < hexTableBytes ⌝ }
     ensures { λ r. ⌜ r ≡ hexAt i ⌝ }
 {
     if i % 2 == 0 {
@@ -145,12 +153,12 @@ fn hex_at(i: usize) -> u8
 }
 
 // The two hex digits of each byte in turn.
-pub fn hex_table() -> [u8; 512]
+pub fn hex_table() -> HexTable
     ensures { λ r. ⌜ r ≡ hexTable ⌝ }
 {
-    let mut table = [0u8; 512];
+    let mut table = [0u8; HEX_TABLE_BYTES];
     let mut i = 0;
-    while i < 512 {
+    while i < HEX_TABLE_BYTES {
         table[i] = hex_at(i);
         i += 1;
     }
@@ -158,7 +166,7 @@ pub fn hex_table() -> [u8; 512]
 }
 
 // The two hex digits of a byte.
-fn hex_two(out: &mut [u8], at: usize, table: &[u8; 512], b: u16) -> usize
+fn hex_pair(out: &mut [u8], at: usize, table: &HexTable, b: u16) -> usize
     requires { ⌜ (at + 2 ≤ length (now out)) × (b < 256) ⌝ }
     ensures { λ r. ⌜ Wrote (now (out .entry)) at (hexPair (now (table .entry)) b) (now (out .exit)) r ⌝ }
 {
@@ -168,10 +176,10 @@ fn hex_two(out: &mut [u8], at: usize, table: &[u8; 512], b: u16) -> usize
     two(out, at, first, second)
 }
 
-pub(crate) fn hex_four(out: &mut [u8], at: usize, table: &[u8; 512], value: u16) -> usize
+pub(crate) fn hex_by(out: &mut [u8], at: usize, table: &HexTable, value: u16) -> usize
     requires { ⌜ at + 4 ≤ length (now out) ⌝ }
     ensures { λ r. ⌜ Wrote (now (out .entry)) at (hexBy (now (table .entry)) value) (now (out .exit)) r ⌝ }
 {
-    let next = hex_two(out, at, table, value / 256);
-    hex_two(out, next, table, value % 256)
+    let next = hex_pair(out, at, table, value / 256);
+    hex_pair(out, next, table, value % 256)
 }

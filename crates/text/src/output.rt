@@ -22,7 +22,7 @@ pub(crate) fn two(out: &mut [u8], at: usize, a: u8, b: u8) -> usize
     byte(out, next, b)
 }
 
-// A byte past the output's end is dropped.
+// A byte past the output's end is left out.
 fn put_byte(out: &mut [u8], at: usize, b: u8) -> usize
     ensures { λ r. ⌜ output (now (out .exit)) r ≡ putByte (output (now (out .entry)) at) b ⌝ }
 {

@@ -4,10 +4,10 @@ use mathlib.Core.Bool.{Bool}
 use mathlib.Core.List.{List}
 use lib.ListN.{getD}
 use Rattle.ground.specs.Choice.{pick}
-use Rattle.ground.specs.Left.{Left, left}
+use Rattle.ground.specs.Left.{Left, leaving}
 use Rattle.geometry.specs.declared.Located.{Located}
 use Rattle.sectors.specs.Marks.{readable, writable}
-use Rattle.sectors.specs.Sectors.{stored}
+use Rattle.sectors.specs.Sectors.{StoreMarks, storeMarks, stored}
 use Rattle.registers.specs.declared.State.{State}
 use Rattle.registers.specs.State.{locatedIn}
 use Rattle.transfers.specs.declared.End.{End}
@@ -44,9 +44,9 @@ unfoldable pub sectorTest : Way → State → List ℕ → Tested
 sectorTest way s marks = markTested (allows way) (markEnd way) (addressTest s) marks
 
 -- a sector is stored, and its mark set to 0, unless a test fails
-abbrev pub storedBy : Tested → List ℕ → List ℕ → List ℕ → Left Tested
-storedBy (Passes spot) bytes store marks = left (Passes spot) (stored store marks (spot .index) bytes .store) (stored store marks (spot .index) bytes .marks)
-storedBy (Fails e) bytes store marks = left (Fails e) store marks
+abbrev pub storedBy : Tested → List ℕ → List ℕ → List ℕ → Left Tested StoreMarks
+storedBy (Passes spot) bytes store marks = leaving (Passes spot) (stored store marks (spot .index) bytes)
+storedBy (Fails e) bytes store marks = leaving (Fails e) (storeMarks store marks)
 
-unfoldable pub sectorStored : State → List ℕ → List ℕ → List ℕ → Left Tested
+unfoldable pub sectorStored : State → List ℕ → List ℕ → List ℕ → Left Tested StoreMarks
 sectorStored s bytes store marks = storedBy (sectorTest Out s marks) bytes store marks

@@ -1,6 +1,7 @@
 -- How a command ends: 01, "Registers" (Status, Error), and the codes of the command table.
 use Prim.Native.Nat.{ℕ}
 use mathlib.Core.Bool.{true}
+use Rattle.geometry.specs.Codes.{badHeadOrSectorCode, badCylinderOrLbaCode, badGeometryCode}
 use Rattle.registers.specs.declared.Phase.the-variants.{Idle}
 use Rattle.registers.specs.declared.State.{State}
 use Rattle.registers.specs.declared.Core.{Core}
@@ -21,7 +22,7 @@ endStatus WriteFault = faultStatus
 endStatus BadGeometry = errorStatus
 endStatus NoSuchCommand = errorStatus
 
--- at a good end Error is as the command set it
+-- at a good end Error is as the command set it; a bad address: "Both are IDNF."
 abbrev pub endError : End → ℕ → ℕ
 endError Good error = error
 endError BadHeadOrSector error = IDNF
@@ -32,16 +33,26 @@ endError WriteFault error = ABRT
 endError BadGeometry error = ABRT
 endError NoSuchCommand error = ABRT
 
--- "Bad head or sector: code 21H. Otherwise bad cylinder or LBA: 2FH. Both are IDNF." Mark 1: 11H; mark 2: 03H; 91H: 21H; others: 20H
+-- the codes that the command table gives: "mark 1: UNC, 11H", "mark 2: ABRT and DWF, 03H", "others: ABRT, 20H"
+abbrev pub unreadableCode : ℕ
+unreadableCode = 0x11
+
+abbrev pub writeFaultCode : ℕ
+writeFaultCode = 0x03
+
+abbrev pub noSuchCommandCode : ℕ
+noSuchCommandCode = 0x20
+
+-- at a good end the code is as the command set it
 abbrev pub endCode : End → ℕ → ℕ
 endCode Good code = code
-endCode BadHeadOrSector code = 0x21
-endCode BadCylinder code = 0x2F
-endCode BadLba code = 0x2F
-endCode Unreadable code = 0x11
-endCode WriteFault code = 0x03
-endCode BadGeometry code = 0x21
-endCode NoSuchCommand code = 0x20
+endCode BadHeadOrSector code = badHeadOrSectorCode
+endCode BadCylinder code = badCylinderOrLbaCode
+endCode BadLba code = badCylinderOrLbaCode
+endCode Unreadable code = unreadableCode
+endCode WriteFault code = writeFaultCode
+endCode BadGeometry code = badGeometryCode
+endCode NoSuchCommand code = noSuchCommandCode
 
 -- a command ends, and the interrupt mark is set: "at each command end"; the registers that name the sector and Count are left as they stand
 abbrev pub ended : End → State → Core

@@ -6,7 +6,7 @@ use lib.Dec.{eqb}
 use Rattle.ground.specs.Choice.{pick}
 use Rattle.ground.specs.Left.{Left}
 use Rattle.geometry.specs.Next.{nextOf}
-use Rattle.sectors.specs.Sectors.{bufferRead}
+use Rattle.sectors.specs.Sectors.{StoreMarks, bufferRead}
 use Rattle.registers.specs.declared.Half.the-variants.{Nothing}
 use Rattle.registers.specs.declared.Load.{Load}
 use Rattle.registers.specs.declared.Load.the-variants.{Sectors, Buffer}
@@ -98,8 +98,8 @@ abbrev pub coreWritten : Tested → ℕ → State → Core
 coreWritten (Passes spot) left s = nextAsked left s
 coreWritten (Fails e) left s = ended e s
 
-abbrev pub writtenBy : Left Tested → ℕ → Machine → Machine
-writtenBy k left m = machine (coreWritten (k .result) left (m .state)) (m .buffer) (k .store) (k .marks)
+abbrev pub writtenBy : Left Tested StoreMarks → ℕ → Machine → Machine
+writtenBy k left m = machine (coreWritten (k .outcome) left (m .state)) (m .buffer) (k .next .store) (k .next .marks)
 
 -- the last byte has come: "a sector is stored, and its mark set to 0, at its last byte only"
 abbrev pub loadWritten : Load → Machine → Machine

@@ -3,9 +3,11 @@ use super::End;
 use super::Tested;
 use super::Way;
 use geometry::Located;
+use ground::Sector;
 use registers::State;
 ghost use mathlib.Core.Path.{_≡_};
-ghost use Rattle.ground.specs.Left.{left};
+ghost use Rattle.ground.specs.Left.{leaving};
+ghost use Rattle.sectors.specs.Sectors.{storeMarks};
 ghost use Rattle.transfers.specs.Before.{addressTest, allows, markEnd, sectorTest, sectorStored};
 
 pub(crate) fn address_test(state: State) -> Tested
@@ -24,8 +26,8 @@ fn allows(way: Way, mark: u8) -> bool
     ensures { λ r. ⌜ r ≡ allows way mark ⌝ }
 {
     match way {
-        Way::In => sectors::readable(mark),
-        Way::Out => sectors::writable(mark),
+        Way::In => sectors::marks::readable(mark),
+        Way::Out => sectors::marks::writable(mark),
     }
 }
 
@@ -55,13 +57,13 @@ pub fn sector_test(state: State, way: Way, marks: &[u8]) -> Tested
 }
 
 // The sector is stored and its mark cleared, unless a test fails: for a write and for Erase.
-pub fn sector_stored(state: State, bytes: &[u8; 512], store: &mut [u8], marks: &mut [u8]) -> Tested
-    ensures { λ r. ⌜ left r (now (store .exit)) (now (marks .exit)) ≡ sectorStored state (now (bytes .entry)) (now (store .entry)) (now (marks .entry)) ⌝ }
+pub fn sector_stored(state: State, bytes: &Sector, store: &mut [u8], marks: &mut [u8]) -> Tested
+    ensures { λ r. ⌜ leaving r (storeMarks (now (store .exit)) (now (marks .exit))) ≡ sectorStored state (now (bytes .entry)) (now (store .entry)) (now (marks .entry)) ⌝ }
 {
     match sector_test(state, Way::Out, marks) {
         Tested::Passes(spot) => {
             let i = spot.index;
-            sectors::store_sector(store, marks, i, bytes);
+            sectors::sectors::store_sector(store, marks, i, bytes);
             Tested::Passes(spot)
         }
         Tested::Fails(end) => Tested::Fails(end),

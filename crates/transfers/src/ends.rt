@@ -42,13 +42,13 @@ impl End {
     {
         match self {
             End::Good => code,
-            End::BadHeadOrSector => 0x21,
-            End::BadCylinder => 0x2F,
-            End::BadLba => 0x2F,
-            End::Unreadable => 0x11,
-            End::WriteFault => 0x03,
-            End::BadGeometry => 0x21,
-            End::NoSuchCommand => 0x20,
+            End::BadHeadOrSector => geometry::BAD_HEAD_OR_SECTOR_CODE,
+            End::BadCylinder => geometry::BAD_CYLINDER_OR_LBA_CODE,
+            End::BadLba => geometry::BAD_CYLINDER_OR_LBA_CODE,
+            End::Unreadable => super::UNREADABLE_CODE,
+            End::WriteFault => super::WRITE_FAULT_CODE,
+            End::BadGeometry => geometry::BAD_GEOMETRY_CODE,
+            End::NoSuchCommand => super::NO_SUCH_COMMAND_CODE,
         }
     }
 }

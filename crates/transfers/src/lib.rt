@@ -5,6 +5,13 @@ pub mod steps;
 
 use geometry::Spot;
 
+// 01, "Commands": the codes of mark 1, of mark 2 and of a command that is none; `geometry` has those of an address and of 91H.
+pub const UNREADABLE_CODE: u8 = 0x11;
+
+pub const WRITE_FAULT_CODE: u8 = 0x03;
+
+pub const NO_SUCH_COMMAND_CODE: u8 = 0x20;
+
 // How a command ends: well, or by the test of the command table that failed.
 pub enum End {
     Good,

@@ -3,6 +3,7 @@ use super::End;
 use super::Order;
 use super::Tested;
 use super::Way;
+use ground::Sector;
 use registers::Core;
 use registers::Half;
 use registers::Load;
@@ -98,26 +99,20 @@ fn less_one(left: u16) -> u16
 // ---- reading
 
 // A sector is to be read: its tests, then its bytes come into the buffer.
-pub fn read_sector(
-    state: State,
-    left: u16,
-    buffer: &mut [u8; 512],
-    store: &[u8],
-    marks: &[u8],
-) -> Core
+pub fn read_sector(state: State, left: u16, buffer: &mut Sector, store: &[u8], marks: &[u8]) -> Core
     ensures { λ r. ⌜ machine r (now (buffer .exit)) (now (store .entry)) (now (marks .entry)) ≡ readSector left (idle state (now (buffer .entry)) (now (store .entry)) (now (marks .entry))) ⌝ }
 {
     match super::before::sector_test(state, Way::In, marks) {
         Tested::Passes(spot) => {
             let i = spot.index;
-            sectors::fetch_sector(store, i, buffer);
+            sectors::sectors::fetch_sector(store, i, buffer);
             ready(state, Load::Sectors(left))
         }
         Tested::Fails(end) => super::ends::ended(state, end),
     }
 }
 
-fn next_read(state: State, left: u16, buffer: &mut [u8; 512], store: &[u8], marks: &[u8]) -> Core
+fn next_read(state: State, left: u16, buffer: &mut Sector, store: &[u8], marks: &[u8]) -> Core
     ensures { λ r. ⌜ machine r (now (buffer .exit)) (now (store .entry)) (now (marks .entry)) ≡ nextRead left (idle state (now (buffer .entry)) (now (store .entry)) (now (marks .entry))) ⌝ }
 {
     let next = sector_done(state, left);
@@ -128,13 +123,7 @@ fn next_read(state: State, left: u16, buffer: &mut [u8; 512], store: &[u8], mark
 }
 
 // The last byte of a sector or of the buffer has gone.
-pub fn load_read(
-    state: State,
-    load: Load,
-    buffer: &mut [u8; 512],
-    store: &[u8],
-    marks: &[u8],
-) -> Core
+pub fn load_read(state: State, load: Load, buffer: &mut Sector, store: &[u8], marks: &[u8]) -> Core
     ensures { λ r. ⌜ machine r (now (buffer .exit)) (now (store .entry)) (now (marks .entry)) ≡ loadRead load (idle state (now (buffer .entry)) (now (store .entry)) (now (marks .entry))) ⌝ }
 {
     match load {
@@ -169,7 +158,7 @@ fn next_asked(state: State, left: u16) -> Core
 pub fn load_written(
     state: State,
     load: Load,
-    buffer: &[u8; 512],
+    buffer: &Sector,
     store: &mut [u8],
     marks: &mut [u8],
 ) -> Core

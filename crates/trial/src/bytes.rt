@@ -1,6 +1,7 @@
 // The bytes of a row: how they are set, and their sum.
 use crate::words::Words;
 use crate::words::low;
+use ground::SECTOR_BYTES;
 
 // A byte is set, where there is such a place.
 pub(crate) fn set(row: &mut [u8], at: usize, value: u8) {
@@ -14,11 +15,11 @@ pub(crate) fn fill(store: &mut [u8], w: Words) {
     if w.w0 != 5 {
         return;
     }
-    let start = 512 * w.w1 as usize;
+    let start = SECTOR_BYTES * w.w1 as usize;
     let step = low(w.w3);
     let mut value = low(w.w2);
     let mut k: usize = 0;
-    while k < 512 {
+    while k < SECTOR_BYTES {
         set(store, start + k, value);
         value = std::num::wrapping_add_u8(value, step);
         k += 1;

@@ -5,15 +5,16 @@ use crate::words::Words;
 use crate::words::low;
 use card::Answer;
 use card::Card;
+use ground::Sector;
 use maps::Access;
 
 // The A line.
 fn answer_line(answer: Answer) {
     let outcome = answer.outcome;
-    let mut numbers = trial_cards::row_of(answer.card);
+    let mut numbers = trial_cards::rows::row_of(answer.card);
     numbers[0] = ground::wide(outcome.number());
     numbers[1] = outcome.value();
-    numbers[2] = trial_cards::one_of(answer.line);
+    numbers[2] = trial_cards::rows::one_of(answer.line);
     lines::line(
         b"A 10 3210 0 10 10 10 10 10 10 10 10 10 10 0 3210 3210 3210 0 0 3210 3210\n",
         &numbers,
@@ -74,12 +75,12 @@ fn accesses(card: Card, w: Words, store: &mut [u8], marks: &mut [u8], tuples: &[
 }
 
 // The buffer comes by value, and a sum is of lent bytes.
-fn sum_of(buffer: [u8; 512]) -> u16 {
+fn sum_of(buffer: Sector) -> u16 {
     bytes::sum(&buffer)
 }
 
 // The S line and the M line.
-fn show(buffer: [u8; 512], store: &[u8], marks: &[u8], tuples: &[u8]) {
+fn show(buffer: Sector, store: &[u8], marks: &[u8], tuples: &[u8]) {
     let numbers = [bytes::sum(store), sum_of(buffer), bytes::sum(tuples)];
     lines::line(b"S 3210 3210 3210\n", &numbers);
     lines::bytes_line(b"M ", marks);

@@ -36,14 +36,14 @@ fn places_shown(entries: u16) -> usize {
 
 fn read(w: Words, buffer: &[u8]) {
     let places = w.w1 as usize;
-    let held = entry(w);
-    let first = trial_lists::read_held(buffer, places, held, 0);
+    let before = entry(w);
+    let first = trial_lists::read_into(buffer, places, before, 0);
     let outcome = first.outcome;
     outcome_line(b"R 10 3210\n", outcome, 0);
     let n = places_shown(outcome.value());
     let mut i: usize = 0;
     while i < n {
-        let h = trial_lists::read_held(buffer, places, held, i);
+        let h = trial_lists::read_into(buffer, places, before, i);
         entry_line(h.entry);
         i += 1;
     }

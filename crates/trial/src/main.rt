@@ -35,14 +35,14 @@ struct Rows {
 }
 
 // The card and the rows, kept from record to record.
-struct Held {
+struct Bench {
     card: Card,
     rows: Rows,
 }
 
-fn start() -> Held {
-    let card = trial_cards::zero();
-    Held {
+fn start() -> Bench {
+    let card = trial_cards::cards::zero();
+    Bench {
         card: card,
         rows: Rows {
             marks: [0; 1024],
@@ -118,7 +118,7 @@ fn row_record(rows: Rows, w: Words) -> Rows {
 // Kinds 4 and 13.
 fn card_record(card: Card, w: Words) -> Card {
     if w.w0 == 4 {
-        return trial_cards::broken_of(card, w.w1, w.w2);
+        return trial_cards::cards::broken_of(card, w.w1, w.w2);
     }
     if w.w0 == 13 {
         let mut buffer = card.buffer;
@@ -147,14 +147,14 @@ fn list_record(rows: Rows, side: Side, w: Words) -> Rows {
 }
 
 // Kinds 1, 3 and 12.
-fn door_record(card: Card, rows: Rows, lent: Lengths, w: Words, store: &mut [u8]) -> Held {
+fn door_record(card: Card, rows: Rows, lent: Lengths, w: Words, store: &mut [u8]) -> Bench {
     let tuples = rows.tuples;
     let mut marks = rows.marks;
     let t = io::count(lent.tuples as isize, &tuples);
     let m = io::count(lent.marks as isize, &marks);
     let s = io::count(lent.store as isize, store);
     let next = doors::record(card, w, &mut store[..s], &mut marks[..m], &tuples[..t]);
-    Held {
+    Bench {
         card: next,
         rows: Rows {
             marks: marks,
@@ -174,14 +174,14 @@ fn at_doors(kind: u16) -> bool {
 }
 
 // One record. Each function does nothing at a kind that is not its own.
-fn turn(held: Held, side: Side, w: Words, store: &mut [u8]) -> Held {
+fn turn(bench: Bench, side: Side, w: Words, store: &mut [u8]) -> Bench {
     if at_doors(w.w0) {
-        return door_record(held.card, held.rows, side.lent, w, store);
+        return door_record(bench.card, bench.rows, side.lent, w, store);
     }
     bytes::fill(store, w);
-    let card = card_record(held.card, w);
-    let rows = list_record(row_record(held.rows, w), side, w);
-    Held {
+    let card = card_record(bench.card, w);
+    let rows = list_record(row_record(bench.rows, w), side, w);
+    Bench {
         card: card,
         rows: rows,
     }
@@ -199,14 +199,14 @@ fn read(input: &mut [u8]) -> u32
 fn play(input: &[u8], end: u32, store: &mut [u8])
     requires { ⌜ end ≤ 65536 ⌝ }
 {
-    let mut held = start();
+    let mut bench = start();
     let mut side = nothing_lent();
     let mut place: u32 = 0;
     while place <= end {
         let w = words::words_at(input, place, end);
         place += 16;
         side = changed(side, w);
-        held = turn(held, side, w, store);
+        bench = turn(bench, side, w, store);
     }
 }
 

@@ -1,5 +1,5 @@
 -- What the functions give, by what the reader and the writer promise.
---     held-outcome, held-entry     after reading, a place holds the chain's entry of its number, or what the list held
+--     handed-outcome, handed-entry     after reading, a place holds the chain's entry of its number, or what the list held
 --     made-is           the first places of an array that one entry was stored in are the list to be written
 --     back-refused, back-written      a refused reading is the answer, and else the writing of the entries read
 use mathlib.Core.Path.{_≡_, refl, sym, _∙_, ap}
@@ -22,7 +22,7 @@ use Rattle.tuples.specs.Write.{Writes, writeOutcome, filledUp, tupleBytes}
 use Rattle.tuples.specs.declared.Entry.{Entry}
 use Rattle.tuples.proofs.Filling.{all}
 use Rattle.tuples.proofs.Bounds.{most-entries, read-well}
-use Rattle.trial_lists.specs.Lists.{countedAs, heldAfter, made, lastPlace, backOutcome, WritesBack}
+use Rattle.trial_lists.specs.Lists.{countedAs, handedAfter, made, lastPlace, backOutcome, WritesBack}
 
 -- ---- what a place holds after reading
 -- what stands after the entries is as good as nothing
@@ -53,8 +53,8 @@ by-number es i x h false e =
     List·getD-eq-default es x last ∙ sym (List·getD-eq-default es x far)
 
 -- in an array of 256, of which the first m places were lent, all numbers from 255 on name the last place
-held-place : (s : List ℕ) (m i : ℕ) (x : Entry) → getD (readList s (replicate m x) ++ replicate (256 - m) x) (min i 255) x ≡ getD (readList s (replicate m x)) i x
-held-place s m i x =
+handed-place : (s : List ℕ) (m i : ℕ) (x : Entry) → getD (readList s (replicate m x) ++ replicate (256 - m) x) (min i 255) x ≡ getD (readList s (replicate m x)) i x
+handed-place s m i x =
     getD-replicate-after (readList s (replicate m x)) (256 - m) (min i 255) x
     ∙ place-holds s m (min i 255) x
     ∙ by-number (unlessRefused (readOutcome s m) (all s) []) i x (few s m (readOutcome s m) refl) (ltb i 255) refl
@@ -65,15 +65,15 @@ module _ (s : List ℕ) (places i m p : ℕ) (x : Entry) (ls zs : List Entry) (e
   lent : take m ls ≡ replicate m x
   lent = ap (take m) all-x ∙ take-replicate m 256 x most
 
-  pub held-outcome : (r : Outcome) → r ≡ readOutcome s (length (take m ls)) → r ≡ readOutcome s (countedAs places)
-  held-outcome r e = e ∙ ap (λ (l : List Entry). readOutcome s (length l)) lent ∙ ap (readOutcome s) (length-replicate m x ∙ em)
+  pub handed-outcome : (r : Outcome) → r ≡ readOutcome s (length (take m ls)) → r ≡ readOutcome s (countedAs places)
+  handed-outcome r e = e ∙ ap (λ (l : List Entry). readOutcome s (length l)) lent ∙ ap (readOutcome s) (length-replicate m x ∙ em)
 
-  pub held-entry : p ≡ min i 255 → zs ≡ readList s (take m ls) → getD (zs ++ drop m ls) p x ≡ heldAfter s places x i .entry
-  held-entry ep e =
+  pub handed-entry : p ≡ min i 255 → zs ≡ readList s (take m ls) → getD (zs ++ drop m ls) p x ≡ handedAfter s places x i .entry
+  handed-entry ep e =
       ap (λ (j : ℕ). getD (zs ++ drop m ls) j x) ep
       ∙ ap (λ (l : List Entry). getD (l ++ drop m ls) (min i 255) x) (e ∙ ap (readList s) lent)
       ∙ ap (λ (l : List Entry). getD (readList s (replicate m x) ++ l) (min i 255) x) (ap (drop m) all-x ∙ drop-replicate m 256 x)
-      ∙ held-place s m i x
+      ∙ handed-place s m i x
       ∙ ap (λ (j : ℕ). getD (readList s (replicate j x)) i x) em
 
 -- ---- a list that was made

@@ -22,7 +22,7 @@ use Rattle.tuples.proofs.Bounds.{entries-first}
 use Rattle.tuples.proofs.Theorems.{chain-written}
 use Rattle.tuples.proofs.OnlyOne.{unchanged}
 use Rattle.trial_lists.specs.declared.Handed.{Handed}
-use Rattle.trial_lists.specs.Lists.{heldAfter, HeldAfter, backOutcome, WritesBack}
+use Rattle.trial_lists.specs.Lists.{handedAfter, HandedAfter, backOutcome, WritesBack}
 use Rattle.trial_lists.proofs.Lists.{back-written}
 
 pub written-back : (s out : List ℕ) (r : Outcome) (z : List ℕ) → WritesBack s out r z → length s ≡ 256 → chainAt s 0 .ended ≡ true → length out ≡ 256 → WrittenBack s r z
@@ -41,8 +41,8 @@ does-both s ls r zs e l n p out r′ z w =
 pub refused-back : (s out : List ℕ) (r : Outcome) (z : List ℕ) (x : Refusal) → WritesBack s out r z → r ≡ Refused x → (outcomeValue r ≡ 0) × (z ≡ out)
 refused-back s out r z x e p = unchanged (backOutcome s (length out)) r (filledUp (tupleBytes s (chainAt s 0 .entries))) out z x (e .0) (e .1) p
 
-pub only-held : (s : List ℕ) (places : ℕ) (x : Entry) (i : ℕ) (r r′ : Handed) → HeldAfter s places x i r → HeldAfter s places x i r′ → r ≡ r′
-only-held s places x i r r′ p q = only-one (heldAfter s places x i) r r′ (p .0) (q .0)
+pub only-handed : (s : List ℕ) (places : ℕ) (x : Entry) (i : ℕ) (r r′ : Handed) → HandedAfter s places x i r → HandedAfter s places x i r′ → r ≡ r′
+only-handed s places x i r r′ p q = only-one (handedAfter s places x i) r r′ (p .0) (q .0)
 
 pub only-back : (s out : List ℕ) (r r′ : Outcome) (z z′ : List ℕ) → WritesBack s out r z → WritesBack s out r′ z′ → (r ≡ r′) × (z ≡ z′)
 only-back s out r r′ z z′ p q = only-both _ r r′ _ z z′ (p .0, p .1) (q .0, q .1)

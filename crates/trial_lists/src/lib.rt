@@ -8,7 +8,7 @@ ghost use mathlib.Core.Path.{_≡_};
 ghost use Prim.Native.Nat.{_≤_};
 ghost use Rattle.answers.specs.Answers.{outcomeValue, refused};
 ghost use Rattle.tuples.specs.Write.{Writes};
-ghost use Rattle.trial_lists.specs.Lists.{countedAs, HeldAfter, made, lastPlace, WritesBack};
+ghost use Rattle.trial_lists.specs.Lists.{countedAs, HandedAfter, made, lastPlace, WritesBack};
 
 // An entry, with the answer of the reading that handed it out.
 pub struct Handed {
@@ -17,12 +17,12 @@ pub struct Handed {
 }
 
 // A chain is read into a list of so many places, at most 256, that all held one entry; what the place of this number holds then is handed out.
-pub fn read_held(buffer: &[u8], places: usize, held: Entry, number: usize) -> Handed
-    ensures { λ r. ⌜ HeldAfter (now (buffer .entry)) places held number r ⌝ }
+pub fn read_into(buffer: &[u8], places: usize, before: Entry, number: usize) -> Handed
+    ensures { λ r. ⌜ HandedAfter (now (buffer .entry)) places before number r ⌝ }
 {
     let n = ground::at_most(places, 256);
     let place = ground::at_most(number, 255);
-    let mut list = [held; 256];
+    let mut list = [before; 256];
     let outcome = read::read_tuples(buffer, &mut list[..n]);
     let entry = list[place];
     Handed {
@@ -53,7 +53,7 @@ pub fn write_back(buffer: &[u8], out: &mut [u8]) -> Outcome
     ensures { λ r. ⌜ WritesBack (now (buffer .entry)) (now (out .entry)) r (now (out .exit)) ⌝ }
 {
     let none = tuples::NO_ENTRY;
-    let mut list = [none; 127];
+    let mut list = [none; tuples::LIST_PLACES];
     let read = read::read_tuples(buffer, &mut list);
     if is_refused(read) {
         return read;

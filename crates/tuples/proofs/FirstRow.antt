@@ -19,12 +19,12 @@ use Rattle.tuples.specs.Chain.{chainAt}
 use Rattle.tuples.specs.Read.{readTable, readOutcome}
 use Rattle.tuples.specs.Write.{allGood, tupleBytes, mostBytes, writeTable, writeOutcome}
 use Rattle.tuples.specs.Rows.{bytesTaken, readRows, writeRows}
-use Rattle.tuples.proofs.RowTests.{marked-is, bad-is, taken-is}
+use Rattle.tuples.proofs.RowTests.{end-reached, bad-is, taken-is}
 
 -- ---- reading
 read-sized : (s : List ℕ) (places : ℕ) (t : Bool) → eqb (length s) 256 ≡ t →
     pick t (pick (leb 127 places) (pick (chainAt s 0 .ended) 0 13) 16) 5 ≡ firstOf (readRows s places) numberOf 0
-read-sized s places true e = rw (e, below 127 places, marked-is s (eqb-true _ _ e), pick-not)
+read-sized s places true e = rw (e, below 127 places, end-reached s (eqb-true _ _ e), pick-not)
 read-sized s places false e = rw e refl
 
 read-number : (s : List ℕ) (places : ℕ) → outcomeNumber (readOutcome s places) ≡ firstOf (readRows s places) numberOf 0

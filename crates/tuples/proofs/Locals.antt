@@ -1,7 +1,7 @@
 -- What the walks by hand share.
 --     word, bytesTy, …     the types of locals: a slice of bytes, a reference to one byte, a slice of entries
 --     bare, cell      a local that holds nothing, and one that holds a value
---     asks            a callee that requires nothing asks only what its parameters own
+--     wants-nothing   a callee that requires nothing asks only what its parameters own
 --     said            a callee that has no `&mut` says its clause alone
 use Prim.Native.Nat.{ℕ}
 use mathlib.Core.List.{List, _∷_, []}
@@ -40,8 +40,8 @@ module _ {M : Type 1} {𝓤 : URA M} where
   cell τ l v = ‵ (fat fullShare τ l 0 v) ∷ ‵ (fdies τ l) ∷ []
 
 -- ---- calls
-pub asks : {M : Type 1} (𝓤 : URA M) (H : Heap 𝓤) (A : Atoms 𝓤) → Given 𝓤 H A → (P : SProp 𝓤) → ent 𝓤 P (sep 𝓤 P (emp 𝓤))
-asks 𝓤 H A W P = qed W (raw P ∷ []) ∵ frame ! $ done !
+pub wants-nothing : {M : Type 1} (𝓤 : URA M) (H : Heap 𝓤) (A : Atoms 𝓤) → Given 𝓤 H A → (P : SProp 𝓤) → ent 𝓤 P (sep 𝓤 P (emp 𝓤))
+wants-nothing 𝓤 H A W P = qed W (raw P ∷ []) ∵ frame ! $ done !
 
 -- of the `ensured` of a callee that has no `&mut`, the clause alone
 pub said : {M : Type 1} (𝓤 : URA M) (H : Heap 𝓤) (A : Atoms 𝓤) {X : Type 0} (L : X → Fml) (F : Type 0) → ent 𝓤 (ex 𝓤 (λ x. sep 𝓤 (sem 𝓤 H A (L x)) (fact 𝓤 F))) (fact 𝓤 F)

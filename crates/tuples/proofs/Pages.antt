@@ -1,5 +1,5 @@
 -- The page that is made tuple by tuple is what the writer is to write.
---     pages-bad, ends     the marks and the bytes of a page that all tuples of a list were added to
+--     pages-bad, ends     the flags and the bytes of a page that all tuples of a list were added to
 --     puts-writes         so what is done with that page is the writer's promise
 use mathlib.Core.Path.{_≡_, refl, sym, _∙_, ap}
 use mathlib.Core.Bool.{Bool, true, false, not}
@@ -24,7 +24,7 @@ use Rattle.tuples.specs.declared.page.Page.{Page}
 use Rattle.tuples.proofs.PutTuple.{put}
 use Rattle.tuples.proofs.Goods.{Good, is-good, long-body, written-well}
 
--- ---- the marks
+-- ---- the flags
 bad-pick : (t u : Bool) (b : Bool) → pick u (pick t b true) true ≡ pick (pick t u false) b true
 bad-pick true u b = refl
 bad-pick false true b = refl

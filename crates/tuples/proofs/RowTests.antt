@@ -1,5 +1,5 @@
 -- The reader's and the writer's own tests say what 01's words say.
---     marked-is       row 13: a chain that the reader finds whole is one that comes to its end mark
+--     end-reached         row 13: a chain that the reader finds whole is one that comes to its end mark
 --     bad-is          row 15, of the whole list
 --     taken-is        row 14, where no tuple is bad
 use Prim.Native.Nat.{ℕ, zero, suc, _+_, _≤_}
@@ -15,7 +15,7 @@ use Rattle.ground.specs.Choice.{pick, every}
 use Rattle.ground.proofs.Picks.{pick-of, both-of}
 use Rattle.tuples.specs.Chain.{Chain, stepAt, chainAt}
 use Rattle.tuples.specs.Write.{good, allGood, tupleBytes, bodyOf}
-use Rattle.tuples.specs.Rows.{marked, bad, anyBad, bytesTaken}
+use Rattle.tuples.specs.Rows.{reachesEnd, bad, anyBad, bytesTaken}
 use Rattle.tuples.specs.declared.Entry.{Entry}
 use Rattle.tuples.specs.declared.chain.Step.{Step}
 use Rattle.tuples.proofs.Chains.{chain-step, past, after}
@@ -38,16 +38,16 @@ in-bytes : (at : ℕ) (t : Bool) → leb at 255 ≡ t → ltb at 256 ≡ t
 in-bytes at true e = lt-ltb at 256 (omega (arith, leb-true at 255 e))
 in-bytes at false e = le-ltb at 256 (leb-false at 255 e)
 
-walked : (n : ℕ) (s : List ℕ) (at : ℕ) → length s ≡ 256 → 256 ≤ at + n → chainAt s at .ended ≡ marked n s at
-unfolding marked
+walked : (n : ℕ) (s : List ℕ) (at : ℕ) → length s ≡ 256 → 256 ≤ at + n → chainAt s at .ended ≡ reachesEnd n s at
+unfolding reachesEnd
 walked zero s at h m = ap (λ (c : Chain). c .ended) (past s at (omega arith))
 walked (suc n) s at h m =
     let next = at + 2 + getD s (at + 1) 0 in
     ended-at s at
     ∙ rw (by-fit s next (leb next (length s)) refl, walked n s (at + 1) h (omega arith), walked n s next h (omega arith), h, in-bytes at (leb at 255) refl)
 
-pub marked-is : (s : List ℕ) → length s ≡ 256 → chainAt s 0 .ended ≡ marked 256 s 0
-marked-is s h = walked 256 s 0 h (omega arith)
+pub end-reached : (s : List ℕ) → length s ≡ 256 → chainAt s 0 .ended ≡ reachesEnd 256 s 0
+end-reached s h = walked 256 s 0 h (omega arith)
 
 -- ---- row 15
 bad-by : (a b c : Bool) → pick a false (pick b false c) ≡ not (a || b || not c)

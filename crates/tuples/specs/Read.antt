@@ -5,6 +5,7 @@ use mathlib.Core.List.{List, _++_, [], _∷_}
 use lib.ListN.{length, drop}
 use lib.Dec.{leb, eqb}
 use Rattle.ground.specs.Choice.{pick}
+use Rattle.ground.specs.Sizes.{tupleBufferBytes}
 use Rattle.answers.specs.Answers.{outcomeValue, Says}
 use Rattle.answers.specs.declared.Outcome.{Outcome}
 use Rattle.answers.specs.declared.Outcome.the-variants.{Accepted, Refused}
@@ -15,24 +16,24 @@ use Rattle.tuples.specs.declared.read.Checked.{Checked}
 use Rattle.tuples.specs.declared.Entry.{Entry}
 use Rattle.tuples.specs.Chain.{Chain, chainAt}
 
--- "a 256-byte tuple buffer"
-abbrev pub bufferBytes : ℕ
-bufferBytes = 256
-
 -- "the lent tuple list has fewer than 127 places"
 abbrev pub listPlaces : ℕ
 listPlaces = 127
 
--- "The reader's value is its entry count"; "tuple chain runs past byte 255 or has no end mark"
+-- "tuple chain runs past byte 255 or has no end mark"
+abbrev pub brokenRow : Chain → Row Refusal
+brokenRow c = Unless (c .ended) ChainBroken
+
+-- "The reader's value is its entry count"
 unfoldable pub counted : Chain → Outcome
-counted c = pick (c .ended) (Accepted (length (c .entries))) (Refused ChainBroken)
+counted c = firstOf (brokenRow c ∷ []) Refused (Accepted (length (c .entries)))
 
 -- "Tuple reading checks 5, 16, 13."
 abbrev pub readTable : List ℕ → ℕ → List (Row Refusal)
 readTable s places =
-    Unless (eqb (length s) bufferBytes) TupleBufferLength
+    Unless (eqb (length s) tupleBufferBytes) TupleBufferLength
     ∷ Unless (leb listPlaces places) ListTooShort
-    ∷ Unless (chainAt s 0 .ended) ChainBroken
+    ∷ brokenRow (chainAt s 0)
     ∷ []
 
 unfoldable pub readOutcome : List ℕ → ℕ → Outcome

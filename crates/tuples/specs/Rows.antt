@@ -10,13 +10,13 @@ use Rattle.ground.specs.Rows.{Row, When, Unless, firstOf}
 use Rattle.answers.specs.declared.Refusal.{Refusal}
 use Rattle.tuples.specs.declared.Entry.{Entry}
 
--- 13: "tuple chain runs past byte 255 or has no end mark": it comes to an end mark in so many steps from byte `at` on, all on bytes 0..255.
+-- 13: "tuple chain runs past byte 255 or has no end mark": it reaches an end mark in so many steps from byte `at` on, all on bytes 0..255.
 -- "Code, link, then link bytes of body. 00H is one byte, skipped; FFH ends the chain."
-unfoldable pub marked : ℕ → List ℕ → ℕ → Bool
-marked zero s at = false
-marked (suc n) s at =
-    firstOf (Unless (leb at 255) false ∷ When (eqb (getD s at 0) 0xFF) true ∷ When (eqb (getD s at 0) 0x00) (marked n s (at + 1)) ∷ [])
-    (λ (b : Bool). b) (marked n s (at + 2 + getD s (at + 1) 0))
+unfoldable pub reachesEnd : ℕ → List ℕ → ℕ → Bool
+reachesEnd zero s at = false
+reachesEnd (suc n) s at =
+    firstOf (Unless (leb at 255) false ∷ When (eqb (getD s at 0) 0xFF) true ∷ When (eqb (getD s at 0) 0x00) (reachesEnd n s (at + 1)) ∷ [])
+    (λ (b : Bool). b) (reachesEnd n s (at + 2 + getD s (at + 1) 0))
 
 -- 15: "a tuple to be written has code 00H or FFH, or its body lies outside the lent bytes"
 abbrev pub bad : List ℕ → Entry → Bool
@@ -36,7 +36,7 @@ abbrev pub readRows : List ℕ → ℕ → List (Row Refusal)
 readRows s places =
     Unless (eqb (length s) 256) TupleBufferLength
     ∷ When (ltb places 127) ListTooShort
-    ∷ Unless (marked 256 s 0) ChainBroken
+    ∷ Unless (reachesEnd 256 s 0) ChainBroken
     ∷ []
 
 -- "Writing checks 5, 15, 14."

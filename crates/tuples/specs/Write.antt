@@ -6,6 +6,7 @@ use mathlib.Core.List.{List, _∷_, _++_, map, []}
 use lib.ListN.{length, take, drop, replicate}
 use lib.Dec.{leb, eqb}
 use Rattle.ground.specs.Choice.{pick, every}
+use Rattle.ground.specs.Sizes.{tupleBufferBytes}
 use Rattle.answers.specs.Answers.{Says}
 use Rattle.answers.specs.declared.Outcome.{Outcome}
 use Rattle.answers.specs.declared.Outcome.the-variants.{Accepted, Refused}
@@ -14,7 +15,7 @@ use Rattle.ground.specs.Rows.{Row, Unless, firstOf}
 use Rattle.answers.specs.declared.Refusal.{Refusal}
 use Rattle.tuples.specs.declared.Entry.{Entry}
 use Rattle.tuples.specs.Chain.{nullCode, endMark}
-use Rattle.tuples.specs.Read.{bufferBytes, unlessRefused}
+use Rattle.tuples.specs.Read.{unlessRefused}
 
 -- a tuple's body, among the lent bytes
 abbrev pub bodyOf : List ℕ → Entry → List ℕ
@@ -38,12 +39,12 @@ mostBytes = 255
 
 -- "sets all 256 bytes: tuples, then FFH to the end"
 abbrev pub filledUp : List ℕ → List ℕ
-filledUp ts = ts ++ replicate (bufferBytes - length ts) endMark
+filledUp ts = ts ++ replicate (tupleBufferBytes - length ts) endMark
 
 -- "Writing checks 5, 15, 14.": by the buffer's length, whether all tuples may be written, and whether they fit
 abbrev pub writeTable : ℕ → Bool → Bool → List (Row Refusal)
 writeTable n good fit =
-    Unless (eqb n bufferBytes) TupleBufferLength
+    Unless (eqb n tupleBufferBytes) TupleBufferLength
     ∷ Unless good TupleBad
     ∷ Unless fit TuplesTooLong
     ∷ []

@@ -1,11 +1,13 @@
 // The chain of tuples: what stands at a place of a buffer, and the next tuple from there on.
+use super::END_MARK;
 use super::Entry;
 use super::NO_ENTRY;
+use super::NULL_CODE;
 ghost use mathlib.Core.Path.{_≡_};
 ghost use mathlib.Core.List.{[]};
 ghost use lib.ListN.{length};
+ghost use Rattle.ground.specs.Sizes.{tupleBufferBytes};
 ghost use Rattle.tuples.specs.Chain.{stepAt, nextAt, firstFound};
-ghost use Rattle.tuples.specs.Read.{bufferBytes};
 
 // What stands at a place of a tuple buffer.
 pub(crate) enum Step {
@@ -17,17 +19,17 @@ pub(crate) enum Step {
 
 // "Code, link, then link bytes of body. 00H is one byte, skipped; FFH ends the chain."
 pub(crate) fn step_at(buffer: &[u8], at: usize) -> Step
-    requires { ⌜ length (now buffer) ≡ bufferBytes ⌝ }
+    requires { ⌜ length (now buffer) ≡ tupleBufferBytes ⌝ }
     ensures { λ r. ⌜ r ≡ stepAt (now (buffer .entry)) at ⌝ }
 {
     if buffer.len() <= at {
         return Step::Broken;
     }
     let code = buffer[at];
-    if code == 0xFF {
+    if code == END_MARK {
         return Step::End;
     }
-    if code == 0 {
+    if code == NULL_CODE {
         return Step::Null;
     }
     if buffer.len() <= at + 1 {
@@ -62,7 +64,7 @@ fn nothing(place: usize) -> Found
 
 // The next tuple from a place on; null tuples are passed.
 pub(crate) fn next_tuple(buffer: &[u8], from: usize) -> Found
-    requires { ⌜ length (now buffer) ≡ bufferBytes ⌝ }
+    requires { ⌜ length (now buffer) ≡ tupleBufferBytes ⌝ }
     ensures { λ r. ⌜ r ≡ nextAt (now (buffer .entry)) from ⌝ }
 {
     let mut at: usize = from;

@@ -14,9 +14,20 @@ pub struct Entry {
     pub length: u16,
 }
 
+// 01: "00H is one byte, skipped; FFH ends the chain".
+pub(crate) const NULL_CODE: u8 = 0x00;
+
+pub(crate) const END_MARK: u8 = 0xFF;
+
+// 01, refusal 16: the places that a lent list must have.
+pub const LIST_PLACES: usize = 127;
+
+// 01, refusal 14: the bytes that the tuples to be written may take.
+pub(crate) const MOST_BYTES: usize = 255;
+
 // No tuple: 00H is no tuple's code.
 pub const NO_ENTRY: Entry = Entry {
-    code: 0,
+    code: NULL_CODE,
     start: 0,
     length: 0,
 };

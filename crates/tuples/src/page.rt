@@ -1,17 +1,22 @@
 // The page that the writer makes tuple by tuple.
+use super::END_MARK;
 use super::Entry;
+use super::MOST_BYTES;
+use super::NULL_CODE;
 use answers::Outcome;
 use answers::Refusal;
+use ground::TUPLE_BUFFER_BYTES;
 ghost use mathlib.Core.Path.{_≡_};
 ghost use Prim.Native.Nat.{_≤_, _+_};
 ghost use lib.ListN.{length, drop};
 ghost use lib.Seq.{paste};
+ghost use Rattle.ground.specs.Sizes.{tupleBufferBytes};
 ghost use Rattle.tuples.specs.Write.{good};
 ghost use Rattle.tuples.specs.Page.{newPage, addedTo, Puts};
 
 // The page that the writer makes: 256 bytes, of which those before `at` are tuples; whether a tuple was bad, and whether one went beyond 255 bytes.
 pub(crate) struct Page {
-    pub(crate) bytes: [u8; 256],
+    pub(crate) bytes: [u8; TUPLE_BUFFER_BYTES],
     pub(crate) at: usize,
     pub(crate) bad: bool,
     pub(crate) over: bool,
@@ -21,7 +26,7 @@ pub(crate) fn new_page() -> Page
     ensures { λ r. ⌜ r ≡ newPage ⌝ }
 {
     Page {
-        bytes: [0xFFu8; 256],
+        bytes: [END_MARK; TUPLE_BUFFER_BYTES],
         at: 0,
         bad: false,
         over: false,
@@ -32,18 +37,24 @@ pub(crate) fn new_page() -> Page
 fn is_good(e: Entry, bodies: &[u8]) -> bool
     ensures { λ r. ⌜ r ≡ good (now (bodies .entry)) e ⌝ }
 {
-    if e.code == 0 {
+    if e.code == NULL_CODE {
         return false;
     }
-    if e.code == 0xFF {
+    if e.code == END_MARK {
         return false;
     }
     e.end() <= bodies.len()
 }
 
 // n bytes of the bodies, from `start`, at the place `at` of the page's bytes.
-fn pasted(bytes: [u8; 256], at: usize, bodies: &[u8], start: usize, n: usize) -> [u8; 256]
-    requires { ⌜ (at + n ≤ 256) × (start + n ≤ length (now bodies)) ⌝ }
+fn pasted(
+    bytes: [u8; TUPLE_BUFFER_BYTES],
+    at: usize,
+    bodies: &[u8],
+    start: usize,
+    n: usize,
+) -> [u8; TUPLE_BUFFER_BYTES]
+    requires { ⌜ (at + n ≤ tupleBufferBytes) × (start + n ≤ length (now bodies)) ⌝ }
     ensures { λ r. ⌜ r ≡ paste bytes at (drop start (now (bodies .entry))) n ⌝ }
 {
     let mut b = bytes;
@@ -55,7 +66,7 @@ fn pasted(bytes: [u8; 256], at: usize, bodies: &[u8], start: usize, n: usize) ->
     b
 }
 
-// One tuple more, or the page marked.
+// One tuple more, or a flag of the page set.
 pub(crate) fn add_tuple(w: Page, e: Entry, bodies: &[u8]) -> Page
     ensures { λ r. ⌜ r ≡ addedTo (now (bodies .entry)) w e ⌝ }
 {
@@ -64,10 +75,10 @@ pub(crate) fn add_tuple(w: Page, e: Entry, bodies: &[u8]) -> Page
     }
     let at = w.at;
     let n = e.length as usize;
-    if 255 < at {
+    if MOST_BYTES < at {
         return Page { over: true, ..w };
     }
-    if 255 < at + 2 + n {
+    if MOST_BYTES < at + 2 + n {
         return Page { over: true, ..w };
     }
     let mut b = w.bytes;
@@ -87,7 +98,7 @@ pub(crate) fn add_tuple(w: Page, e: Entry, bodies: &[u8]) -> Page
 pub(crate) fn put_page(w: Page, out: &mut [u8]) -> Outcome
     ensures { λ r. ⌜ Puts w (now (out .entry)) r (now (out .exit)) ⌝ }
 {
-    if out.len() != 256 {
+    if out.len() != TUPLE_BUFFER_BYTES {
         return Outcome::Refused(Refusal::TupleBufferLength);
     }
     let bad = w.bad;
@@ -100,7 +111,7 @@ pub(crate) fn put_page(w: Page, out: &mut [u8]) -> Outcome
     }
     let bytes = w.bytes;
     let mut j: usize = 0;
-    while j < 256 {
+    while j < TUPLE_BUFFER_BYTES {
         out[j] = bytes[j];
         j += 1;
     }

@@ -1,17 +1,20 @@
 // The reader: it surveys the whole chain, then fills the list.
 use super::Entry;
+use super::LIST_PLACES;
 use crate::chain;
 use crate::chain::Step;
 use answers::Outcome;
 use answers::Refusal;
+use ground::TUPLE_BUFFER_BYTES;
 ghost use mathlib.Core.Path.{_≡_};
 ghost use lib.ListN.{length};
+ghost use Rattle.ground.specs.Sizes.{tupleBufferBytes};
 ghost use Rattle.tuples.specs.Chain.{chainAt, nextAt, found};
-ghost use Rattle.tuples.specs.Read.{bufferBytes, counted, readOutcome, checked, Reads};
+ghost use Rattle.tuples.specs.Read.{counted, readOutcome, checked, Reads};
 
 // The survey of a chain: whole, with the count of its tuples, or broken.
 fn count_tuples(buffer: &[u8]) -> Outcome
-    requires { ⌜ length (now buffer) ≡ bufferBytes ⌝ }
+    requires { ⌜ length (now buffer) ≡ tupleBufferBytes ⌝ }
     ensures { λ r. ⌜ r ≡ counted (chainAt (now (buffer .entry)) 0) ⌝ }
 {
     let mut at: usize = 0;
@@ -40,10 +43,10 @@ fn count_tuples(buffer: &[u8]) -> Outcome
 fn read_outcome(buffer: &[u8], places: usize) -> Outcome
     ensures { λ r. ⌜ r ≡ readOutcome (now (buffer .entry)) places ⌝ }
 {
-    if buffer.len() != 256 {
+    if buffer.len() != TUPLE_BUFFER_BYTES {
         return Outcome::Refused(Refusal::TupleBufferLength);
     }
-    if places < 127 {
+    if places < LIST_PLACES {
         return Outcome::Refused(Refusal::ListTooShort);
     }
     count_tuples(buffer)
@@ -74,7 +77,7 @@ struct Reader<'a> {
 
 // The reader goes on to the place behind the next tuple.
 fn advance<'s, 'a>(r: &'s mut Reader<'a>) -> Entry
-    requires { ⌜ length (now (now r .buffer)) ≡ bufferBytes ⌝ }
+    requires { ⌜ length (now (now r .buffer)) ≡ tupleBufferBytes ⌝ }
     ensures { λ e. ⌜ (now (r .exit) .buffer ≡ now (r .entry) .buffer) × (found e (now (r .exit) .place) ≡ nextAt (now (now (r .entry) .buffer)) (now (r .entry) .place)) ⌝ }
 {
     let f = chain::next_tuple(r.buffer, r.place);

@@ -17,6 +17,9 @@ returns c =
 sub-left : tie.Need-sub-left
 sub-left c = search needs
 
+cast-if2 : tie.Need-cast-if2
+cast-if2 c = search needs
+
 returns-2 : tie.Need-returns-2
 unfolding nextRecord
 returns-2 c = simp (lt-ltb _ _ (c .if2 .taken))
@@ -41,8 +44,8 @@ returns-4 c =
     let f = rw w at (c .if4 .taken) in
     simp (le-ltb _ _ (c .before .before .before .if2 .left), le-ltb _ _ e, lt-ltb _ _ f)
 
-kind-at-requires : tie.Need-kind-at-requires
-kind-at-requires c κs = search needs
+kind-tested-requires : tie.Need-kind-tested-requires
+kind-tested-requires c κs = search needs
 
 returns-5 : tie.Need-returns-5
 unfolding nextRecord
@@ -51,7 +54,7 @@ returns-5 c =
     let w = c .before .before .before .word-at .ensures in
     let e = rw w at (c .before .before .if3 .left) in
     let f = rw w at (c .before .if4 .left) in
-    simp (le-ltb _ _ (c4 .if2 .left), le-ltb _ _ e, le-ltb _ _ f, c .kind-at .ensures, w)
+    simp (le-ltb _ _ (c4 .if2 .left), le-ltb _ _ e, le-ltb _ _ f, c .kind-tested .ensures, w)
 
 pub next-record-spec : {M : Type 1} → statement M
 next-record-spec =
@@ -59,10 +62,11 @@ next-record-spec =
     (tie.spec
     returns
     sub-left
+    cast-if2
     returns-2
     word-at-requires
     cast-if3
     returns-3
     returns-4
-    kind-at-requires
+    kind-tested-requires
     returns-5)

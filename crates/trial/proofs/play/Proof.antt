@@ -6,10 +6,10 @@ use Rattle.trial.proofs.play.Statement.{statement}
 use Rattle.trial.proofs.play.Tie as tie
 
 abbrev Inv-loop : tie.InvT-loop
-Inv-loop input end store₀ held₀ side₀ place₀ store held side place = (place ≤ end + 16) × (end ≤ 65536) × (length store ≡ length store₀)
+Inv-loop input end store₀ bench₀ side₀ place₀ store bench side place = (place ≤ end + 16) × (end ≤ 65536) × (length store ≡ length store₀)
 
 abbrev μ-loop : tie.MeasureT-loop
-μ-loop input end store₀ held₀ side₀ place₀ store held side place = end + 16 - place
+μ-loop input end store₀ bench₀ side₀ place₀ store bench side place = end + 16 - place
 
 start-requires : tie.Need-start-requires Inv-loop μ-loop
 start-requires c κs = search needs

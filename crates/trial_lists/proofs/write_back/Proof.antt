@@ -63,7 +63,7 @@ use Rattle.tuples.specs.Read.{readOutcome, Reads}
 use Rattle.tuples.specs.Write.{Writes}
 use Rattle.trial_lists.specs.Lists.{WritesBack}
 use Rattle.tuples.specs.declared.Entry.{Entry}
-use Rattle.tuples.proofs.Locals.{word, bytesTy, byteRefTy, entriesTy, bare, cell, asks, said}
+use Rattle.tuples.proofs.Locals.{word, bytesTy, byteRefTy, entriesTy, bare, cell, wants-nothing, said}
 use Rattle.trial_lists.proofs.Arrays.{arrayTy, arrayRefTy, arrayOf, array-of, array-in, array-out, part, partVal, Part, Kept, Others, part-cut, part-joined}
 use Rattle.tuples.proofs.Bounds.{bounds, entries-first}
 use Rattle.tuples.proofs.Filling.{all}
@@ -206,7 +206,7 @@ module _ {M : Type 1} (𝓤 : URA M) (H : Heap 𝓤) (A : Atoms 𝓤) (W : Given
             nothing ! $ move ! (35 ∷ 0 ∷ []) $ fjoin ! $ move ! (1 ∷ 0 ∷ []) $ fjoin ! $ move ! (2 ∷ 0 ∷ []) $ fjoin ! $
             -- [what the parameters own; Buf; the lender's part; ν; the others; _13 (5); …; κ (32); κ′ (33)]
             nothing ! $ move ! (34 ∷ 0 ∷ []) $ join ! $ move ! (33 ∷ 0 ∷ []) $ join ! $ move ! (4 ∷ 0 ∷ []) $ join ! $ join ! $
-            use1 W (raw (Write 𝓤 H A mem run .pre (to-write ν δ))) (asks 𝓤 H A W _) $
+            use1 W (raw (Write 𝓤 H A mem run .pre (to-write ν δ))) (wants-nothing 𝓤 H A W _) $
             -- [what the call asks; Buf; the lender's part; the others; _13 (4); …]
             calls-at ! fm (Write 𝓤 H A mem run) known-write (to-write ν δ) (and-then ! (load ! (from ! (stop !)) (look ! 8 refl)) (and-then ! (load ! (from ! (stop !)) (look ! 27 refl)) (and-then ! (load ! (from ! (stop !)) (look ! 4 refl)) (no-more !)))) (λ u.
             use1 W (later (some (λ (r′ : Outcome). ((‵ (flft (ν ∷ []) fullShare) ⊛ (‵ (flft κ q) ⊛ (‵ (flft κ′ q′) ⊛ ‵ ftrue))) ⊛ ‵ (O.the-row .own r′ (u ∷ []))) ⊛ raw (ensured 𝓤 H A write.ended (write.clauses 𝓤 H A mem run) ((ν ∷ []), (κ, (κ′, tt))) (part zs m l₄ δ, (buf, (out, tt))) tt r′)))) (id⊢ 𝓤 _) $ await ! tt $ pick ! (λ r′.
@@ -284,7 +284,7 @@ module _ {M : Type 1} (𝓤 : URA M) (H : Heap 𝓤) (A : Atoms 𝓤) (W : Given
           lft-new ! tt (λ ν. move ! (1 ∷ []) $ use1 W (later (some (λ (δ : GName). ‵ (Lent ν δ) ⊛ ‵ (flent (ν ∷ []) (Held E.the-row (length ls) l₄ 0 δ))))) (lends-slice 𝓤 H A W E.the-row (named 1) (ν ∷ []) ls l₄ 0 room) $ await ! tt $ pick ! (λ δ. split ! $
           move ! (30 ∷ []) $ use1 W (‵ Buf ⊛ ‵ Buf) (shr-slice-copy 𝓤 H A W (named 0) κ u8 .twice buf (vb ∷ [])) $ split ! $
           move ! (0 ∷ 2 ∷ []) $ nothing ! $ move ! (2 ∷ 0 ∷ []) $ fjoin ! $ move ! (1 ∷ 0 ∷ []) $ fjoin ! $ nothing ! $ move ! (4 ∷ 0 ∷ []) $ join ! $ move ! (31 ∷ 0 ∷ []) $ join ! $ join ! $
-          use1 W (raw (Read 𝓤 H A mem run .pre (to-read ν δ))) (asks 𝓤 H A W _) $
+          use1 W (raw (Read 𝓤 H A mem run .pre (to-read ν δ))) (wants-nothing 𝓤 H A W _) $
           -- [what the call asks; what the buffer owns; the lender's part; _13; …]
           calls-at ! fm (Read 𝓤 H A mem run) known-read (to-read ν δ) (and-then ! (load ! (from ! (stop !)) (look ! 26 refl)) (and-then ! (load ! (from ! (stop !)) (look ! 13 refl)) (no-more !))) (λ u.
           use1 W (later (some (λ (r : Outcome). ((‵ (flft κ q) ⊛ (‵ (flft (ν ∷ []) fullShare) ⊛ ‵ ftrue)) ⊛ ‵ (O.the-row .own r (u ∷ []))) ⊛ raw (ensured 𝓤 H A read.ended (read.clauses 𝓤 H A mem run) (κ, (ν ∷ [], tt)) (buf, (list δ, tt)) tt r)))) (id⊢ 𝓤 _) $ await ! tt $ pick ! (λ r.

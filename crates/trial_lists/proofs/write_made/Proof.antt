@@ -54,7 +54,7 @@ use Rattle.answers.proofs.Outcome.Laws as O′
 use Rattle.tuples.specs.Write.{Writes}
 use Rattle.trial_lists.specs.Lists.{countedAs, made, lastPlace}
 use Rattle.tuples.specs.declared.Entry.{Entry}
-use Rattle.tuples.proofs.Locals.{word, bytesTy, byteRefTy, entriesTy, bare, cell, asks, said}
+use Rattle.tuples.proofs.Locals.{word, bytesTy, byteRefTy, entriesTy, bare, cell, wants-nothing, said}
 use Rattle.trial_lists.proofs.Arrays.{arrayTy, arrayRefTy, Least, Most, to-most, goes-most, arrayOf, array-of, array-in, array-out, part, partVal, Part, Kept, Others, part-cut, part-joined}
 use Rattle.trial_lists.proofs.Lists.{made-is}
 use Rattle.tuples.proofs.Entry as E
@@ -192,7 +192,7 @@ module _ {M : Type 1} (𝓤 : URA M) (H : Heap 𝓤) (A : Atoms 𝓤) (W : Given
           nothing ! $ move ! (39 ∷ 0 ∷ []) $ fjoin ! $ move ! (1 ∷ 0 ∷ []) $ fjoin ! $ move ! (2 ∷ 0 ∷ []) $ fjoin ! $
           -- [what the parameters own; Bod; the lender's part; ν; the others; _15 (5); …; κ (36); κ′ (37)]
           nothing ! $ move ! (38 ∷ 0 ∷ []) $ join ! $ move ! (37 ∷ 0 ∷ []) $ join ! $ move ! (4 ∷ 0 ∷ []) $ join ! $ join ! $
-          use1 W (raw (Write 𝓤 H A mem run .pre (to-write ν δ))) (asks 𝓤 H A W _) $
+          use1 W (raw (Write 𝓤 H A mem run .pre (to-write ν δ))) (wants-nothing 𝓤 H A W _) $
           -- [what the call asks; Bod; the lender's part; the others; _15 (4); …]
           calls-at ! fm (Write 𝓤 H A mem run) known-write (to-write ν δ) (and-then ! (load ! (from ! (stop !)) (look ! 8 refl)) (and-then ! (load ! (from ! (stop !)) (look ! 25 refl)) (and-then ! (load ! (from ! (stop !)) (look ! 4 refl)) (no-more !)))) (λ u.
           use1 W (later (some (λ (r : Outcome). ((‵ (flft (ν ∷ []) fullShare) ⊛ (‵ (flft κ q) ⊛ (‵ (flft κ′ q′) ⊛ ‵ ftrue))) ⊛ ‵ (O.the-row .own r (u ∷ []))) ⊛ raw (ensured 𝓤 H A write.ended (write.clauses 𝓤 H A mem run) ((ν ∷ []), (κ, (κ′, tt))) (part zs n l₈ δ, (bodies, (out, tt))) tt r)))) (id⊢ 𝓤 _) $ await ! tt $ pick ! (λ r.

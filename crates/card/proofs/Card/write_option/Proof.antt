@@ -42,7 +42,7 @@ unfolding optionAnswered answersAt cardAnswers
 returns-2 c =
     let w = simp (c .before .before .before .before .before .before .before .before .before .before .core .ensures) at (sym (c .before .before .before .before .before .before .before .well-made .ensures) ∙ un-not _ _ (c .before .before .before .before .before .before .if1 .left)) in
     let v = sym (c .before .before .before .index-fits .ensures) ∙ un-not _ _ (c .before .before .if2 .taken) in
-    said _ _ (simp (w, c .before .before .before .before .enum-told .given .1, v, c .answer2 .ensures, c .before .refused2 .ensures, c .before .before .before .before .before .before .before .before .before .before .core .ensures))
+    said _ _ (simp (w, c .before .before .before .before .enum-told2 .given .1, v, c .answer3 .ensures, c .before .refused3 .ensures, c .before .before .before .before .before .before .before .before .before .before .core .ensures))
 
 write-option-requires : tie.Need-write-option-requires
 write-option-requires c κs = search needs
@@ -63,18 +63,18 @@ answer-requires-4 : tie.Need-answer-requires-4
 answer-requires-4 c κs = search needs
 
 returns-3 : tie.Need-returns-3
-unfolding optionAnswered answersAt cardAnswers
+unfolding optionAnswered answersAt
 returns-3 c =
+    let w = simp (c .before .before .before .before .before .before .before .before .core .ensures) at (sym (c .before .before .before .before .before .well-made .ensures) ∙ un-not _ _ (c .before .before .before .before .if1 .left)) in
+    said _ _ (simp (w, c .before .before .enum-told .given .1, c .answer2 .ensures, c .before .refused2 .ensures, c .before .before .before .before .before .before .before .before .core .ensures))
+
+returns-4 : tie.Need-returns-4
+unfolding optionAnswered answersAt cardAnswers
+returns-4 c =
     let k = c .before .before .before .before .before .before .before .before .before .before .before .before .core .ensures in
     let w = simp k at (sym (c .before .before .before .before .before .before .before .before .before .well-made .ensures) ∙ un-not _ _ (c .before .before .before .before .before .before .before .before .if1 .left)) in
     let v = sym (c .before .before .before .before .before .index-fits .ensures) ∙ un-not _ _ (c .before .before .before .before .if2 .left) in
-    said _ _ (simp (w, c .before .before .before .before .before .before .enum-told .given .1, v, c .answer3 .ensures, c .before .accepted .ensures, c .before .before .write-option .ensures .0, c .before .before .write-option .ensures .1, k))
-
-returns-4 : tie.Need-returns-4
-unfolding optionAnswered answersAt
-returns-4 c =
-    let w = simp (c .before .before .before .before .before .before .before .before .core .ensures) at (sym (c .before .before .before .before .before .well-made .ensures) ∙ un-not _ _ (c .before .before .before .before .if1 .left)) in
-    said _ _ (simp (w, c .before .before .enum-told2 .given .1, c .answer4 .ensures, c .before .refused3 .ensures, c .before .before .before .before .before .before .before .before .core .ensures))
+    said _ _ (simp (w, c .before .before .before .before .before .before .enum-told2 .given .1, v, c .answer4 .ensures, c .before .accepted .ensures, c .before .before .write-option .ensures .0, c .before .before .write-option .ensures .1, k))
 
 pub write-option-spec : {M : Type 1} → statement M
 write-option-spec =
@@ -86,15 +86,15 @@ write-option-spec =
     answer-requires
     returns
     enum-told
-    index-fits-requires
     refused-requires-2
     answer-requires-2
+    enum-told-2
+    index-fits-requires
+    refused-requires-3
+    answer-requires-3
     returns-2
     write-option-requires
     accepted-requires
-    answer-requires-3
-    enum-told-2
-    refused-requires-3
     answer-requires-4
     returns-3
     returns-4)

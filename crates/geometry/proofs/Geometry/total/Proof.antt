@@ -1,4 +1,4 @@
-use Rattle.geometry.proofs.Limits.{fits-facts}
+use Rattle.geometry.proofs.LimitFacts.{fits-facts}
 use Rattle.geometry.specs.Limits.{totalOf}
 use native.Mathlib.Omega.{arith}
 use mathlib.Core.Path.{sym, _∙_}

@@ -1,4 +1,4 @@
-use Rattle.maps.specs.Offsets.{within, windowAt}
+use Rattle.maps.specs.Offsets.{windowAt}
 use Rattle.ground.proofs.Every.{and-left}
 use borrow.Author.Tests.{eq-eqb, ne-eqb, leb-true}
 use mathlib.Core.Path.{sym, _∙_}
@@ -10,7 +10,6 @@ within-requires : tie.Need-within-requires
 within-requires c κs = search needs
 
 sub-result : tie.Need-sub-result
-unfolding within
 sub-result c = leb-true _ _ (and-left _ _ (sym (c .before .within .ensures) ∙ c .if1 .taken))
 
 returns : tie.Need-returns

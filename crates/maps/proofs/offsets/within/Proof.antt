@@ -1,14 +1,11 @@
 use Rattle.ground.proofs.Tests.{tests}
-use Rattle.maps.specs.Offsets.{within}
 use Rattle.maps.proofs.offsets.within.Statement.{statement}
 use Rattle.maps.proofs.offsets.within.Tie as tie
 
 returns : tie.Need-returns
-unfolding within
 returns c = search tests
 
 returns-2 : tie.Need-returns-2
-unfolding within
 returns-2 c = search tests
 
 pub within-spec : {M : Type 1} → statement M

@@ -45,15 +45,15 @@ returns-5 : tie.Need-returns-5
 unfolding wellMade
 returns-5 c = sym (one-fails _ 4 (sym (c .before .status-fits .ensures) ∙ un-not _ _ (c .if5 .taken)))
 
-held-in-requires : tie.Need-held-in-requires
-held-in-requires c κs = search needs
+in-reset-requires : tie.Need-in-reset-requires
+in-reset-requires c κs = search needs
 
 hold-fits-requires : tie.Need-hold-fits-requires
 hold-fits-requires c κs = search needs
 
 returns-6 : tie.Need-returns-6
 unfolding wellMade
-returns-6 c = sym (one-fails _ 5 (sym (simp (c .before .before .held-in .ensures) at (c .before .hold-fits .ensures)) ∙ un-not _ _ (c .if6 .taken)))
+returns-6 c = sym (one-fails _ 5 (sym (simp (c .before .before .in-reset .ensures) at (c .before .hold-fits .ensures)) ∙ un-not _ _ (c .if6 .taken)))
 
 words-fit-requires : tie.Need-words-fit-requires
 words-fit-requires c κs = search needs
@@ -91,7 +91,7 @@ returns-9 c =
     let w3 = sym (c12 .index-fits .ensures) ∙ un-not _ _ (c11 .if3 .left) in
     let w4 = sym (c10 .sreset-fits .ensures) ∙ un-not _ _ (c9 .if4 .left) in
     let w5 = sym (c8 .status-fits .ensures) ∙ un-not _ _ (c7 .if5 .left) in
-    let w6 = sym (simp (c6 .held-in .ensures) at (c5 .hold-fits .ensures)) ∙ un-not _ _ (c4 .if6 .left) in
+    let w6 = sym (simp (c6 .in-reset .ensures) at (c5 .hold-fits .ensures)) ∙ un-not _ _ (c4 .if6 .left) in
     let w7 = sym (c .before .before .before .words-fit .ensures) ∙ un-not _ _ (c .before .before .if7 .left) in
     let w8 = sym (c .before .run-fits .ensures) ∙ un-not _ _ (c .if8 .left) in
     simp (w1, w2, w3, w4, w5, w6, w7, w8)
@@ -111,7 +111,7 @@ well-made-spec =
     returns-4
     status-fits-requires
     returns-5
-    held-in-requires
+    in-reset-requires
     hold-fits-requires
     returns-6
     words-fit-requires

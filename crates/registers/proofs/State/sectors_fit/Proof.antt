@@ -8,12 +8,12 @@ use borrow.Author.Needs.{needs}
 use Rattle.registers.proofs.State.sectors_fit.Statement.{statement}
 use Rattle.registers.proofs.State.sectors_fit.Tie as tie
 
-found-requires : tie.Need-found-requires
-found-requires c κs = search needs
+valid-address-requires : tie.Need-valid-address-requires
+valid-address-requires c κs = search needs
 
 returns : tie.Need-returns
 unfolding sectorsFit
-returns c = sym (one-fails _ 0 (sym (c .before .found .ensures) ∙ un-not _ _ (c .if1 .taken)))
+returns c = sym (one-fails _ 0 (sym (c .before .valid-address .ensures) ∙ un-not _ _ (c .if1 .taken)))
 
 returns-2 : tie.Need-returns-2
 unfolding sectorsFit
@@ -36,9 +36,9 @@ returns-5 c =
     let c4 = c .before .before .before .before in
     let c5 = c4 .before in
     let c6 = c5 .before in
-    let w = sym (c6 .found .ensures) ∙ un-not _ _ (c5 .if1 .left) in
+    let w = sym (c6 .valid-address .ensures) ∙ un-not _ _ (c5 .if1 .left) in
     simp (w, le-leb _ _ (c4 .if2 .left), le-leb _ _ (c .before .before .before .if3 .left), eq-eqb _ _ (c .if4 .left))
 
 pub sectors-fit-spec : {M : Type 1} → statement M
 sectors-fit-spec =
-    tie.close (tie.spec found-requires returns returns-2 returns-3 cast-count returns-4 returns-5)
+    tie.close (tie.spec valid-address-requires returns returns-2 returns-3 cast-count returns-4 returns-5)

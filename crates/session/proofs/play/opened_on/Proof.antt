@@ -5,8 +5,8 @@ use Rattle.answers.specs.declared.Outcome.{Outcome}
 use Rattle.card.specs.declared.Answer.{Answer}
 use Rattle.card.specs.Opening.{opened}
 use Rattle.records.specs.declared.Sizes.{Sizes}
-use Rattle.text.specs.Output.{output}
-use Rattle.session.specs.Run.{Shown, printedAt}
+use Rattle.text.specs.Output.{Output, output}
+use Rattle.session.specs.Run.{Result, printedAt}
 use Rattle.session.specs.Play.{geometryOf, opensAs, openedOn}
 use borrow.Author.Needs.{needs}
 use Rattle.session.proofs.play.opened_on.Statement.{statement}
@@ -25,6 +25,9 @@ open-requires c κs = search needs
 
 enum-told : tie.Need-enum-told
 enum-told c = search needs
+
+cast-run-from : tie.Need-cast-run-from
+cast-run-from c = search needs
 
 run-from-requires : tie.Need-run-from-requires
 run-from-requires c κs = search needs
@@ -50,7 +53,7 @@ returns c =
     let c11 = c7 .before .before .before .before in
     let c14 = c11 .before .before .before in
     let a = c14 .before .before .before .before .before .before .before .before .args in
-    ap (λ (s : Shown). s .printed) (c7 .run-from .ensures)
+    ap (λ (s : Result Output). s .session) (c7 .run-from .ensures)
     ∙ ap (printedAt (output (a .out .now) (a .at))) (as-opened (a .sizes) (a .file .now) (a .store .now) (a .marks .now) (a .tuples .now) _ _ (c14 .«open» .ensures .0) (c11 .enum-told .given .1))
 
 same-length-4 : tie.Need-same-length-4
@@ -77,6 +80,7 @@ opened-on-spec =
     (tie.spec
     open-requires
     enum-told
+    cast-run-from
     run-from-requires
     enum-known-outcome
     unopened-requires

@@ -1,9 +1,12 @@
 use mathlib.Core.Path.{_≡_, sym, _∙_}
 use mathlib.Core.List.{List}
-use Prim.Native.Nat.{ℕ}
+use Prim.Native.Nat.{ℕ, _<_}
+use native.Mathlib.Omega.{arith}
+use mathlib.Core.Bool.{false}
+use lib.Dec.{eqb}
 use borrow.Author.Tests.{eq-eqb, ne-eqb, lt-ltb, le-ltb}
 use Rattle.records.specs.declared.First.{First}
-use Rattle.session.specs.Play.{byFirst, sessionOf}
+use Rattle.session.specs.Play.{longestFile, byFirst, sessionOf}
 use borrow.Author.Needs.{needs}
 use Rattle.session.proofs.play.session.Statement.{statement}
 use Rattle.session.proofs.play.session.Tie as tie
@@ -17,6 +20,10 @@ unfolding sessionOf
 by-record c x e =
     simp (le-ltb _ _ (c .before .before .if1 .left), ne-eqb _ _ (c .before .if2 .left), sym (c .first-record .ensures) ∙ e)
 
+-- a file that is too long is not empty
+not-empty : (n : ℕ) → longestFile < n → eqb n 0 ≡ false
+not-empty n h = ne-eqb n 0 (λ e. omega arith)
+
 bad-requires : tie.Need-bad-requires
 bad-requires c κs = search needs
 
@@ -25,7 +32,9 @@ same-length c = search needs
 
 returns : tie.Need-returns
 unfolding sessionOf
-returns c = simp (lt-ltb _ _ (c .before .before .before .before .if1 .taken)) (c .before .before .bad .ensures)
+returns c =
+    let h = c .before .before .before .before .if1 .taken in
+    simp (not-empty _ h, lt-ltb _ _ h) (c .before .before .bad .ensures)
 
 bad-requires-2 : tie.Need-bad-requires-2
 bad-requires-2 c κs = search needs

@@ -11,20 +11,20 @@ use Rattle.session.specs.declared.Ending.the-variants.{Broken}
 use Rattle.records.specs.declared.After.{After}
 use Rattle.records.specs.Record.{nextRecord}
 use Rattle.records.proofs.Fits.{access-fits}
-use Rattle.text.specs.Text.{bad}
+use Rattle.text.specs.Lines.{bad}
 use Rattle.text.specs.Digits.{lineNumber, nextNumber}
 use Rattle.text.specs.Output.{output, put}
 use Rattle.text.proofs.Numerals.{next-number, own-number}
 use Rattle.session.specs.Run.{wrapped, scriptFrom, resultOf, shownAt}
-use Rattle.session.proofs.Runs.{toCome, stopsAt, lines-end, lines-stop, lines-turn}
+use Rattle.session.proofs.Runs.{toCome, stopsAt, from-start, lines-end, lines-stop, lines-turn}
 use borrow.Author.Needs.{needs}
 use Rattle.session.proofs.run.lines.Statement.{statement}
 use Rattle.session.proofs.run.lines.Tie as tie
 
 -- in order: the accesses done, the part's length, the lengths of store, marks and output, the verdict, the counter's bound, its digits, and what is still to be done
 abbrev Inv-loop : tie.InvT-loop
-Inv-loop verdict part from first number store₀ marks₀ tuples out₀ start buffer₀ core₀ at₀ counter₀ done₀ text₀ table store marks out buffer core at counter done text =
-    (done ≤ at)
+Inv-loop verdict part from first number store₀ marks₀ tuples out₀ start buffer₀ core₀ at₀ counter₀ count₀ text₀ table store marks out buffer core at counter count text =
+    (count ≤ at)
     × (length part < 2 ^ 64)
     × (length store ≡ length store₀)
     × (length marks ≡ length marks₀)
@@ -32,11 +32,11 @@ Inv-loop verdict part from first number store₀ marks₀ tuples out₀ start bu
     × (verdict ≡ verdictOf (core .phase) (core .state) store marks tuples)
     × (counter .value < 2 ^ 64)
     × (counter ≡ lineNumber (counter .value))
-    × (toCome (output out text) first (counter .value) done (machine core buffer store marks) part tuples at
-    ≡ shownAt (output out₀ text₀) (resultOf first number 0 (machine core₀ buffer₀ store₀ marks₀) (scriptFrom (length part) part tuples at₀)))
+    × (toCome (output out text) first (counter .value) count (machine core buffer store marks) part tuples at
+    ≡ shownAt (output out₀ text₀) (resultOf first number (machine core₀ buffer₀ store₀ marks₀) (scriptFrom (length part) part tuples at₀)))
 
 abbrev μ-loop : tie.MeasureT-loop
-μ-loop verdict part from first number store₀ marks₀ tuples out₀ start buffer₀ core₀ at₀ counter₀ done₀ text₀ table store marks out buffer core at counter done text = length part - at
+μ-loop verdict part from first number store₀ marks₀ tuples out₀ start buffer₀ core₀ at₀ counter₀ count₀ text₀ table store marks out buffer core at counter count text = length part - at
 
 -- a turn whose record is an access: where the record is known, where the turn began, the part, and the access
 abbrev known : tie.After-put-answer Inv-loop μ-loop → tie.After-access Inv-loop μ-loop
@@ -63,7 +63,7 @@ hex-table-requires c κs = search needs
 loop-holds : tie.Need-loop-holds Inv-loop μ-loop
 loop-holds c =
     let e = c .before .of .ensures in
-    (search needs, search needs, refl, refl, refl, c .before .before .before .before .before .before .before .before .before .pre, rw e (search needs), own-number _ _ e, rw (e, sub-zero) refl)
+    (search needs, search needs, refl, refl, refl, c .before .before .before .before .before .before .before .before .before .pre, rw e (search needs), own-number _ _ e, rw (e, sub-zero) (from-start _ _))
 
 next-record-requires : tie.Need-next-record-requires Inv-loop μ-loop
 next-record-requires c κs = search needs
@@ -103,8 +103,8 @@ returns c =
     let p = c .before .before .before .put-bad .ensures ∙ ap (λ (n : ℕ). put o (bad n)) (c5 .wrapping-add-u64 .ensures) in
     let e = sym (c9 .next-record .ensures) ∙ c7 .why .given .1 in
     rw (c .ran .ensures)
-    (ap (stopsAt m (wrapped (a .first + l .at)) (l .done) (Broken why)) p
-    ∙ sym (lines-stop o (a .first) (l .counter .value) (l .done) (l .at) (a .part .now) (a .tuples .now) m why (l .inv .0) (c9 .before .loop-test .taken) e)
+    (ap (stopsAt m (wrapped (a .first + l .at)) (l .count) (Broken why)) p
+    ∙ sym (lines-stop o (a .first) (l .counter .value) (l .count) (l .at) (a .part .now) (a .tuples .now) m why (l .inv .0) (c9 .before .loop-test .taken) e)
     ∙ l .inv .8)
 
 enum-known-access : tie.Need-enum-known-access Inv-loop μ-loop
@@ -119,8 +119,8 @@ put-answer-requires c κs = let c16 = c .before .before .before .before .before 
 next-requires : tie.Need-next-requires Inv-loop μ-loop
 next-requires c κs = search needs
 
-size-of-requires : tie.Need-size-of-requires Inv-loop μ-loop
-size-of-requires c κs = search needs
+access-length-requires : tie.Need-access-length-requires Inv-loop μ-loop
+access-length-requires c κs = search needs
 
 cast-at : tie.Need-cast-at Inv-loop μ-loop
 cast-at c = search needs
@@ -130,15 +130,15 @@ add-at c =
     let q = known (c .before .before .before .before) in
     let l = began q .before .loop in
     let f = access-fits (accessOn q) (partIn q) (l .at) (began q .loop-test .taken) (stands q) in
-    omega (arith, f, c .size-of .ensures .0, l .inv .1)
+    omega (arith, f, c .access-length .ensures .0, l .inv .1)
 
-add-done : tie.Need-add-done Inv-loop μ-loop
-add-done c =
+add-count : tie.Need-add-count Inv-loop μ-loop
+add-count c =
     let b = began (known (c .before .before .before .before)) in
     omega (arith, b .before .loop .inv .0, b .before .loop .inv .1, b .loop-test .taken)
 
 loop-less : tie.Need-loop-less Inv-loop μ-loop
-loop-less c = omega (arith, began (known (c .before .before .before .before)) .loop-test .taken, c .size-of .ensures .1)
+loop-less c = omega (arith, began (known (c .before .before .before .before)) .loop-test .taken, c .access-length .ensures .1)
 
 loop-again : tie.Need-loop-again Inv-loop μ-loop
 loop-again c =
@@ -151,8 +151,8 @@ loop-again c =
     let k = r .kept .1 .1 .1 .1 in
     let m = machine (l .core) (l .buffer) (l .store) (l .marks) in
     let g = c .before .next .ensures ∙ ap nextNumber (l .inv .7) ∙ sym (next-number (l .counter .value) (l .inv .6)) in
-    let f = lines-turn (output (l .out) (l .text)) _ (a .first) (l .counter .value) (l .done) (l .at) (a .part .now) (a .tuples .now) m (accessOn q) _ (l .inv .0) (began q .loop-test .taken) (stands q) (r .ensures .0) (w .ensures) in (
-      omega (arith, l .inv .0, c .size-of .ensures .1),
+    let f = lines-turn (output (l .out) (l .text)) _ (a .first) (l .counter .value) (l .count) (l .at) (a .part .now) (a .tuples .now) m (accessOn q) _ (l .inv .0) (began q .loop-test .taken) (stands q) (r .ensures .0) (w .ensures) in (
+      omega (arith, l .inv .0, c .access-length .ensures .1),
       l .inv .1,
       k .0 ∙ l .inv .2,
       k .1 .0 ∙ l .inv .3,
@@ -160,7 +160,7 @@ loop-again c =
       r .ensures .1,
       rw g (omega arith),
       own-number _ _ g,
-      rw (g, c .size-of .ensures .0) (f ∙ l .inv .8),
+      rw (g, c .access-length .ensures .0) (f ∙ l .inv .8),
     )
 
 ran-requires-2 : tie.Need-ran-requires-2 Inv-loop μ-loop
@@ -180,7 +180,7 @@ returns-2 c =
     let l = c .before .before .loop in
     let a = c .before .before .before .before .before .before .before .before .before .before .before .before .args in
     let m = machine (l .core) (l .buffer) (l .store) (l .marks) in
-    rw (c .ran2 .ensures) (sym (lines-end (output (l .out) (l .text)) (a .first) (l .counter .value) (l .done) (l .at) (a .part .now) (a .tuples .now) m (c .before .loop-test .left)) ∙ l .inv .8)
+    rw (c .ran2 .ensures) (sym (lines-end (output (l .out) (l .text)) (a .first) (l .counter .value) (l .count) (l .at) (a .part .now) (a .tuples .now) m (c .before .loop-test .left)) ∙ l .inv .8)
 
 pub lines-spec : {M : Type 1} → statement M
 lines-spec =
@@ -204,10 +204,10 @@ lines-spec =
     answer-requires
     put-answer-requires
     next-requires
-    size-of-requires
+    access-length-requires
     cast-at
     add-at
-    add-done
+    add-count
     loop-less
     loop-again
     ran-requires-2

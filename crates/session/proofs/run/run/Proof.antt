@@ -23,7 +23,7 @@ same-length-3 c = search needs
 returns : tie.Need-returns
 returns c =
     let a = c .before .before .before .before .before .before .before .before .before .before .before .before .before .before .before .args in
-    let r = resultOf (a .first) (a .number) 0 (machineOf (a .card) (a .store .now) (a .marks .now)) (scriptFrom (length (a .part .now)) (a .part .now) (a .tuples .now) 0) in
+    let r = resultOf (a .first) (a .number) (machineOf (a .card) (a .store .now) (a .marks .now)) (scriptFrom (length (a .part .now)) (a .part .now) (a .tuples .now) 0) in
     c .before .before .before .before .before .before .run-from .ensures ∙ ap (λ (o : Output). shownIn o r) (put-holds (r .session .text) (a .out .now))
 
 pub run-spec : {M : Type 1} → statement M

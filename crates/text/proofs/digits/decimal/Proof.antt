@@ -1,5 +1,5 @@
 use native.Mathlib.Omega.{arith}
-use Rattle.text.specs.Text.{digitCount}
+use Rattle.text.specs.Digits.{digitCount}
 use Rattle.text.proofs.Texts.{last-length}
 use borrow.Author.Needs.{needs}
 use Rattle.text.proofs.digits.decimal.Statement.{statement}

@@ -2,7 +2,7 @@ use mathlib.Core.Path.{_≡_}
 use native.Mathlib.Omega.{arith}
 use Prim.Native.Nat.{_+_, _-_, _≤_}
 use borrow.Author.Needs.{needs}
-use Rattle.text.specs.Text.{furtherDigits}
+use Rattle.text.specs.Digits.{furtherDigits}
 use Rattle.text.proofs.Texts.{further-small, further-more, further-none}
 use Rattle.text.proofs.digits.digit_count.Statement.{statement}
 use Rattle.text.proofs.digits.digit_count.Tie as tie

@@ -1,5 +1,5 @@
 use Rattle.ground.proofs.Tests.{tests}
-use Rattle.text.specs.Text.{hexDigit}
+use Rattle.text.specs.Digits.{hexDigit}
 use borrow.Author.Needs.{needs}
 use Rattle.text.proofs.digits.hex_digit.Statement.{statement}
 use Rattle.text.proofs.digits.hex_digit.Tie as tie

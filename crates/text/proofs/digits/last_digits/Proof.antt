@@ -3,7 +3,7 @@ use native.Mathlib.Omega.{arith}
 use mathlib.Core.Path.{_≡_, sym, _∙_}
 use borrow.Author.Needs.{needs}
 use Prim.Native.Nat.{_+_, _≤_}
-use Rattle.text.specs.Text.{lastDigits}
+use Rattle.text.specs.Digits.{lastDigits}
 use Rattle.text.specs.Output.{written}
 use Rattle.text.proofs.Texts.{last-none, last-turn}
 use Rattle.text.proofs.digits.last_digits.Statement.{statement}

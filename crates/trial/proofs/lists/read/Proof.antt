@@ -4,10 +4,10 @@ use Rattle.trial.proofs.lists.read.Statement.{statement}
 use Rattle.trial.proofs.lists.read.Tie as tie
 
 abbrev Inv-loop : tie.InvT-loop
-Inv-loop buffer places held n i₀ i = i ≤ n
+Inv-loop buffer places before n i₀ i = i ≤ n
 
 abbrev μ-loop : tie.MeasureT-loop
-μ-loop buffer places held n i₀ i = n - i
+μ-loop buffer places before n i₀ i = n - i
 
 cast-places : tie.Need-cast-places Inv-loop μ-loop
 cast-places c = search needs
@@ -15,8 +15,8 @@ cast-places c = search needs
 entry-requires : tie.Need-entry-requires Inv-loop μ-loop
 entry-requires c κs = search needs
 
-read-held-requires : tie.Need-read-held-requires Inv-loop μ-loop
-read-held-requires c κs = search needs
+read-into-requires : tie.Need-read-into-requires Inv-loop μ-loop
+read-into-requires c κs = search needs
 
 slice-aggregate-outcome-line : tie.Need-slice-aggregate-outcome-line Inv-loop μ-loop
 slice-aggregate-outcome-line c = search needs
@@ -33,8 +33,8 @@ places-shown-requires c κs = search needs
 loop-holds : tie.Need-loop-holds Inv-loop μ-loop
 loop-holds c = search needs
 
-read-held-requires-2 : tie.Need-read-held-requires-2 Inv-loop μ-loop
-read-held-requires-2 c κs = search needs
+read-into-requires-2 : tie.Need-read-into-requires-2 Inv-loop μ-loop
+read-into-requires-2 c κs = search needs
 
 entry-line-requires : tie.Need-entry-line-requires Inv-loop μ-loop
 entry-line-requires c κs = search needs
@@ -59,13 +59,13 @@ read-spec =
     μ-loop
     cast-places
     entry-requires
-    read-held-requires
+    read-into-requires
     slice-aggregate-outcome-line
     outcome-line-requires
     value-requires
     places-shown-requires
     loop-holds
-    read-held-requires-2
+    read-into-requires-2
     entry-line-requires
     add-i
     loop-less

@@ -66,7 +66,7 @@ use Rattle.tuples.specs.declared.Entry.{Entry}
 use Rattle.tuples.specs.declared.read.Checked.{Checked}
 use Rattle.tuples.specs.declared.read.Reader.{Reader}
 use Rattle.tuples.proofs.Filling.{Filling, all, start, more, long as longF}
-use Rattle.tuples.proofs.Locals.{word, bytesTy, entriesTy, bare, cell, asks, said}
+use Rattle.tuples.proofs.Locals.{word, bytesTy, entriesTy, bare, cell, wants-nothing, said}
 use Rattle.tuples.proofs.Bounds.{bounds}
 use Rattle.tuples.proofs.Entry as E
 use Rattle.tuples.proofs.Entry.Laws as E′
@@ -343,7 +343,7 @@ module _ {M : Type 1} (𝓤 : URA M) (H : Heap 𝓤) (A : Atoms 𝓤) (W : Given
       pass1 ! (init ! 22 refl (tt, (tt, (record { fits = room-b .0 }, tt)))) $ pass1 ! (init ! 20 refl (tt, (tt, (record { fits = room .0 }, tt)))) $ pass0 ! $
       assigns ! (of-opd ! (load ! (from ! (fld ! refl (stop !))) (look-in ! 20 (sub ! 1 refl (whole !))))) (from ! (stop !)) (init ! 8 refl (tt, record { fits = room .0 })) $
       move ! (29 ∷ 30 ∷ []) $ use2 W (raw (onEntry 𝓤 H A check.signature (κ, tt) (q, tt) (buf, (length ls, tt)) passed) ⊛ ‵ Buf) (parts (room .0)) $ split ! $
-      use1 W (raw (Check 𝓤 H A mem run .pre to-check)) (asks 𝓤 H A W _) $
+      use1 W (raw (Check 𝓤 H A mem run .pre to-check)) (wants-nothing 𝓤 H A W _) $
       calls-at ! (fmOf 𝓤 H (W .laws) 𝓣) (Check 𝓤 H A mem run) known-check to-check (and-then ! (load ! (from ! (stop !)) (look ! 24 refl)) (and-then ! (load ! (from ! (stop !)) (look ! 10 refl)) (no-more !))) (λ u.
       use1 W (later (some (λ (r : Checked). ((‵ (flft κ q) ⊛ ‵ ftrue) ⊛ ‵ (R.the-row .own r (u ∷ []))) ⊛ raw (ensured 𝓤 H A check.ended (check.clauses 𝓤 H A mem run) (κ, tt) (buf, (length ls, tt)) tt r)))) (id⊢ 𝓤 _) $ await ! tt $ pick ! (λ r.
       split ! $ move ! (1 ∷ []) $ use1 W (raw (fact 𝓤 (r ≡ checked (readOutcome s (length ls))))) (said 𝓤 H A (lasts check.ended (κ, tt) (buf, (length ls, tt))) (r ≡ checked (readOutcome s (length ls)))) $ heard ! (r ≡ checked (readOutcome s (length ls))) (λ e. split ! $ move ! (1 ∷ []) $

@@ -58,7 +58,7 @@ use Rattle.tuples.specs.declared.page.Page.{Page}
 use Rattle.tuples.proofs.Pages.{puts-writes}
 use Rattle.tuples.proofs.Entry as E
 use Rattle.tuples.proofs.Entry.Laws as E′
-use Rattle.tuples.proofs.Locals.{word, bytesTy, byteRefTy, entriesTy, bare, cell, asks, said}
+use Rattle.tuples.proofs.Locals.{word, bytesTy, byteRefTy, entriesTy, bare, cell, wants-nothing, said}
 use Rattle.tuples.proofs.page.Page as P
 use Rattle.tuples.proofs.page.Page.Laws as P′
 use Rattle.tuples.proofs.page.new_page as new
@@ -176,7 +176,7 @@ module _ {M : Type 1} (𝓤 : URA M) (H : Heap 𝓤) (A : Atoms 𝓤) (W : Given
       nothing ! $ move ! (1 ∷ 0 ∷ []) $ fjoin ! $ owned ! E.the-row (Is E.the-row) (LL.makes E.the-type E′.the-plain 𝓤 H A) e _ ge $ fjoin ! $
       owned ! P.the-row (Is P.the-row) (LL.makes P.the-type P′.the-plain 𝓤 H A) w _ gw $ fjoin ! $
       -- [what the parameters own; what the bodies own; the token]
-      nothing ! $ move ! (3 ∷ 0 ∷ []) $ join ! $ join ! $ use1 W (raw (Add 𝓤 H A mem run .pre (to-add w e))) (asks 𝓤 H A W _) $ frame ! $ done !
+      nothing ! $ move ! (3 ∷ 0 ∷ []) $ join ! $ join ! $ use1 W (raw (Add 𝓤 H A mem run .pre (to-add w e))) (wants-nothing 𝓤 H A W _) $ frame ! $ done !
 
   abbrev to-put : Page → Put 𝓤 H A mem run .Ghost
   to-put w = (((κ₂, tt), (q₂, tt), tt, (w, (out, tt)), (vp w ∷ [], (v₂ ∷ [], tt))), tt)

@@ -1,0 +1,6 @@
+-- The store and the marks that are lent to a machine, together.
+use Rattle.sectors.specs.Sectors.{StoreMarks, storeMarks}
+use Rattle.registers.specs.Machine.{Machine}
+
+abbrev pub storeMarksIn : Machine → StoreMarks
+storeMarksIn m = storeMarks (m .store) (m .marks)

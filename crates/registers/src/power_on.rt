@@ -1,0 +1,39 @@
+// 01, "Registers": power-on.
+use super::Control;
+use super::Made;
+use super::Registers;
+use super::State;
+use geometry::Address;
+ghost use mathlib.Core.Path.{_≡_};
+ghost use Rattle.registers.specs.PowerOn.{powerOn};
+
+impl Made {
+    // 01, power-on, with a map setting.
+    pub fn power_on(self, option: u8) -> State
+        ensures { λ r. ⌜ r ≡ powerOn self option ⌝ }
+    {
+        let default = self.default;
+        State {
+            made: self,
+            current: default,
+            registers: Registers {
+                status: super::IDLE_STATUS,
+                error: 0x01,
+                count: 1,
+                address: Address {
+                    sector: 1,
+                    low: 0,
+                    high: 0,
+                    head: 0,
+                },
+            },
+            option: option,
+            control: Control {
+                held: false,
+                masked: false,
+            },
+            interrupt: false,
+            code: 0x00,
+        }
+    }
+}
