@@ -1,8 +1,8 @@
 """What the cost of a session is held to: a straight line over its length, and a bound for an access."""
 import sessions
 
-OFF_LINE = 0.01  # of the whole cost: access numbers grow by a digit, and their text with them
-MOST = {"words": 155, "bytes": 180, "polling": 152, "errors": 190}  # instructions an access, by session; None: no bound
+OFF_LINE = 0.005  # of the rise from the shortest session to the longest
+MOST = {"words": 155, "bytes": 180, "polling": 152, "errors": 190}  # instructions an access, by session
 
 
 class Fault(Exception):
@@ -24,13 +24,13 @@ def bend(points):
 def straight(name, kind, points):
     off = bend(points)
     if off > OFF_LINE:
-        raise Fault(f"{kind}, {name}: the cost is no straight line: {100 * off:.1f} % off, and {100 * OFF_LINE:.0f} % is the most: {points}")
+        raise Fault(f"{kind}, {name}: the cost is no straight line: {100 * off:.1f} % off, and {100 * OFF_LINE:.1f} % is the most: {points}")
 
 
 def bounded(kind, points):
     """Points of cardrun, in instructions."""
     most, takes = MOST[kind], per_access(points)
-    if most is not None and takes > most:
+    if takes > most:
         raise Fault(f"{kind}: cardrun takes {takes:,.1f} instructions an access, and {most} is the most")
 
 

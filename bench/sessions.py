@@ -80,10 +80,15 @@ def most_blocks(kind):
     return (LONGEST - size_of(start(kind))) // size_of(list(KINDS[kind][2](0)))
 
 
+def least_blocks(kind):
+    """After so many blocks, every access has a number of four digits: shorter ones take less to print, and are on another line."""
+    return next(blocks for blocks in range(most_blocks(kind)) if session(kind, blocks)[1] >= 999)
+
+
 def lengths(kind, points=5):
-    """Numbers of blocks, from none to the most that fit, evenly apart."""
-    most = most_blocks(kind)
-    return sorted({most * point // (points - 1) for point in range(points)})
+    """Numbers of blocks, from the least to the most that fit, evenly apart: so many, or all that there are."""
+    least, most = least_blocks(kind), most_blocks(kind)
+    return sorted({least + (most - least) * point // (points - 1) for point in range(points)})
 
 
 def session(kind, blocks):

@@ -2,7 +2,7 @@
 
 use crate::card::{Access, Geometry};
 use crate::host::{push_access, push_opening, Host};
-use crate::inputs::{sub_seed, Case};
+use crate::inputs::{Case, Group};
 use crate::rng::Rng;
 use crate::session_player::LONGEST;
 
@@ -200,7 +200,8 @@ fn filled(writes: usize, reads: usize) -> Vec<u8> {
 /// A long wandering broken late.
 fn late_breaks(seed: u64, all: &mut Vec<Case>) {
     for number in 0..40 {
-        let mut host = Host::session(sub_seed(seed, 7, number), Geometry::new(4, 2, 4), 0);
+        let mut host =
+            Host::session(Group::LateBreaks.seed(seed, number), Geometry::new(4, 2, 4), 0);
         host.limit = 2_000 + 700 * number;
         host.wander();
         let mut bytes = host.out;
@@ -217,7 +218,7 @@ fn late_breaks(seed: u64, all: &mut Vec<Case>) {
 /// Bytes at random, and records at random that are mostly good.
 fn noise(seed: u64, all: &mut Vec<Case>) {
     for number in 0..30 {
-        let mut rng = Rng::new(sub_seed(seed, 8, number));
+        let mut rng = Rng::new(Group::Noise.seed(seed, number));
         let size = rng.below(60);
         add(all, format!("noise-{number}"), (0..size).map(|_| rng.byte()).collect());
         let mut bytes = opening(4, 2, 4, (number % 2) as u16);

@@ -247,9 +247,9 @@ pub fn mutants(seed: u64) -> bool {
         all.sort();
         all.into_iter().map(|(_, f)| f).collect()
     });
-    for (i, (f, (_, says))) in found.iter().zip(Change::TABLE).enumerate() {
+    for (f, (change, says)) in found.iter().zip(Change::TABLE) {
         let by = f.as_deref().unwrap_or("NOT FOUND");
-        println!("{:2} {says}: {by}", i + 1);
+        println!("{change:?}: {says}: {by}");
     }
     let passed = found.iter().flatten().count();
     println!("{passed} passed, {} failed", found.len() - passed);

@@ -2,9 +2,10 @@
 
 use crate::card::{Access, Card};
 use crate::host::{Host, Style};
-use crate::inputs::{bring, geometry, sub_seed, Case, State};
+use crate::inputs::{bring, geometry, Case, Group, State};
 use crate::maps::Mode;
 use crate::trial_inputs::{finish, probe, small};
+use crate::trial_kinds as kinds;
 
 // ---------------------------------------------------------------- one condition broken
 
@@ -51,7 +52,7 @@ const CONDITIONS: [(&str, u8, State, Fields); 33] = [
 /// For each condition: a good card, the fields that break just that, an access.
 pub fn conditions(seed: u64, all: &mut Vec<Case>) {
     for (number, (name, map, state, fields)) in CONDITIONS.into_iter().enumerate() {
-        let mut host = small(sub_seed(seed, 21, number), (map == 4) as u16);
+        let mut host = small(Group::Conditions.seed(seed, number), (map == 4) as u16);
         bring(&mut host, map, state);
         broken_and_mended(&mut host, fields);
         finish(format!("condition-{name}"), host, all);
@@ -69,7 +70,7 @@ fn broken_and_mended(host: &mut Host, fields: &[(u16, u16)]) {
     }
     host.access(Access { space: 9, width: 9, write: true, address: 0xFFFF, value: 0xFFFF });
     host.access(Access { space: 0, width: 1, write: true, address: 0x200, value: 1 });
-    host.record(&[12]);
+    host.record(&[kinds::SHOW]);
     mend(host, &whole, fields);
     probe(host);
     host.look();
@@ -123,7 +124,8 @@ fn sector_conditions(seed: u64, all: &mut Vec<Case>) {
     ];
     for (number, (name, fields)) in breaks.into_iter().enumerate() {
         for (k, opcode) in [0x20, 0x30, 0xE8, 0xEC].into_iter().enumerate() {
-            let mut host = small(sub_seed(seed, 22, 4 * number + k), (k % 2) as u16);
+            let mut host =
+                small(Group::SectorConditions.seed(seed, 4 * number + k), (k % 2) as u16);
             host.name_sector(5, (number + k) % 2 == 0);
             host.put(2, 3);
             host.put(7, opcode);
@@ -140,7 +142,7 @@ fn sector_conditions(seed: u64, all: &mut Vec<Case>) {
 pub fn breaks(seed: u64, all: &mut Vec<Case>) {
     for number in 0..120 {
         let g = geometry([(4, 2, 4), (300, 1, 2), (3, 3, 40)][number % 3]);
-        let mut host = Host::trial(sub_seed(seed, 27, number), g, (number % 2) as u16);
+        let mut host = Host::trial(Group::Breaks.seed(seed, number), g, (number % 2) as u16);
         for _ in 0..60 {
             prepare(&mut host);
             let whole = host.card.clone();
@@ -160,7 +162,7 @@ pub fn breaks(seed: u64, all: &mut Vec<Case>) {
 pub fn made_up(seed: u64, all: &mut Vec<Case>) {
     for number in 0..60 {
         let g = geometry([(4, 2, 4), (300, 1, 2), (3, 3, 40)][number % 3]);
-        let mut host = Host::trial(sub_seed(seed, 30, number), g, (number % 2) as u16);
+        let mut host = Host::trial(Group::MadeUp.seed(seed, number), g, (number % 2) as u16);
         for _ in 0..12 {
             make_up(&mut host);
             host.look();
@@ -168,7 +170,7 @@ pub fn made_up(seed: u64, all: &mut Vec<Case>) {
                 (host.rng.pick(&[1, 2, 255, 256]), host.rng.pick(&[Style::Words, Style::Mixed]));
             host.transfer(words, style);
             host.look();
-            host.record(&[12]);
+            host.record(&[kinds::SHOW]);
         }
         finish(format!("made-{number}"), host, all);
     }

@@ -5,6 +5,7 @@ use crate::card::{Access, Answer, Card, Geometry, Half, Lent, Phase};
 use crate::maps::{Mode, ATTRIBUTE, IO, MEMORY, TRUE_IDE};
 use crate::rng::Rng;
 use crate::session_player;
+use crate::trial_kinds as kinds;
 use crate::trial_player;
 
 #[derive(Clone, Copy, PartialEq, Eq, Debug)]
@@ -97,7 +98,7 @@ impl Host {
             push_opening(&mut self.out, [g.c, g.h, g.s, mode]);
         } else {
             self.lend_right(g);
-            self.record(&[1, g.c, g.h, g.s, mode]);
+            self.record(&[kinds::OPEN, g.c, g.h, g.s, mode]);
         }
         let lent = Lent { store: &mut self.store, marks: &mut self.marks, tuples: &self.tuples };
         self.card = Card::open(g, mode, &lent).1;
@@ -112,7 +113,7 @@ impl Host {
 
     pub fn lend(&mut self, store: usize, marks: usize, tuples: usize) {
         let (low, high) = (store as u16, (store >> 16) as u16);
-        self.record(&[8, marks as u16, low, high, tuples as u16, 256]);
+        self.record(&[kinds::LEND, marks as u16, low, high, tuples as u16, 256]);
     }
 
     /// One record of a trial.
@@ -131,12 +132,12 @@ impl Host {
 
     /// Sets a mark in the lent marks (trials only).
     pub fn set_mark(&mut self, at: usize, mark: u8) {
-        self.record(&[2, at as u16, mark as u16]);
+        self.record(&[kinds::MARK, at as u16, mark as u16]);
         self.marks[at] = mark;
     }
 
     pub fn fill_sector(&mut self, at: usize, first: u16, step: u16) {
-        self.record(&[5, at as u16, first, step]);
+        self.record(&[kinds::FILL, at as u16, first, step]);
         for k in 0..512 {
             self.store[512 * at + k] = (first as usize + k * step as usize) as u8;
         }
@@ -144,7 +145,7 @@ impl Host {
 
     /// Sets a field of the card value (trials only).
     pub fn set_field(&mut self, field: u16, value: u16) {
-        self.record(&[4, field, value]);
+        self.record(&[kinds::BREAK, field, value]);
         trial_player::set_field(&mut self.card, field, value);
     }
 
@@ -161,7 +162,7 @@ impl Host {
 
     /// Sets bytes of the card's buffer (trials only).
     pub fn set_buffer(&mut self, place: usize, bytes: &[u8]) {
-        self.bytes_record(13, place, bytes);
+        self.bytes_record(kinds::BUFFER_BYTES, place, bytes);
         trial_player::put_all(&mut self.card.buffer, place, bytes);
     }
 
@@ -199,7 +200,7 @@ impl Host {
         }
         let at = self.out.len();
         let (space, width) = (a.space as u16, a.width as u16);
-        self.record(&[3, space, width, a.write as u16, a.address, a.value, 1, 0]);
+        self.record(&[kinds::ACCESS, space, width, a.write as u16, a.address, a.value, 1, 0]);
         self.last = Some(Last { at, access: *a, times: 1, step: 0 });
         !self.full
     }

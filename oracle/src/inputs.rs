@@ -18,9 +18,36 @@ pub fn geometry(g: (u16, u16, u16)) -> Geometry {
     Geometry::new(g.0, g.1, g.2)
 }
 
-/// A seed of its own for each session of a group.
-pub fn sub_seed(seed: u64, group: u64, number: usize) -> u64 {
-    seed.wrapping_mul(1_000_003) ^ group << 40 ^ (number as u64) << 4
+/// The groups of inputs that take seeds. The numbers stay, or a group's inputs would be others.
+#[derive(Clone, Copy)]
+pub enum Group {
+    Opcodes = 1,
+    Sweeps = 2,
+    Transfers = 3,
+    Addresses = 4,
+    Parameters = 5,
+    Wanderings = 6,
+    LateBreaks = 7,
+    Noise = 8,
+    Oddities = 19,
+    LentLengths = 20,
+    Conditions = 21,
+    SectorConditions = 22,
+    Marks = 23,
+    Carries = 24,
+    Lines = 25,
+    TrialWanderings = 26,
+    Breaks = 27,
+    Chains = 28,
+    Lists = 29,
+    MadeUp = 30,
+}
+
+impl Group {
+    /// A seed of its own for each input of the group.
+    pub fn seed(self, seed: u64, number: usize) -> u64 {
+        seed.wrapping_mul(1_000_003) ^ (self as u64) << 40 ^ (number as u64) << 4
+    }
 }
 
 /// What the card is kept in while something is tried on it.

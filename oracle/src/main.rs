@@ -22,14 +22,13 @@ mod session_player;
 mod story;
 mod stray;
 mod trial_inputs;
+mod trial_kinds;
 mod trial_player;
 mod tuple_inputs;
 mod tuples;
 
 use std::io::{Read, Write};
 use std::process::ExitCode;
-
-use mutants::Change;
 
 const USAGE: &str = "usage: oracle play < SESSION
        oracle trial < TRIAL
@@ -41,7 +40,7 @@ const USAGE: &str = "usage: oracle play < SESSION
        oracle selftest
 ORACLE_SEED chooses other inputs than seed 1 for compare, coverage and mutants;
 ORACLE_LAUNCHER, one word on a line, is put before the program that compare runs;
-ORACLE_MUTANT plays with one of the small changes that `oracle mutants` lists.";
+ORACLE_MUTANT plays with the small change of this name; `oracle mutants` lists them.";
 
 fn main() -> ExitCode {
     let args: Vec<String> = std::env::args().skip(1).collect();
@@ -72,25 +71,24 @@ fn good(words: &[&str]) -> Result<bool, String> {
     })
 }
 
-fn seed() -> Result<u64, String> {
-    number("ORACLE_SEED", 1, u64::MAX)
+/// What the environment says under a name, if it has the name: taken, or why it can't be.
+fn told<T>(name: &str, wants: &str, take: fn(&str) -> Option<T>) -> Result<Option<T>, String> {
+    let Some(value) = std::env::var_os(name) else {
+        return Ok(None);
+    };
+    let taken = value.to_str().and_then(take);
+    taken.map(Some).ok_or(format!("{name} is {value:?}, and it is {wants}"))
 }
 
-/// The number that the environment has under a name, if it has one.
-fn number(name: &str, usual: u64, most: u64) -> Result<u64, String> {
-    let Some(value) = std::env::var_os(name) else {
-        return Ok(usual);
-    };
-    let number = value.to_str().and_then(|text| text.parse().ok());
-    number
-        .filter(|&n| n <= most)
-        .ok_or(format!("{name} is {value:?}, and it is a number up to {most}"))
+fn seed() -> Result<u64, String> {
+    let wants = format!("a number up to {}", u64::MAX);
+    Ok(told("ORACLE_SEED", &wants, |text| text.parse().ok())?.unwrap_or(1))
 }
 
 /// Standard input through a player, with one of the small changes if the environment names one.
 fn played(play: fn(&[u8]) -> String) -> Result<bool, String> {
-    let number = number("ORACLE_MUTANT", 0, Change::TABLE.len() as u64)? as usize;
-    mutants::switch(number.checked_sub(1).map(|i| Change::TABLE[i].0));
+    let wants = "the name of a change that `oracle mutants` lists";
+    mutants::switch(told("ORACLE_MUTANT", wants, mutants::by_name)?);
     Ok(filter(play))
 }
 

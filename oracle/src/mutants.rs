@@ -18,8 +18,14 @@ pub fn switch(change: Option<Change>) {
     ON.set(change);
 }
 
+/// The change of this name, as it stands below.
+pub fn by_name(name: &str) -> Option<Change> {
+    let mut changes = Change::TABLE.iter().map(|&(change, _)| change);
+    changes.find(|change| format!("{change:?}") == name)
+}
+
 named! {
-    /// A small change; its number is its place in this list, from 1 on.
+    /// A small change.
     Change {
         AttributeInIde: "attribute memory answers in True IDE mode",
         WindowByLowBits: "memory 400H..7FFH goes by the low four bits",

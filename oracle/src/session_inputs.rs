@@ -3,7 +3,7 @@
 use crate::broken_inputs;
 use crate::card::{Access, Geometry};
 use crate::host::{Host, Style, STYLES};
-use crate::inputs::{bring, geometry, sub_seed, Case, State};
+use crate::inputs::{bring, geometry, Case, Group, State};
 use crate::stray::EDGES;
 
 /// Geometries of at most 32 sectors.
@@ -58,7 +58,7 @@ fn opcodes(seed: u64, all: &mut Vec<Case>) {
             for quarter in 0..4usize {
                 let number = 16 * map as usize + 4 * k + quarter;
                 let mut host =
-                    host_in(map, geometry(SMALL[number % 12]), sub_seed(seed, 1, number));
+                    host_in(map, geometry(SMALL[number % 12]), Group::Opcodes.seed(seed, number));
                 for opcode in 64 * quarter..64 * quarter + 64 {
                     one_opcode(&mut host, map, state, opcode as u8);
                 }
@@ -109,7 +109,7 @@ fn sweeps(seed: u64, all: &mut Vec<Case>) {
         for state in STATES.into_iter().filter(|&s| possible(map, s)) {
             for space in 0..4u8 {
                 number += 1;
-                let mut host = host_in(map, geometry((4, 2, 4)), sub_seed(seed, 2, number));
+                let mut host = host_in(map, geometry((4, 2, 4)), Group::Sweeps.seed(seed, number));
                 sweep(&mut host, map, state, space);
                 finish(format!("sweep-map{map}-{state:?}-space{space}"), host, all);
             }
@@ -139,7 +139,7 @@ fn transfers(seed: u64, all: &mut Vec<Case>) {
             for noise in [0, 20] {
                 number += 1;
                 let g = geometry(SMALL[number % 12]);
-                let mut host = host_in(map, g, sub_seed(seed, 3, number));
+                let mut host = host_in(map, g, Group::Transfers.seed(seed, number));
                 whole_transfers(&mut host, map, style, noise);
                 finish(format!("transfer-map{map}-{style:?}-{noise}"), host, all);
             }
@@ -175,7 +175,7 @@ fn addresses(seed: u64, all: &mut Vec<Case>) {
         for opcode in [0x20, 0x30, 0x40, 0xC0, 0x70, 0x7F] {
             number += 1;
             let map = (number % 5) as u8;
-            let mut host = host_in(map, geometry(g), sub_seed(seed, 4, number));
+            let mut host = host_in(map, geometry(g), Group::Addresses.seed(seed, number));
             all_chs(&mut host, opcode);
             all_lba(&mut host, opcode);
             finish(format!("address-{}-{}-{}-{opcode:02X}", g.0, g.1, g.2), host, all);
@@ -218,7 +218,8 @@ fn parameters(seed: u64, all: &mut Vec<Case>) {
     for (number, g) in SMALL.into_iter().enumerate() {
         for round in 0..2 {
             let map = ((number + round) % 5) as u8;
-            let mut host = host_in(map, geometry(g), sub_seed(seed, 5, 2 * number + round));
+            let mut host =
+                host_in(map, geometry(g), Group::Parameters.seed(seed, 2 * number + round));
             while !host.full {
                 host.parameters_story();
                 if host.rng.percent(10) {
@@ -234,7 +235,7 @@ fn wanderings(seed: u64, all: &mut Vec<Case>) {
     for number in 0..LONG + SHORT {
         let g = geometry(SMALL[number % 12]);
         let mode = (number % 5 == 4) as u16;
-        let mut host = Host::session(sub_seed(seed, 6, number), g, mode);
+        let mut host = Host::session(Group::Wanderings.seed(seed, number), g, mode);
         if number >= LONG {
             host.limit = 200 + host.rng.below(3000);
         }

@@ -3,7 +3,8 @@
 use crate::card::{Access, Geometry};
 use crate::field_inputs;
 use crate::host::{Host, Style};
-use crate::inputs::{geometry, sub_seed, Case};
+use crate::inputs::{geometry, Case, Group};
+use crate::trial_kinds as kinds;
 use crate::tuple_inputs;
 
 /// Geometries of some hundred sectors: many cylinders, many heads, long tracks, and small ones.
@@ -57,37 +58,37 @@ pub fn probe(host: &mut Host) {
 fn oddities(seed: u64, all: &mut Vec<Case>) {
     all.push(Case::new("trial-empty".into(), Vec::new()));
     all.push(Case::new("trial-no-record".into(), vec![3; 15]));
-    let mut host = small(sub_seed(seed, 19, 0), 1);
-    host.record(&[8, 0xFFFF, 0xFFFF, 0xFFFF, 0xFFFF, 0xFFFF, 0xFFFF]);
+    let mut host = small(Group::Oddities.seed(seed, 0), 1);
+    host.record(&[kinds::LEND, 0xFFFF, 0xFFFF, 0xFFFF, 0xFFFF, 0xFFFF, 0xFFFF]);
     for kind in [0, 15, 16, 255, 256, 257, 0xFFFF] {
         host.record(&[kind, 3, 1, 0, 7, 0, 1, 0]);
     }
     for place in [0, 255, 256, 505, 511, 512, 1020, 1023, 1024, 0xFFFF] {
-        host.record(&[2, place, 0x1FE]);
-        host.record(&[5, place, 0x1FE, 0xFFFF]);
-        host.record(&[9, place, 9, 0x0201, 0x0403, 0x0605, 0x0807, 0x0A09]);
-        host.record(&[10, place, 5, 0x0201, 0x0403, 0x0605, 0x0807, 0x0A09]);
-        host.record(&[11, place, 0x1234, 0x5678, 0x9ABC]);
-        host.record(&[13, place, 7, 0x0201, 0x0403, 0x0605, 0x0807, 0x0A09]);
+        host.record(&[kinds::MARK, place, 0x1FE]);
+        host.record(&[kinds::FILL, place, 0x1FE, 0xFFFF]);
+        host.record(&[kinds::TUPLE_BYTES, place, 9, 0x0201, 0x0403, 0x0605, 0x0807, 0x0A09]);
+        host.record(&[kinds::BODY_BYTES, place, 5, 0x0201, 0x0403, 0x0605, 0x0807, 0x0A09]);
+        host.record(&[kinds::LAST_ENTRY, place, 0x1234, 0x5678, 0x9ABC]);
+        host.record(&[kinds::BUFFER_BYTES, place, 7, 0x0201, 0x0403, 0x0605, 0x0807, 0x0A09]);
         for count in [0, 1, 256, 257, 0xFFFF] {
-            host.record(&[6, count, 0x1FE, place, place]);
-            host.record(&[7, count, 0x1FE, place, place]);
+            host.record(&[kinds::READ_CHAIN, count, 0x1FE, place, place]);
+            host.record(&[kinds::WRITE_LIST, count, 0x1FE, place, place]);
         }
-        host.record(&[14]);
-        host.record(&[12]);
+        host.record(&[kinds::WRITE_BACK]);
+        host.record(&[kinds::SHOW]);
     }
     host.lend_right(Geometry::new(4, 2, 4));
     for field in 0..30 {
         for value in [0x1FF, 0, 1, 2, 3, 0x8000, 0xFFFF] {
-            host.record(&[4, field, value]);
-            host.record(&[3, 3, 1, 0, 0x16, 0, 0, 0]);
-            host.record(&[1, 4, 2, 4, 1]);
+            host.record(&[kinds::BREAK, field, value]);
+            host.record(&[kinds::ACCESS, 3, 1, 0, 0x16, 0, 0, 0]);
+            host.record(&[kinds::OPEN, 4, 2, 4, 1]);
         }
     }
-    host.record(&[3, 0x103, 0x101, 0x100, 7, 0xE8, 0, 9]);
-    host.record(&[3, 3, 2, 1, 0, 0xFFF0, 300, 5]);
-    host.record(&[3, 3, 1, 1, 3, 0xFE, 4, 1]);
-    host.record(&[3, 3, 1, 1, 3, 0x1FE, 4, 1]);
+    host.record(&[kinds::ACCESS, 0x103, 0x101, 0x100, 7, 0xE8, 0, 9]);
+    host.record(&[kinds::ACCESS, 3, 2, 1, 0, 0xFFF0, 300, 5]);
+    host.record(&[kinds::ACCESS, 3, 1, 1, 3, 0xFE, 4, 1]);
+    host.record(&[kinds::ACCESS, 3, 1, 1, 3, 0x1FE, 4, 1]);
     host.out.extend([7; 9]);
     finish("oddities".into(), host, all);
 }
@@ -103,7 +104,7 @@ fn openings(all: &mut Vec<Case>) {
             for mark in [0, 1, 2, 3, 255] {
                 host.set_mark(31, mark);
                 host.lend(store, marks, tuples);
-                host.record(&[1, c, 2, 4, mode]);
+                host.record(&[kinds::OPEN, c, 2, 4, mode]);
             }
         }
     }
@@ -132,7 +133,7 @@ fn limits(all: &mut Vec<Case>) {
                 for mode in [0, 1, 2, 256] {
                     let n = c as usize * h as usize * s as usize;
                     host.lend(512 * n.min(1024), n.min(1024), 256);
-                    host.record(&[1, c, h, s, mode]);
+                    host.record(&[kinds::OPEN, c, h, s, mode]);
                 }
             }
         }
@@ -143,14 +144,14 @@ fn limits(all: &mut Vec<Case>) {
 /// Wrong lengths at an access, with reasons for later refusals present as well.
 fn lent_lengths(seed: u64, all: &mut Vec<Case>) {
     for mode in 0..2 {
-        let mut host = small(sub_seed(seed, 20, mode), mode as u16);
+        let mut host = small(Group::LentLengths.seed(seed, mode), mode as u16);
         for (store, marks, tuples) in wrong_triples((32 * 512, 32, 256)) {
             host.lend(store, marks, tuples);
             for address in [7, 0x0B] {
                 for space in [0, 1, 3, 9] {
                     // Not through the host's own card, which always gets the right lengths.
-                    host.record(&[3, space, 1, 0, address, 0, 1, 0]);
-                    host.record(&[3, space, 1, 1, address, 0xEC, 1, 0]);
+                    host.record(&[kinds::ACCESS, space, 1, 0, address, 0, 1, 0]);
+                    host.record(&[kinds::ACCESS, space, 1, 1, address, 0xEC, 1, 0]);
                 }
             }
         }
@@ -167,7 +168,7 @@ fn marks(seed: u64, all: &mut Vec<Case>) {
         for mark in [1, 2, 3, 255] {
             for mode in 0..2 {
                 number += 1;
-                let mut host = small(sub_seed(seed, 23, number), mode);
+                let mut host = small(Group::Marks.seed(seed, number), mode);
                 for i in 0..6 {
                     host.fill_sector(i, 0x11 * i as u16, 3);
                 }
@@ -189,7 +190,7 @@ fn marked(host: &mut Host, opcode: u8) {
         }
         host.look();
         host.sense();
-        host.record(&[12]);
+        host.record(&[kinds::SHOW]);
         host.put(7, 0xE4);
         host.transfer(4, Style::Mixed);
         // Ends the transfer, so that the next address is taken.
@@ -201,13 +202,13 @@ fn marked(host: &mut Host, opcode: u8) {
 fn carries(seed: u64, all: &mut Vec<Case>) {
     for (number, g) in LARGE.into_iter().enumerate() {
         let g = geometry(g);
-        let mut host = Host::trial(sub_seed(seed, 24, number), g, (number % 2) as u16);
+        let mut host = Host::trial(Group::Carries.seed(seed, number), g, (number % 2) as u16);
         for opcode in [0x40, 0xC0, 0x70, 0x20, 0x30] {
             for lba in [true, false] {
                 carry(&mut host, opcode, lba);
             }
         }
-        host.record(&[12]);
+        host.record(&[kinds::SHOW]);
         finish(format!("carry-{number}"), host, all);
     }
 }
@@ -236,7 +237,7 @@ fn lines(seed: u64, all: &mut Vec<Case>) {
             .enumerate()
     {
         for mode in 0..2 {
-            let mut host = small(sub_seed(seed, 25, 2 * number + mode), mode as u16);
+            let mut host = small(Group::Lines.seed(seed, 2 * number + mode), mode as u16);
             for mask in [0, 2] {
                 for reading in [false, true] {
                     one_line(&mut host, opcode, mask, reading);
@@ -278,7 +279,8 @@ fn one_line(host: &mut Host, opcode: u8, mask: u8, reading: bool) {
 fn wanderings(seed: u64, all: &mut Vec<Case>) {
     for number in 0..120 {
         let g = geometry(LARGE[number % LARGE.len()]);
-        let mut host = Host::trial(sub_seed(seed, 26, number), g, (number % 3 == 2) as u16);
+        let mut host =
+            Host::trial(Group::TrialWanderings.seed(seed, number), g, (number % 3 == 2) as u16);
         host.steady = number % 4 != 0;
         while !host.full {
             sprinkle(&mut host);

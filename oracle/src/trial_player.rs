@@ -4,6 +4,7 @@ use std::fmt::Write;
 
 use crate::card::{Access, Answer, Card, Geometry, Half, Lent, Phase};
 use crate::maps::Mode;
+use crate::trial_kinds as kinds;
 use crate::tuples::{self, Entry};
 
 pub const STORE: usize = 524_288;
@@ -61,20 +62,20 @@ impl Bench {
         let w = words(record);
         let (place, bytes) = (w[1] as usize, &record[6..6 + w[2].min(8) as usize]);
         match w[0] {
-            1 => self.open(&w),
-            2 => put(&mut self.marks, place, w[2] as u8),
-            3 => self.accesses(&w),
-            4 => set_field(&mut self.card, w[1], w[2]),
-            5 => self.fill(&w),
-            6 => self.read_chain(place, entry(&w)),
-            7 => self.write_list(place, entry(&w)),
-            8 => self.lend(&w),
-            9 => put_all(&mut self.tuples, place, bytes),
-            10 => put_all(&mut self.bodies, place, bytes),
-            11 => self.last = entry(&w),
-            12 => self.show(),
-            13 => put_all(&mut self.card.buffer, place, bytes),
-            14 => self.write_back(),
+            kinds::OPEN => self.open(&w),
+            kinds::MARK => put(&mut self.marks, place, w[2] as u8),
+            kinds::ACCESS => self.accesses(&w),
+            kinds::BREAK => set_field(&mut self.card, w[1], w[2]),
+            kinds::FILL => self.fill(&w),
+            kinds::READ_CHAIN => self.read_chain(place, entry(&w)),
+            kinds::WRITE_LIST => self.write_list(place, entry(&w)),
+            kinds::LEND => self.lend(&w),
+            kinds::TUPLE_BYTES => put_all(&mut self.tuples, place, bytes),
+            kinds::BODY_BYTES => put_all(&mut self.bodies, place, bytes),
+            kinds::LAST_ENTRY => self.last = entry(&w),
+            kinds::SHOW => self.show(),
+            kinds::BUFFER_BYTES => put_all(&mut self.card.buffer, place, bytes),
+            kinds::WRITE_BACK => self.write_back(),
             _ => {}
         }
     }

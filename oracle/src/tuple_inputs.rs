@@ -1,41 +1,42 @@
 //! Trial inputs of the tuple reader and writer: chains to be read, lists to be written.
 
 use crate::host::Host;
-use crate::inputs::{sub_seed, Case};
+use crate::inputs::{Case, Group};
 use crate::rng::Rng;
 use crate::trial_inputs::{finish, small};
+use crate::trial_kinds as kinds;
 
 fn lend_tuples(host: &mut Host, tuples: usize, bodies: usize) {
-    host.record(&[8, 0, 0, 0, tuples as u16, bodies as u16]);
+    host.record(&[kinds::LEND, 0, 0, 0, tuples as u16, bodies as u16]);
 }
 
 /// Chains to be read: good ones, ones that end badly, short lists, wrong lengths.
 pub fn chains(seed: u64, all: &mut Vec<Case>) {
     let mut host = small(3, 0);
-    host.bytes_record(9, 0, &[0x18, 0x02, 0xDF, 0x01, 0x14, 0x00, 0xFF]);
+    host.bytes_record(kinds::TUPLE_BYTES, 0, &[0x18, 0x02, 0xDF, 0x01, 0x14, 0x00, 0xFF]);
     for (tuples, places) in
         [(256, 127), (256, 126), (255, 127), (257, 126), (256, 256), (256, 257), (0, 0)]
     {
         lend_tuples(&mut host, tuples, 0);
-        host.record(&[6, places, 0xAA, 0x1234, 0x5678]);
+        host.record(&[kinds::READ_CHAIN, places, 0xAA, 0x1234, 0x5678]);
     }
     finish("chain-sample".into(), host, all);
     sheet(all);
     edges(all);
     for number in 0..120 {
-        let mut rng = Rng::new(sub_seed(seed, 28, number));
+        let mut rng = Rng::new(Group::Chains.seed(seed, number));
         let mut host = small(4, 0);
         for _ in 0..12 {
             let chain = some_chain(&mut rng);
-            host.bytes_record(9, 0, &chain);
-            host.bytes_record(10, 0, &chain);
+            host.bytes_record(kinds::TUPLE_BYTES, 0, &chain);
+            host.bytes_record(kinds::BODY_BYTES, 0, &chain);
             let tuples = rng.pick(&[256, 256, 256, 256, 255, 257]);
             let bodies = rng.pick(&[256, 256, 256, 256, 255, 257]);
             lend_tuples(&mut host, tuples, bodies);
             let (places, code) = (rng.pick(&[127, 127, 128, 256, 126]), rng.byte() as u16);
-            host.record(&[6, places, code, rng.next() as u16, rng.next() as u16]);
-            host.record(&[14]);
-            host.record(&[6, 127]);
+            host.record(&[kinds::READ_CHAIN, places, code, rng.next() as u16, rng.next() as u16]);
+            host.record(&[kinds::WRITE_BACK]);
+            host.record(&[kinds::READ_CHAIN, 127]);
         }
         finish(format!("chain-{number}"), host, all);
     }
@@ -60,19 +61,19 @@ const SHEET: [u8; 156] = [
 /// bad and too long, and 257 bytes to fill.
 fn sheet(all: &mut Vec<Case>) {
     let mut host = small(7, 0);
-    host.bytes_record(9, 0, &SHEET);
-    host.bytes_record(10, 0, &SHEET);
+    host.bytes_record(kinds::TUPLE_BYTES, 0, &SHEET);
+    host.bytes_record(kinds::BODY_BYTES, 0, &SHEET);
     lend_tuples(&mut host, 256, 256);
-    host.record(&[14]);
+    host.record(&[kinds::WRITE_BACK]);
     for places in [0, 126, 127, 200] {
-        host.record(&[6, places, 0xAA, 111, 222]);
+        host.record(&[kinds::READ_CHAIN, places, 0xAA, 111, 222]);
     }
     lend_tuples(&mut host, 256, 300);
-    host.record(&[11, 0, 0xFF, 0, 300]);
-    host.record(&[7, 1]);
+    host.record(&[kinds::LAST_ENTRY, 0, 0xFF, 0, 300]);
+    host.record(&[kinds::WRITE_LIST, 1]);
     lend_tuples(&mut host, 257, 300);
-    host.record(&[11, 0, 0x14]);
-    host.record(&[7, 1]);
+    host.record(&[kinds::LAST_ENTRY, 0, 0x14]);
+    host.record(&[kinds::WRITE_LIST, 1]);
     finish("chain-sheet".into(), host, all);
 }
 
@@ -80,25 +81,25 @@ fn sheet(all: &mut Vec<Case>) {
 fn edges(all: &mut Vec<Case>) {
     let mut host = small(6, 0);
     lend_tuples(&mut host, 256, 256);
-    host.bytes_record(9, 0, &[0; 256]);
+    host.bytes_record(kinds::TUPLE_BYTES, 0, &[0; 256]);
     for place in (0..=256).rev().step_by(15) {
-        host.record(&[9, place, 1, 0xFF]);
-        host.record(&[6, 127, 0x55]);
+        host.record(&[kinds::TUPLE_BYTES, place, 1, 0xFF]);
+        host.record(&[kinds::READ_CHAIN, 127, 0x55]);
     }
-    host.bytes_record(9, 0, &[0xFF; 256]);
+    host.bytes_record(kinds::TUPLE_BYTES, 0, &[0xFF; 256]);
     for start in [0, 2, 100, 250, 252, 253, 254, 255] {
         let mut chain = [0x14, 0].repeat(start / 2);
         chain.resize(start, 0);
-        host.bytes_record(9, 0, &chain);
+        host.bytes_record(kinds::TUPLE_BYTES, 0, &chain);
         for past in 0..5 {
             let link = (256 - start + past).saturating_sub(4) as u16;
-            host.record(&[9, start as u16, 2, 0x21 | link.min(255) << 8]);
+            host.record(&[kinds::TUPLE_BYTES, start as u16, 2, 0x21 | link.min(255) << 8]);
             for last in [0xFF, 0x00, 0x21] {
-                host.record(&[9, 255, 1, last]);
-                host.record(&[6, 128, 0x66, 0xFFFF, 0xFFFF]);
+                host.record(&[kinds::TUPLE_BYTES, 255, 1, last]);
+                host.record(&[kinds::READ_CHAIN, 128, 0x66, 0xFFFF, 0xFFFF]);
             }
         }
-        host.bytes_record(9, 0, &[0xFF; 256]);
+        host.bytes_record(kinds::TUPLE_BYTES, 0, &[0xFF; 256]);
     }
     full_chain(&mut host);
     finish("chain-edges".into(), host, all);
@@ -107,12 +108,12 @@ fn edges(all: &mut Vec<Case>) {
 /// 127 empty tuples and the end mark, into lists about that long.
 fn full_chain(host: &mut Host) {
     let chain = [&[0x40, 0].repeat(127)[..], &[0xFF, 0xFF]].concat();
-    host.bytes_record(9, 0, &chain);
-    host.bytes_record(10, 0, &chain);
+    host.bytes_record(kinds::TUPLE_BYTES, 0, &chain);
+    host.bytes_record(kinds::BODY_BYTES, 0, &chain);
     for places in [126, 127, 128, 129, 256] {
-        host.record(&[6, places, 0x77, 1, 2]);
+        host.record(&[kinds::READ_CHAIN, places, 0x77, 1, 2]);
     }
-    host.record(&[14]);
+    host.record(&[kinds::WRITE_BACK]);
 }
 
 /// 256 bytes: tuples of some length, perhaps nulls, an end mark or none.
@@ -155,10 +156,10 @@ fn end_chain(rng: &mut Rng, mut bytes: Vec<u8>) -> Vec<u8> {
 /// Lists to be written, and read back.
 pub fn lists(seed: u64, all: &mut Vec<Case>) {
     for number in 0..80 {
-        let mut rng = Rng::new(sub_seed(seed, 29, number));
+        let mut rng = Rng::new(Group::Lists.seed(seed, number));
         let mut host = small(5, 0);
         let bodies: Vec<u8> = (0..1024).map(|_| rng.byte()).collect();
-        host.bytes_record(10, 0, &bodies);
+        host.bytes_record(kinds::BODY_BYTES, 0, &bodies);
         for _ in 0..20 {
             one_list(&mut host, &mut rng);
         }
@@ -179,12 +180,12 @@ fn one_list(host: &mut Host, rng: &mut Rng) {
         1..=3 => last = spoiled(rng, bodies),
         _ => {}
     }
-    host.record(&[11, 0, last.0, last.1, last.2]);
+    host.record(&[kinds::LAST_ENTRY, 0, last.0, last.1, last.2]);
     let tuples = rng.pick(&[256, 256, 256, 256, 255, 0, 512]);
     lend_tuples(host, tuples, bodies);
-    host.record(&[7, count as u16, first.0, first.1, first.2]);
+    host.record(&[kinds::WRITE_LIST, count as u16, first.0, first.1, first.2]);
     lend_tuples(host, 256, bodies);
-    host.record(&[6, 127, 0xAB, 0xCDEF, 0x0123]);
+    host.record(&[kinds::READ_CHAIN, 127, 0xAB, 0xCDEF, 0x0123]);
 }
 
 /// A last entry such that all take 253 to 257 bytes, where that can be.

@@ -1,4 +1,4 @@
-"""How the tools are called and what they print: a wrong call is told in one line, and a table is one for pages."""
+"""How the tools are called: a wrong call is told in one line."""
 import argparse
 import shlex
 import sys
@@ -34,8 +34,3 @@ def shortened(word, most=20):
     """A word as a message shows it: not too long, and what can't be printed as its number."""
     shown = "".join(letter if letter.isprintable() else letter.encode("unicode_escape").decode() for letter in word[:most])
     return shown if len(word) <= most else shown + ".."
-
-
-def table(head, rows):
-    lines = ["| " + " | ".join(row) + " |" for row in (head, *rows)]
-    return "\n".join([lines[0], "|---" * len(head) + "|", *lines[1:]])

@@ -23,6 +23,10 @@ def read(path):
         return file.read()
 
 
+def pages():
+    return ["README.md", *(page for folder in ("docs", "bench", "oracle", "sessions") for page in sorted(glob.glob(f"{folder}/**/*.md", recursive=True)))]
+
+
 def path_of(place):
     crate, *inside = place.split("/")
     if inside[0] == "src":

@@ -18,6 +18,7 @@ import measuring  # noqa: E402
 import page as results  # noqa: E402
 import plot  # noqa: E402
 import sessions  # noqa: E402
+import setting  # noqa: E402
 import tables  # noqa: E402
 from cardtools.records import LONGEST, records_of  # noqa: E402
 from faults import fault_of  # noqa: E402
@@ -36,7 +37,8 @@ def text_of(path):
 def test_sessions_are_well_formed_and_equal_each_time():
     for kind in sessions.KINDS:
         lengths = sessions.lengths(kind)
-        assert lengths[0] == 0 and len(lengths) > 3, (kind, lengths)
+        counts = [sessions.session(kind, blocks)[1] for blocks in lengths]
+        assert len(lengths) > 2 and counts[0] >= 999 > sessions.session(kind, lengths[0] - 1)[1], (kind, lengths, counts)
         for blocks in lengths:
             file, accesses = sessions.session(kind, blocks)
             records, broken = records_of(file)
@@ -53,6 +55,12 @@ def test_the_line_is_straight_or_told():
         assert "no straight line" in str(fault_of(limits.Fault, limits.straight, "a", "b", bent))
 
 
+def test_the_digits_of_access_numbers_bend_no_line():
+    for kind in sessions.KINDS:
+        counts = [sessions.session(kind, blocks)[1] for blocks in sessions.lengths(kind)]
+        assert limits.bend([(count, sum(140 + 5 * len(str(number)) for number in range(1, count + 1))) for count in counts]) < 1e-9
+
+
 def costing(cost, counted="instructions"):
     """A bench at which each access costs this."""
     return mock.Mock(counted=counted, line=lambda name, kind: [(0, 5000), (1000, 5000 + 1000 * cost)])
@@ -61,16 +69,15 @@ def costing(cost, counted="instructions"):
 def test_each_session_keeps_to_its_bound():
     assert list(limits.MOST) == list(sessions.KINDS)
     for kind, most in limits.MOST.items():
-        limits.held(costing(900 if most is None else most), kind, ["cardrun"])
-        if most is not None:
-            fault = str(fault_of(limits.Fault, limits.held, costing(most + 1), kind, ["cardrun"]))
-            assert fault == f"{kind}: cardrun takes {most + 1}.0 instructions an access, and {most} is the most"
-            limits.held(costing(most + 1, "accesses answered"), kind, ["cardrun"])
+        limits.held(costing(most), kind, ["cardrun"])
+        fault = str(fault_of(limits.Fault, limits.held, costing(most + 1), kind, ["cardrun"]))
+        assert fault == f"{kind}: cardrun takes {most + 1}.0 instructions an access, and {most} is the most"
+        limits.held(costing(most + 1, "accesses answered"), kind, ["cardrun"])
 
 
 def test_the_help_names_the_bounds():
-    bounds = {str(most) for most in limits.MOST.values() if most is not None}
-    assert bounds <= set(re.findall(r"\d+", bench.__doc__)), bounds
+    told = re.search(r"^access may take: (.*)\.$", bench.help_text(), re.M)
+    assert dict(bound.split() for bound in told[1].split(", ")) == {kind: str(most) for kind, most in limits.MOST.items()}, told[1]
 
 
 def test_counts_are_named_as_they_are():
@@ -80,9 +87,9 @@ def test_counts_are_named_as_they_are():
 
     with tempfile.TemporaryDirectory() as folder:
         emulator = program(folder, "emulator", "echo emulator 5")
-        assert tables.counter(Made(False, [emulator])) == "the trace of emulator 5"
-        assert tables.counter(Made(False, False)) == "no counter: accesses answered"
-        assert tables.counter(Made(program(folder, "valgrind", "echo valgrind-4"), False)) == "valgrind-4"
+        assert setting.counter(Made(False, [emulator])) == "the trace of emulator 5"
+        assert setting.counter(Made(False, False)) == "no counter: accesses answered"
+        assert setting.counter(Made(program(folder, "valgrind", "echo valgrind-4"), False)) == "valgrind-4"
 
 
 def test_the_check_fails_where_nothing_counts():

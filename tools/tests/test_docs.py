@@ -9,6 +9,10 @@ import re
 import subprocess
 import tempfile
 
+import decided
+from functions import in_crate, proofs_of
+from named import pages, read
+
 # Commands that are not run here, and why.
 ELSEWHERE = {
     "./test": "it is what runs these tests",
@@ -23,14 +27,9 @@ LONGEST = 1200  # seconds for one block
 FENCE = re.compile(r"^```(\w*)[ \t]*\n(.*?)^```[ \t]*$", re.M | re.S)
 
 
-def pages():
-    return ["README.md", *(page for folder in ("docs", "bench", "oracle", "sessions") for page in sorted(glob.glob(f"{folder}/**/*.md", recursive=True)))]
-
-
 def blocks_of(page):
     """(line, script, what it must print or None) of each sh block of a page."""
-    with open(page, encoding="utf-8") as file:
-        text = file.read()
+    text = read(page)
     fences = list(FENCE.finditer(text))
     for this, after in zip(fences, fences[1:] + [None]):
         if this[1] != "sh":
@@ -111,47 +110,76 @@ def test_every_page_is_taken():
     assert sorted(listed) == sorted(pages()), set(listed) ^ set(pages())
 
 
+def slug(heading):
+    """The name by which a link leads to a heading."""
+    return re.sub(r"[^\w -]", "", heading.lower()).strip().replace(" ", "-")
+
+
+def anchors_of(text):
+    """The names in a page that a link can lead to: its anchors, and its headings by their slugs."""
+    return {*re.findall(r'<a id="([^"]+)"></a>', text), *map(slug, re.findall(r"^#+ (.+)$", FENCE.sub("", text), re.M))}
+
+
+def link_faults(page):
+    """What is wrong in the links of a page: a file that is not there, an anchor that the file, or the page itself, has not."""
+    faults = []
+    for file, anchor in re.findall(r"\]\(([^)#:]*)(?:#([^)]*))?\)", read(page)):
+        path = os.path.join(os.path.dirname(page), file) if file else page
+        if not os.path.exists(path):
+            faults.append(f"{page}: there is no {file}")
+        elif anchor and anchor not in anchors_of(read(path)):
+            faults.append(f"{page}: there is no #{anchor} in {file or 'it'}")
+    return faults
+
+
 def test_links_in_the_docs_lead_somewhere():
-    for page in pages():
-        with open(page, encoding="utf-8") as file:
-            links = re.findall(r"\]\(([^)#:]+)(?:#[^)]*)?\)", file.read())
-        for link in links:
-            assert os.path.exists(os.path.join(os.path.dirname(page), link)), f"{page}: {link}"
+    faults = [fault for page in pages() for fault in link_faults(page)]
+    assert not faults, "\n" + "\n".join(faults)
+
+
+def test_links_that_lead_nowhere_are_told():
+    with tempfile.TemporaryDirectory() as folder:
+        page, other = (os.path.join(folder, name) for name in ("page.md", "other.md"))
+        with open(page, "w", encoding="utf-8") as file:
+            file.write("# A `page` (one)\n[a](#a-page-one) [b](#d1) [c](other.md) [d](other.md#d1) [e](other.md#d2) [f](another.md#d1) [g](https://a.b/#d1)\n")
+        with open(other, "w", encoding="utf-8") as file:
+            file.write('<a id="d1"></a>**D1.** One.\n```sh\n# d2\n```\n')
+        assert link_faults(page) == [f"{page}: there is no #d1 in it", f"{page}: there is no #d2 in other.md", f"{page}: there is no another.md"], link_faults(page)
+
+
+def test_every_decision_has_its_anchor():
+    """On the page where it stands; and D1, D2, … to the last in DECISIONS.md, which says where each stands."""
+    for page in decided.PAGES:
+        missing = {number.lower() for number in decided.decisions_in(read(page))} - anchors_of(read(page))
+        assert not missing, f"{page}: there is no {missing}"
+    last = max(int(number[1:]) for number in decided.decisions())
+    missing = {f"d{number}" for number in range(1, last + 1)} - anchors_of(read(decided.PAGES[0]))
+    assert not missing, f"{decided.PAGES[0]}: there is no {missing}"
 
 
 def test_fences_are_sh_or_text():
     """A command in an untagged fence would be run by nobody."""
     for page in pages():
-        with open(page, encoding="utf-8") as file:
-            for fence in FENCE.finditer(file.read()):
-                assert fence[1] in ("sh", "text"), f"{page}: a fence of kind '{fence[1]}': {fence[2][:60]}"
+        for fence in FENCE.finditer(read(page)):
+            assert fence[1] in ("sh", "text"), f"{page}: a fence of kind '{fence[1]}': {fence[2][:60]}"
 
 
 def test_files_that_the_docs_name_are_there():
     for page in pages():
-        with open(page, encoding="utf-8") as file:
-            for path in re.findall(r"\b((?:crates|tools|oracle|bench)/[\w./-]+\.(?:antt|rt|edit|rs|py))\b", file.read()):
-                assert os.path.exists(path), f"{page}: {path}"
+        for path in re.findall(r"\b(crates/[\w./-]*\w|(?:tools|oracle|bench)/[\w./-]+\.(?:rs|py))\b", read(page)):
+            assert os.path.exists(path), f"{page}: {path}"
 
 
 def test_must_fail_edits_that_the_docs_name_are_there():
     for page in pages():
-        with open(page, encoding="utf-8") as file:
-            for names in re.findall(r"must-fail ((?:[a-z_]+/\w+(?:, )?)+)", file.read()):
-                for crate, edit in re.findall(r"([a-z_]+)/(\w+)", names):
-                    assert os.path.exists(f"crates/{crate}/must-fail/{edit}.edit"), f"{page}: must-fail {crate}/{edit}"
+        for names in re.findall(r"must-fail ((?:[a-z_]+/\w+(?:, )?)+)", read(page)):
+            for crate, edit in re.findall(r"([a-z_]+)/(\w+)", names):
+                assert os.path.exists(f"crates/{crate}/must-fail/{edit}.edit"), f"{page}: must-fail {crate}/{edit}"
 
 
 def test_proofs_stand_where_the_docs_say():
-    """proofs/m/f for `f` of src/m.rt, proofs/f for one of lib.rt or main.rt, proofs/T/f for the method `T::f`, proofs/m/T/f where T stands in src/m.rt."""
+    """That of a method goes by the module of its type (functions.py); a folder in capitals is a type."""
     for path in glob.glob("crates/*/proofs/**/Proof.antt", recursive=True):
-        crate, place = path.split("/proofs/")
-        *inside, name, _ = place.split("/")
-        method = inside and not inside[-1].islower()
-        text = ""
-        for module in ["*"] if method else inside or ["lib", "main"]:
-            for source in glob.glob(f"{crate}/src/{module}.rt"):
-                with open(source, encoding="utf-8") as file:
-                    text += file.read()
-        begins = rf"^{'    ' if method else ''}(pub(\(crate\))? )?(extern \"C\" )?fn {name}\b"
-        assert len(inside) < 2 + bool(method) and re.search(begins, text, re.M), path
+        crate, folders = re.fullmatch(r"crates/(\w+)/proofs/(.+)/Proof\.antt", path).groups()
+        name = "::".join(re.search(r"(?:([A-Z]\w*)/)?(\w+)$", folders).groups("")).removeprefix("::")
+        assert in_crate(crate, name) and path in proofs_of(crate, name), path

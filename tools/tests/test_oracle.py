@@ -19,15 +19,15 @@ def test_a_launcher_has_one_word_on_a_line():
 
 
 def test_compare_finds_a_small_change():
-    status, printed, _ = call("compare", "-", "trial", ORACLE_LAUNCHER=ORACLE, ORACLE_MUTANT="3")
+    status, printed, _ = call("compare", "-", "trial", ORACLE_LAUNCHER=ORACLE, ORACLE_MUTANT="HighLinesIgnored")
     assert status == 1 and re.search(r"\n\d+ passed, [1-9]\d* failed\n$", printed), printed[-500:]
 
 
 def test_wrong_environment_values_are_told():
-    for name, value, words in (("ORACLE_SEED", "abc", "coverage"), ("ORACLE_SEED", "-1", "mutants"), ("ORACLE_MUTANT", "999", "play"), ("ORACLE_MUTANT", "x", "trial")):
+    for name, value, words in (("ORACLE_SEED", "abc", "coverage"), ("ORACLE_SEED", "-1", "mutants"), ("ORACLE_MUTANT", "3", "play"), ("ORACLE_MUTANT", "NoSuchChange", "trial"), ("ORACLE_MUTANT", "", "play")):
         status, printed, said = call(words, **{name: value})
         assert (status, printed) == (1, "") and said.startswith(f'{name} is "{value}"'), (name, value, said)
-    assert call("play", ORACLE_MUTANT="1")[:2] == (0, "n op answer value\nbad 0\n")
+    assert call("play", ORACLE_MUTANT="AttributeInIde")[:2] == (0, "n op answer value\nbad 0\n")
 
 
 def test_the_example_of_a_trial():

@@ -1,13 +1,14 @@
 """docs/PROMISES.md: a line for every public function, with two wrong programs and the needs that refuse them, and a line for every must-fail edit.
 
 The functions stand in a chapter for each crate, in the order of crates.txt; the names in a function's line are definitions or the lemmas of OnlyOne.
-In what refuses a program, a function after `of` is one of the crate, and a law stands where it says (named.py has the form).
+In what refuses a program, a need stands in the proof of its function, if that has a file (functions.py says where), and a law where it says (named.py has the form).
 """
 import glob
 import os
 import re
 
-from named import Told, in_code, in_definitions, read
+from functions import in_crate, proofs_of, sources
+from named import Told, in_definitions, read
 
 PAGE = "docs/PROMISES.md"
 EDITS = "Where a must-fail edit is refused"
@@ -24,7 +25,7 @@ def functions_in(text):
 
 
 def public_functions(crate):
-    return dict(function for path in sorted(glob.glob(f"crates/{crate}/src/*.rt")) for function in functions_in(read(path)))
+    return dict(function for path in sources(crate) for function in functions_in(read(path)))
 
 
 def chapters(page):
@@ -51,17 +52,38 @@ def defined(name):
     return any(in_definitions(read(path), name) for pattern in ("specs/*", "proofs/OnlyOne") for path in glob.glob(f"crates/*/{pattern}.antt"))
 
 
-def in_crate(crate, name):
-    return any(in_code(read(path), name) for path in glob.glob(f"crates/{crate}/src/*.rt"))
+def need_fault(crate, function, need, step):
+    """What is wrong in a need, or in a step, of a function's proof, or None; a function that has no proof file may have any need."""
+    if not function:
+        return f"of which function is `{need}`"
+    if not in_crate(crate, function):
+        return f"there is no `{function}` in {crate}"
+    proofs = [read(path) for path in proofs_of(crate, function) if os.path.exists(path)]
+    there = in_definitions if step else lambda proof, name: re.search(rf"\bNeed-{name}(?![\w-])", proof)
+    return f"there is no `{need}` in the proof of `{function}`" if proofs and not any(there(proof, need) for proof in proofs) else None
 
 
-def refused_faults(crate, where, refused):
-    """What is wrong in what refuses a program: a function after `of` is one of the crate, a law stands where it says."""
+def needs_told(part, function):
+    """(function, need) for each need: it is that of the function after the next `of`, or where there is none, of the line's own."""
+    needs = []
+    for of, name in re.findall(r"(\bof )?`([^`]+)`", part):
+        if not of:
+            needs.append(name)
+        else:
+            yield from ((name, need) for need in needs)
+            needs = []
+    yield from ((function, need) for need in needs)
+
+
+def refused_faults(crate, where, refused, function=None):
+    """What is wrong in what refuses a program: a function's need or a step of its proof stands there, a law where it says."""
     told = Told()
     for part in refused.split("; "):
         if "/proofs/" in part:
             told.look_up(where, part)
-        told.faults += [f"{where}: there is no `{name}` in {crate}" for name in re.findall(r"\bof `([\w:]+)`", part) if not in_crate(crate, name)]
+            continue
+        found = [need_fault(crate, *needed, "a step of its proof" in part) for needed in needs_told(part, function)]
+        told.faults += [f"{where}: {fault}" for fault in found if fault]
     return told.faults
 
 
@@ -81,7 +103,7 @@ def crate_faults(crate, lines):
         faults += [] if len(wrong) == 2 else [f"{crate}: `{name}` has {len(wrong)} wrong programs"]
         for line in wrong:
             found = re.match(r"  - .+?: ([^:]*`.+)$", line)
-            faults += refused_faults(crate, f"{crate}: `{name}`", found[1]) if found else [f"{crate}: `{name}`: no need refuses this:{line[3:]}"]
+            faults += refused_faults(crate, f"{crate}: `{name}`", found[1], name) if found else [f"{crate}: `{name}`: no need refuses this:{line[3:]}"]
     return faults
 
 
@@ -135,7 +157,7 @@ RIGHT = """`A lemma`: ground/proofs/OnlyOne `only-one`
 - `Refusal::number`: `numberOf` (`only-both`).
   - another: `returns`
   - none: `returns-2` of `Refusal::number`
-- `Outcome::number`: a number.
+- `Outcome::number`: a number, without a proof file.
   - another: `returns`
   - none: `returns-2`
 - `Outcome::value`: a value.
@@ -156,10 +178,14 @@ WRONG = {
     ("  - none: `returns-2` of `Refusal::number`\n", ""): "answers: `Refusal::number` has 1 wrong programs",
     ("  - none: `returns-2` of `Refusal::number`", "  - none: it is wrong"): "answers: `Refusal::number`: no need refuses this: none: it is wrong",
     ("of `Refusal::number`", "of `Refusal::value`"): "answers: `Refusal::number`: there is no `Refusal::value` in answers",
+    ("`returns-2` of `Refusal::number`", "`returns-99`"): "answers: `Refusal::number`: there is no `returns-99` in the proof of `Refusal::number`",
+    ("`returns-2` of `Refusal::number`", "`walk`, a step of its proof"): "answers: `Refusal::number`: there is no `walk` in the proof of `Refusal::number`",
     ("## answers", "## Answers"): "chapters: ; crates with public functions: answers",
     ("order_3_5", "order_5_3"): "no line for card/order_3_5",
     ("`first-row`", "`last-row`"): "card/order_3_5: no `last-row` in crates/card/proofs/FirstRow.antt",
     ("`verdict_of`", "`verdict_by`"): "card/order_3_5: there is no `verdict_by` in card",
+    ("`returns` of `verdict_of`", "`returns-1` and `returns` of `verdict_of`"): "card/order_3_5: there is no `returns-1` in the proof of `verdict_of`",
+    ("`returns` of `verdict_of`", "`returns`"): "card/order_3_5: of which function is `returns`",
     ("card/order_3_5: definition", "card/order_3_5, definition"): "no line for card/order_3_5",
 }
 

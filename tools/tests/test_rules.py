@@ -1,11 +1,10 @@
 """docs/RULES.md: every name of a row stands where the row says (named.py has the form), rows are numbered without a gap, and every decision is there."""
-import os
 import re
 
+from decided import decisions, decisions_in
 from named import Told, read
 
 PAGE = "docs/RULES.md"
-DECISIONS = ("docs/DECISIONS.md", "docs/CODE.md")
 SAMPLES = 13
 
 
@@ -15,6 +14,11 @@ class Rows(Told):
     def __init__(self):
         super().__init__()
         self.rows = self.decisions = 0
+
+    def of_introduction(self, line):
+        """It tells the form of a place by words that name none: `crate/File`, crate/edit, sessions/NAME."""
+        for sentence in re.sub(r"`?\b(?:crate/[\w/]+|sessions/NAME\b)`?", "", line).split(". "):
+            self.look_up("introduction", sentence, placed=True)
 
     def of_cell(self, row, cell):
         self.look_up(row, cell)
@@ -42,24 +46,16 @@ class Rows(Told):
         return number, letter
 
 
-def decisions_in(page):
-    """`**D1.** …`, or `**D2** (also D3, D4). …`, with anchors before it or none."""
-    heads = re.findall(r"^(?:<a [^>]*></a>)*\*\*(D\d+)(?:\.\*\*|\*\* \(also ([D\d, ]+)\)\.)", page, re.M)
-    return {number for head in heads for part in head for number in re.findall(r"D\d+", part)}
-
-
-def decisions():
-    return {number for page in DECISIONS if os.path.exists(page) for number in decisions_in(read(page))}
-
-
 def looked_up(page, known):
-    """All that is to be looked up in a page's chapters: in their text, and in their rows but for the rule's own words."""
+    """All that is to be looked up in a page: in the text before its chapters, in theirs, and in their rows but for the rule's own words."""
     told, before, chapter = Rows(), (0, ""), None
     rows = re.findall(r"^\| (R\d+[a-z]?) \|", page, re.M)
     for line in page.splitlines():
         if line.startswith("## "):
             chapter = line[3:]
-        elif chapter and line.startswith("| R"):
+        elif not chapter:
+            told.of_introduction(line)
+        elif line.startswith("| R"):
             row, *cells = [cell.strip() for cell in line.strip("|").split(" | ")]
             told.rows += 1
             before = told.of_number(row, before)
@@ -70,10 +66,10 @@ def looked_up(page, known):
             told.of_rows(row, " ".join(cells), rows)
             for cell in cells[1:]:
                 told.of_cell(row, cell)
-        elif chapter and line.startswith("|"):
+        elif line.startswith("|"):
             if not re.match(r"\| No\. \||\|---", line):
                 told.faults.append(f"{chapter}: what is this row: {line[:40]}")
-        elif chapter:
+        else:
             told.of_rows(chapter, line, rows)
             told.look_up(chapter, line)
     return told
@@ -86,7 +82,7 @@ def test_names_of_the_rules_stand_where_their_rows_say():
     assert told.rows and told.names and told.places and told.decisions
 
 
-RIGHT = """Before the first chapter nothing is looked up: `no-name`.
+RIGHT = """A place stands before its names: `crate/File` (answers/Answers `outcomeNumber`). `no-name` has none; must-fail crate/edit, sessions/NAME.
 ## Answers
 What is refused: answers/Answers `refused`.
 | R1 | a rule (D1) | answers/Answers `numberOf StoreLength`, answers/Rows `FirstRow`; `ground` | promise of answers/src/lib `Refusal::number` |
@@ -95,6 +91,8 @@ What is refused: answers/Answers `refused`.
 """
 # What is changed in it, and what is to be told.
 WRONG = {
+    ("`outcomeNumber`", "`outcomeWeight`"): "introduction: no `outcomeWeight` in crates/answers/specs/Answers.antt",
+    ("(answers/Answers", "(answers/Refusals"): "introduction: there is no crates/answers/specs/Refusals.antt",
     ("`refused`", "`refuted`"): "Answers: no `refuted` in crates/answers/specs/Answers.antt",
     ("`numberOf StoreLength`", "`numbersOf`"): "R1: no `numbersOf` in crates/answers/specs/Answers.antt",
     ("`numberOf StoreLength`", "`outcomeValue StoreLength`"): "R1: no StoreLength in `outcomeValue` of crates/answers/specs/Answers.antt",
@@ -119,7 +117,7 @@ WRONG = {
 
 def test_what_is_wrong_in_rules_is_told():
     right = looked_up(RIGHT, {"D1"})
-    assert not right.faults and (right.rows, right.names, right.decisions) == (3, 8, 1), (right.faults, vars(right))
+    assert not right.faults and (right.rows, right.names, right.decisions) == (3, 9, 1), (right.faults, vars(right))
     for (old, new), fault in WRONG.items():
         assert RIGHT.count(old) == 1, old
         assert fault in looked_up(RIGHT.replace(old, new), {"D1"}).faults, (new, looked_up(RIGHT.replace(old, new), {"D1"}).faults)

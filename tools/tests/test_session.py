@@ -7,8 +7,9 @@ import tracemalloc
 
 import made
 from cardtools.annotate import Mismatch, annotated
+from cardtools.from_text import Bad, decoded, file_from
 from cardtools.records import Access, Opening, file_of, records_of
-from cardtools.text import Bad, decoded, file_from, text_of
+from cardtools.to_text import text_of
 from faults import fault_of
 
 TOOL = "tools/session"
