@@ -2,15 +2,15 @@
 
 /// `named! { Sort { Name: "what is said of it", .. } }`, in the order of the table.
 macro_rules! named {
-    ($(#[$about:meta])* $group:ident { $($point:ident: $says:literal),* $(,)? }) => {
+    ($(#[$about:meta])* $sort:ident { $($name:ident: $says:literal),* $(,)? }) => {
         $(#[$about])*
         #[derive(Clone, Copy, PartialEq, Eq, Hash, Debug)]
-        pub enum $group {
-            $($point),*
+        pub enum $sort {
+            $($name),*
         }
 
-        impl $group {
-            pub const TABLE: &'static [($group, &'static str)] = &[$(($group::$point, $says)),*];
+        impl $sort {
+            pub const TABLE: &'static [($sort, &'static str)] = &[$(($sort::$name, $says)),*];
         }
     };
 }

@@ -77,7 +77,7 @@ fn sheet(all: &mut Vec<Case>) {
     finish("chain-sheet".into(), host, all);
 }
 
-/// Every end mark's place in a chain of nulls, and every link of a first and of a second tuple.
+/// End marks at places all over a chain of nulls, and links short and long of a first and of a second tuple.
 fn edges(all: &mut Vec<Case>) {
     let mut host = small(6, 0);
     lend_tuples(&mut host, 256, 256);

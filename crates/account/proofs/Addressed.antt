@@ -55,11 +55,11 @@ cylinder-is a = omega arith
 -- ---- what is bad is not good
 
 -- s 1..S
-abbrev within : ℕ → ℕ → Bool
-within s n = pick (leb 1 s) (pick (leb s n) true false) false
+abbrev inTrack : ℕ → ℕ → Bool
+inTrack s n = pick (leb 1 s) (pick (leb s n) true false) false
 
-not-within : (s n : ℕ) → (eqb s 0 || ltb n s) ≡ not (within s n)
-not-within s n = go (leb 1 s) (leb s n) refl refl
+not-in-track : (s n : ℕ) → (eqb s 0 || ltb n s) ≡ not (inTrack s n)
+not-in-track s n = go (leb 1 s) (leb s n) refl refl
   where
     go : (b c : Bool) → leb 1 s ≡ b → leb s n ≡ c → (eqb s 0 || ltb n s) ≡ not (pick b (pick c true false) false)
     go true true e f = let x = leb-true 1 s e in let y = leb-true s n f in rw (ne-eqb s 0 (omega arith), le-ltb n s y)
@@ -79,7 +79,7 @@ addressed-by false t false v w i j k h = refl
 pub addressed-is : (a : Address) (g : Geometry) (n : ℕ) → addressedBy a g n ≡ asAddressed (locate a g n)
 unfolding addressedBy locate locateLba locateChs every
 addressed-is a g n =
-    rw (selects-is a, lba-is a, cylinder-is a, not-below (lbaOf a) n, not-below (headOf a) (g .heads), not-within (a .sector) (g .sectors), not-below (cylinderOf a) (g .cylinders))
-    (addressed-by (byLba a) (ltb (lbaOf a) n) (ltb (headOf a) (g .heads)) (within (a .sector) (g .sectors)) (ltb (cylinderOf a) (g .cylinders)) (lbaOf a)
+    rw (selects-is a, lba-is a, cylinder-is a, not-below (lbaOf a) n, not-below (headOf a) (g .heads), not-in-track (a .sector) (g .sectors), not-below (cylinderOf a) (g .cylinders))
+    (addressed-by (byLba a) (ltb (lbaOf a) n) (ltb (headOf a) (g .heads)) (inTrack (a .sector) (g .sectors)) (ltb (cylinderOf a) (g .cylinders)) (lbaOf a)
     ((cylinderOf a * g .heads + headOf a) * g .sectors + (a .sector - 1)) (chsIndex (cylinderOf a) (headOf a) (a .sector) g)
     (λ e. let x = leb-true 1 (a .sector) (both-of (leb 1 (a .sector)) _ e .0) in omega arith))

@@ -14,7 +14,7 @@ use Rattle.registers.specs.Machine.{Machine, withCore}
 use Rattle.transfers.specs.declared.Order.the-variants.{First}
 use Rattle.transfers.specs.Before.{addressTest, sectorTest, sectorStored}
 use Rattle.transfers.specs.Steps.{readSector, askSector}
-use Rattle.commands.specs.Runs.{verifyFrom, eraseFrom}
+use Rattle.commands.specs.Sweeps.{verifyFrom, eraseFrom}
 use Rattle.transfers.specs.declared.Way.the-variants.{In, Out}
 use Rattle.account.specs.Plain.{silent}
 use Rattle.account.specs.Course.{courseOf}

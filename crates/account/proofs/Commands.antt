@@ -20,7 +20,7 @@ use Rattle.transfers.specs.declared.Order.the-variants.{First}
 use Rattle.transfers.specs.declared.Way.{Way}
 use Rattle.transfers.specs.declared.Way.the-variants.{In, Out}
 use Rattle.transfers.specs.Steps.{readSector, askSector}
-use Rattle.commands.specs.Runs.{verifyFrom, eraseFrom}
+use Rattle.commands.specs.Sweeps.{verifyFrom, eraseFrom}
 use Rattle.commands.specs.Table.{countOf, reshapedEnded}
 use Rattle.account.specs.Numbers.{codeGeometry}
 use Rattle.account.specs.Plain.{sectorsOf, withCurrent, Well, Aborted, ends, Account, silent}

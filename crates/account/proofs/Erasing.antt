@@ -12,7 +12,7 @@ use Rattle.registers.specs.declared.Core.{Core}
 use Rattle.transfers.specs.declared.Tested.{Tested}
 use Rattle.transfers.specs.Before.{sectorStored}
 use Rattle.transfers.specs.Steps.{sectorDone}
-use Rattle.commands.specs.Runs.{eraseFrom, allFF}
+use Rattle.commands.specs.Sweeps.{eraseFrom, allFF}
 use Rattle.account.specs.Plain.{Plain, Finish, Well, WriteFault}
 use Rattle.account.specs.Course.{Course}
 use Rattle.account.specs.Sweeps.{tried, stopped, sweepFrom, tests, unwritable, putSector, blanked, cleared, eraseSectors, eraseDone}
@@ -21,7 +21,7 @@ use Rattle.account.proofs.Seats.{Shaped, Seated, Where, onward, done-on
 use Rattle.account.proofs.Tried.{stops-sweep, stops-ends, store-tested}
 use Rattle.account.proofs.Stored.{LentFor, stored-is, stored-lent, sweep-later}
 use Rattle.account.proofs.Verifying.{where-good, seated-last}
-use Rattle.kept.proofs.Runs.{erasesOn}
+use Rattle.kept.proofs.Sweeps.{erasesOn}
 
 abbrev pub erasedPlain : Left Core StoreMarks → List ℕ → Plain
 erasedPlain e b = plainIn (e .outcome .state) b (e .next .store) (e .next .marks)

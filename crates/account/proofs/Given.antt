@@ -16,7 +16,7 @@ use Rattle.commands.specs.declared.Command.the-variants.{Read, Write, Verify, E
 use Rattle.transfers.specs.declared.End.{End}
 use Rattle.transfers.specs.declared.Way.the-variants.{In, Out}
 use Rattle.transfers.specs.Steps.{idleWith}
-use Rattle.commands.specs.Runs.{verifyFrom, eraseFrom}
+use Rattle.commands.specs.Sweeps.{verifyFrom, eraseFrom}
 use Rattle.commands.specs.Table.{commandOf, started, countOf, factsOf, reshapedEnded, soughtEnd, obeyed}
 use Rattle.account.specs.Plain.{withBuffer, starts, ends, Finish, Well, silent, moving}
 use Rattle.account.specs.CommandRows.{CommandRow, rowOf}

@@ -13,9 +13,9 @@ use Rattle.registers.specs.declared.Core.{Core}
 use Rattle.registers.specs.State.{withCount, withAddress}
 use Rattle.geometry.specs.Next.{nextOf}
 use Rattle.transfers.specs.Steps.{sectorDone}
-use Rattle.commands.specs.Runs.{verifyFrom, eraseFrom, allFF}
+use Rattle.commands.specs.Sweeps.{verifyFrom, eraseFrom, allFF}
 use Rattle.kept.proofs.Steps.{sector-stored}
-use Rattle.kept.proofs.Runs.{verify-elim, erase-elim, all-FF-length}
+use Rattle.kept.proofs.Sweeps.{verify-elim, erase-elim, all-FF-length}
 use Rattle.account.proofs.Stored.{LentFor}
 
 -- idle, with the opening's facts, the current geometry, the control bits and the option of s

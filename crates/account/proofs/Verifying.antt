@@ -9,7 +9,7 @@ use Rattle.registers.specs.declared.State.{State}
 use Rattle.registers.specs.State.{locatedIn}
 use Rattle.transfers.specs.declared.Tested.{Tested}
 use Rattle.transfers.specs.Steps.{sectorDone}
-use Rattle.commands.specs.Runs.{unlessFailed, verifyFrom}
+use Rattle.commands.specs.Sweeps.{unlessFailed, verifyFrom}
 use Rattle.account.specs.Plain.{Finish, Well, Unreadable}
 use Rattle.account.specs.Course.{Course, named}
 use Rattle.account.specs.Sweeps.{tried, stopped, sweepFrom, tests, unreadable, sweepEnds, verifySectors}

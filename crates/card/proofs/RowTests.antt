@@ -8,7 +8,7 @@ use lib.ListN.{drop}
 use native.Mathlib.Omega.{arith}
 use borrow.Author.Tests.{eqb-true, ne-eqb}
 use Rattle.ground.specs.Choice.{pick}
-use Rattle.ground.specs.Tables.{Entry, lookup}
+use Rattle.ground.specs.Tables.{Numbered, lookup}
 use Rattle.ground.proofs.Picks.{pick-same}
 use Rattle.maps.specs.declared.Access.{Access}
 use Rattle.maps.specs.declared.Mode.{Mode}
@@ -67,7 +67,7 @@ unfit-is even a =
     unfit-by (eqb (a .width) 1) (eqb (a .width) 2) even (a .write) (ltb 255 (a .value)) (λ p q. omega (arith, eqb-true (a .width) 1 p, eqb-true (a .width) 2 q))
 
 -- ---- row 6: a place and whether its offset is listed are found by the same tests
-abbrev pub registers : List (Entry Place)
+abbrev pub registers : List (Numbered Place)
 registers = drop 3 registerTable
 
 abbrev pub registerNumbers : List ℕ

@@ -14,7 +14,7 @@ use Rattle.maps.specs.declared.Place.{Place}
 use Rattle.maps.specs.declared.Target.{Target}
 use Rattle.maps.specs.declared.Target.the-variants.{Tuple, Option, Named, Data}
 use Rattle.maps.specs.declared.Standing.{Standing}
-use Rattle.maps.specs.Places.{placeAt}
+use Rattle.maps.specs.Places.{optionAddress, placeAt}
 use Rattle.maps.specs.Rows.{placeTable, moved}
 use Rattle.registers.specs.declared.Phase.{Phase}
 use Rattle.registers.specs.declared.State.{State}
@@ -65,7 +65,7 @@ verdictOf phase state store marks tuples = firstOf (lentTable phase state store 
 
 -- row 8: held by SRESET, and the access is not to attribute 200H
 unfoldable pub heldAway : ℕ → Access → Bool
-heldAway option a = pick (sresetIn option) (pick (eqb (a .space) 0) (not (eqb (a .address) 0x200)) true) false
+heldAway option a = pick (sresetIn option) (pick (eqb (a .space) 0) (not (eqb (a .address) optionAddress)) true) false
 
 -- what stands at the access's address
 abbrev pub placeIn : State → Asked → Place
@@ -87,8 +87,8 @@ abbrev pub standing : Standing → Asked → Meaning
 standing (Standing.There t) a = targeted t a
 standing (Standing.Refused r) a = Meaning.Refused r
 
-abbrev pub reached : State → Asked → Meaning
-reached s a = standing (moved (placeIn s a) (a .access .width)) a
+abbrev pub meantThere : State → Asked → Meaning
+meantThere s a = standing (moved (placeIn s a) (a .access .width)) a
 
 -- ---- all of them: "The first that applies, in this order, is given"
 
@@ -96,8 +96,8 @@ abbrev pub accessTable : Machine → Asked → List (Row Refusal)
 accessTable m a = lentTable (m .phase) (m .state) (m .store) (m .marks) (a .tuples) ++ doorTable (m .state) a
 
 unfoldable pub meaning : Machine → Asked → Meaning
-meaning m a = firstOf (accessTable m a) Meaning.Refused (reached (m .state) a)
+meaning m a = firstOf (accessTable m a) Meaning.Refused (meantThere (m .state) a)
 
 -- where rows 12, 2, 3 and 5 do not apply
 unfoldable pub decided : State → Asked → Meaning
-decided s a = firstOf (doorTable s a) Meaning.Refused (reached s a)
+decided s a = firstOf (doorTable s a) Meaning.Refused (meantThere s a)

@@ -1,6 +1,7 @@
 -- The doors by value: a card goes in and comes back in the answer.
 use Prim.Native.Nat.{ℕ}
 use mathlib.Core.List.{List, [], _∷_}
+use Rattle.ground.specs.Left.{leaving}
 use Rattle.ground.specs.Rows.{Row, When, Unless, firstOf}
 use Rattle.answers.specs.declared.Outcome.{Outcome}
 use Rattle.answers.specs.declared.Refusal.{Refusal}
@@ -21,7 +22,7 @@ machineOf c store marks = record { phase = c .phase; state = c .state; buffer = 
 
 -- what an access leaves, of the answer and what was lent
 abbrev pub answered : Answer → List ℕ → List ℕ → Effect
-answered a store marks = record { outcome = a .outcome; next = machineOf (a .card) store marks }
+answered a store marks = leaving (a .outcome) (machineOf (a .card) store marks)
 
 -- a card of its core and its buffer, and its core
 abbrev pub cardOf : Core → List ℕ → Card

@@ -10,7 +10,7 @@ use Rattle.registers.specs.Machine.{Machine, machine, core, coreOf, withCore}
 use Rattle.registers.specs.Resets.{controlWritten, optionCore, optionBuffer}
 use Rattle.registers.specs.Values.{valueRead, afterRead, registerSet}
 use Rattle.port.specs.declared.Done.{Done}
-use Rattle.port.specs.Data.{Effect, effect, accepted, dataRead, dataWritten}
+use Rattle.port.specs.Data.{Effect, effect, accepted, refusedWith, dataRead, dataWritten}
 use Rattle.commands.specs.Table.{commandGiven}
 use Rattle.card.specs.declared.Meaning.{Meaning}
 use Rattle.card.specs.declared.Meaning.the-variants.{TupleByte, ReadOption, WriteOption, ReadRegister, WriteRegister, ReadData, WriteData}
@@ -47,7 +47,7 @@ registerRead r k = record { outcome = Outcome.Accepted (valueRead r (k .phase) (
 
 -- "Every refusal gives value 0 and changes nothing"; "An accepted access is 0 with its value (0 for a write)"
 unfoldable pub perform : Meaning → Machine → Effect
-perform (Meaning.Refused r) m = record { outcome = Outcome.Refused r; next = m }
+perform (Meaning.Refused r) m = refusedWith r m
 perform (TupleByte b) m = accepted b m
 perform ReadOption m = accepted (m .state .option) m
 perform (WriteOption v) m = accepted 0 (optionWritten v m)

@@ -7,7 +7,7 @@ use mathlib.Core.List.{List, [], _∷_}
 use lib.Dec.{eqb, leb, ltb}
 use lib.ListN.{length}
 use Rattle.ground.specs.Choice.{pick, within}
-use Rattle.ground.specs.Tables.{Entry, lookup}
+use Rattle.ground.specs.Tables.{Numbered, lookup}
 use Rattle.answers.specs.declared.Refusal.the-variants.{NotWellMade, StoreLength, MarksLength, TupleBufferLength}
 use Rattle.answers.specs.declared.Refusal.the-variants.{HeldBySreset, SpaceSilent, NoRegister, WidthOrValue, IndexAboveThree, HalfMoved}
 use Rattle.ground.specs.Rows.{Row, When, Unless}
@@ -62,10 +62,10 @@ mode0 TrueIde = false
 abbrev pub answering : ℕ → Mode → ℕ → Bool
 answering space mode index =
     lookup
-    (Entry.At 0 (mode0 mode)
-    ∷ Entry.At 1 (mode0 mode && eqb index 0)
-    ∷ Entry.At 2 (mode0 mode && within 1 3 index)
-    ∷ Entry.At 3 (not (mode0 mode))
+    (Numbered.At 0 (mode0 mode)
+    ∷ Numbered.At 1 (mode0 mode && eqb index 0)
+    ∷ Numbered.At 2 (mode0 mode && within 1 3 index)
+    ∷ Numbered.At 3 (not (mode0 mode))
     ∷ [])
     space false
 

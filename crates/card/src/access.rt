@@ -46,7 +46,7 @@ fn held_away(option: u8, access: Access) -> bool
         return false;
     }
     if access.space == 0 {
-        return access.address != 0x200;
+        return access.address != maps::OPTION_ADDRESS;
     }
     true
 }

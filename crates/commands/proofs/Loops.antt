@@ -14,7 +14,7 @@ use Rattle.transfers.specs.Ends.{ended}
 use Rattle.transfers.specs.declared.Way.the-variants.{In}
 use Rattle.transfers.specs.Before.{sectorTest, sectorStored}
 use Rattle.transfers.specs.Steps.{sectorDone}
-use Rattle.commands.specs.Runs.{verifyFrom, allFF, eraseFrom}
+use Rattle.commands.specs.Sweeps.{verifyFrom, allFF, eraseFrom}
 
 pub verify-end : (n : ℕ) (s : State) (marks : List ℕ) → n ≤ 0 → verifyFrom n s marks ≡ ended End.Good s
 unfolding verifyFrom

@@ -3,9 +3,10 @@ use Prim.Native.Nat.{ℕ}
 use mathlib.Core.Bool.{false}
 use mathlib.Core.List.{List, [], _∷_}
 use lib.Dec.{eqb}
+use lib.ListN.{drop}
 use Rattle.ground.specs.Choice.{pick}
 use Rattle.ground.specs.Left.{Left}
-use Rattle.ground.specs.Tables.{Entry, At, Digit, lookup}
+use Rattle.ground.specs.Tables.{Numbered, At, Digit, lookup}
 use Rattle.geometry.specs.declared.Sought.{Sought}
 use Rattle.geometry.specs.declared.Reshaped.{Reshaped}
 use Rattle.geometry.specs.Address.{seek}
@@ -16,6 +17,7 @@ use Rattle.sectors.specs.Sectors.{StoreMarks}
 use Rattle.registers.specs.declared.Load.the-variants.{Buffer}
 use Rattle.registers.specs.declared.State.{State}
 use Rattle.registers.specs.declared.Core.{Core}
+use Rattle.registers.specs.Status.{powerOnError}
 use Rattle.registers.specs.State.{withInterrupt, withError, withCode, withCount, withAddress, withCurrent, totalIn}
 use Rattle.registers.specs.Machine.{Machine, machine, withCore}
 use Rattle.transfers.specs.declared.End.{End}
@@ -24,10 +26,10 @@ use Rattle.commands.specs.declared.Command.{Command}
 use Rattle.commands.specs.declared.Command.the-variants.{Read, Write, Verify, Erase, Identify, ReadBuffer, WriteBuffer, SetGeometry, Diagnose, Recalibrate, Seek, Sense, Other}
 use Rattle.transfers.specs.Ends.{ended}
 use Rattle.transfers.specs.Steps.{idleWith, ready, askedFor, readSector, askSector}
-use Rattle.commands.specs.Runs.{verifyFrom, eraseFrom}
+use Rattle.commands.specs.Sweeps.{verifyFrom, eraseFrom}
 
 -- the table's opcodes, row by row; first the seven that move sectors
-abbrev pub commandTable : List (Entry Command)
+abbrev pub commandTable : List (Numbered Command)
 commandTable =
     At 0x20 Read
     ∷ At 0x21 Read
@@ -45,6 +47,10 @@ commandTable =
     ∷ Digit 7 Seek
     ∷ At 0x03 Sense
     ∷ []
+
+-- the rows after these seven, as the code looks them up
+abbrev pub sectorlessRows : List (Numbered Command)
+sectorlessRows = drop 7 commandTable
 
 -- the row of an opcode; "others" are all that the table does not name
 unfoldable pub commandOf : ℕ → Command
@@ -71,7 +77,7 @@ geometryEnded s = reshapedEnded (reshaped (s .registers .count) (s .registers .a
 
 -- 90H: "Error 01H, Count 1, Sector 1, Cylinder and Drive/Head 0"
 abbrev pub diagnosed : State → State
-diagnosed s = withAddress (record { sector = 1; low = 0; high = 0; head = 0 }) (withCount 1 (withError 0x01 s))
+diagnosed s = withAddress (record { sector = 1; low = 0; high = 0; head = 0 }) (withCount 1 (withError powerOnError s))
 
 -- 7XH: "address test; in CHS head and cylinder only"
 abbrev pub soughtEnd : Sought → End

@@ -1,5 +1,5 @@
 // The command table, and the commands that run over sectors with no data moved.
-pub mod runs;
+pub mod sweeps;
 pub mod table;
 
 // The rows of the command table.

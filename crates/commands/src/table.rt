@@ -11,17 +11,16 @@ use registers::State;
 use transfers::End;
 use transfers::Order;
 ghost use mathlib.Core.Path.{_≡_};
-ghost use lib.ListN.{drop};
 ghost use Rattle.ground.specs.Tables.{lookup};
 ghost use Rattle.identify.specs.Words.{identifyBytes};
 ghost use Rattle.registers.specs.Machine.{machine};
 ghost use Rattle.transfers.specs.Steps.{idle};
 ghost use Rattle.commands.specs.declared.Command.the-variants.{Other};
-ghost use Rattle.commands.specs.Table.{commandTable, commandOf, started, countOf, factsOf, geometryEnded, diagnosed, soughtEnd, seekEnded, senseEnded, obeyed, commandGiven};
+ghost use Rattle.commands.specs.Table.{sectorlessRows, commandOf, started, countOf, factsOf, geometryEnded, diagnosed, soughtEnd, seekEnded, senseEnded, obeyed, commandGiven};
 
 // The rows after the seven opcodes that move sectors.
 fn sectorless_command(opcode: u8) -> Command
-    ensures { λ r. ⌜ r ≡ lookup (drop 7 commandTable) opcode Other ⌝ }
+    ensures { λ r. ⌜ r ≡ lookup sectorlessRows opcode Other ⌝ }
 {
     if opcode == 0xEC {
         return Command::Identify;
@@ -141,7 +140,7 @@ fn diagnosed(state: State) -> State
         head: 0,
     };
     let mut registers = state.registers;
-    registers.error = 0x01;
+    registers.error = registers::POWER_ON_ERROR;
     registers.count = 1;
     registers.address = address;
     let mut s = state;
@@ -200,8 +199,8 @@ fn obey(
             marks,
         ),
         Command::Write => transfers::steps::ask_sector(fresh, count_of(fresh), Order::First),
-        Command::Verify => super::runs::verify(fresh, count_of(fresh), marks),
-        Command::Erase => super::runs::erase(fresh, count_of(fresh), store, marks),
+        Command::Verify => super::sweeps::verify(fresh, count_of(fresh), marks),
+        Command::Erase => super::sweeps::erase(fresh, count_of(fresh), store, marks),
         Command::Identify => {
             identify(fresh, buffer);
             transfers::steps::ready(fresh, Load::Buffer)

@@ -1,4 +1,4 @@
--- A good address names a sector inside the store, and inside the room of its run.
+-- A good address names a sector inside the store, and inside the room of its way of addressing.
 use Prim.Native.Nat.{ℕ, suc, _+_, _*_, _≤_, _<_}
 use mathlib.Core.Bool.{Bool, true, false, false≢true}
 use mathlib.Core.List.{[], _∷_}
@@ -61,7 +61,7 @@ pub lba-facts : (i n : ℕ) (p : Spot) → locateLba i n ≡ Located.Good p → 
 unfolding locateLba
 lba-facts i n p e = let k = below (ltb i n) i p e in (ltb-true i n (k .0), k .1)
 
--- the run's room, by either way of addressing.
+-- the room, by either way of addressing.
 inside-by : (b : Bool) (a : Address) (g : Geometry) (n : ℕ) (p : Spot) →
     capacityOf g ≤ n →
     pick b (locateLba (lbaOf a) n) (locateChs (cylinderOf a) (headOf a) (a .sector) g) ≡ Located.Good p →

@@ -1,4 +1,4 @@
--- From a good address of index i the next one is good, of index i + 1, or past the end of the run's room.
+-- From a good address of index i the next one is good, of index i + 1, or past the end of its room.
 use Prim.Native.Nat.{ℕ, _+_, _*_, _/_, _%_, _≤_, _<_}
 use mathlib.Core.Bool.{Bool, true, false}
 use mathlib.Core.Path.{_≡_, refl, ap, _∙_}

@@ -4,7 +4,7 @@ use mathlib.Core.Bool.{Bool, true, false}
 use mathlib.Core.List.{[], _∷_}
 use lib.Dec.{ltb, leb, eqb}
 use Rattle.ground.specs.Choice.{pick, every}
-use Rattle.ground.specs.Rows.{Unless, firstOf}
+use Rattle.ground.specs.Rows.{Unless, firstOr}
 use Rattle.geometry.specs.declared.Geometry.{Geometry}
 use Rattle.geometry.specs.declared.Address.{Address}
 use Rattle.geometry.specs.declared.Spot.{Spot}
@@ -42,15 +42,15 @@ goodAt i = Located.Good (spotAt i)
 -- "with c<C, h<H, s 1..S, all current. … Bad head or sector: code 21H. Otherwise bad cylinder or LBA: 2FH."
 unfoldable pub locateChs : ℕ → ℕ → ℕ → Geometry → Located
 locateChs c h s g =
-    firstOf
+    firstOr
     (Unless (every (ltb h (g .heads) ∷ leb 1 s ∷ leb s (g .sectors) ∷ [])) Located.BadHeadOrSector
     ∷ Unless (ltb c (g .cylinders)) Located.BadCylinder
     ∷ [])
-    (λ (x : Located). x) (goodAt (chsIndex c h s g))
+    (goodAt (chsIndex c h s g))
 
 -- LBA "below N", else 2FH.
 unfoldable pub locateLba : ℕ → ℕ → Located
-locateLba i n = firstOf (Unless (ltb i n) Located.BadLba ∷ []) (λ (x : Located). x) (goodAt i)
+locateLba i n = firstOr (Unless (ltb i n) Located.BadLba ∷ []) (goodAt i)
 
 unfoldable pub locate : Address → Geometry → ℕ → Located
 locate a g n = pick (byLba a) (locateLba (lbaOf a) n) (locateChs (cylinderOf a) (headOf a) (a .sector) g)
@@ -58,19 +58,19 @@ locate a g n = pick (byLba a) (locateLba (lbaOf a) n) (locateChs (cylinderOf a) 
 -- 7XH: "address test; in CHS head and cylinder only"
 abbrev pub seekChs : ℕ → ℕ → Geometry → Sought
 seekChs c h g =
-    firstOf
+    firstOr
     (Unless (ltb h (g .heads)) Sought.BadHead
     ∷ Unless (ltb c (g .cylinders)) Sought.BadCylinder
     ∷ [])
-    (λ (x : Sought). x) Sought.Good
+    Sought.Good
 
 abbrev pub seekLba : ℕ → ℕ → Sought
-seekLba i n = firstOf (Unless (ltb i n) Sought.BadLba ∷ []) (λ (x : Sought). x) Sought.Good
+seekLba i n = firstOr (Unless (ltb i n) Sought.BadLba ∷ []) Sought.Good
 
 unfoldable pub seek : Address → Geometry → ℕ → Sought
 seek a g n = pick (byLba a) (seekLba (lbaOf a) n) (seekChs (cylinderOf a) (headOf a) g)
 
--- the end of a run's room: the current capacity in CHS, N in LBA.
+-- the room of an address, the sectors that its way of addressing reaches: the current capacity in CHS, N in LBA.
 unfoldable pub roomOf : Address → Geometry → ℕ → ℕ
 roomOf a g n = pick (byLba a) n (capacityOf g)
 

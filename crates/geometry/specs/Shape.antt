@@ -2,7 +2,7 @@
 use Prim.Native.Nat.{ℕ, _+_, _*_, _%_}
 use mathlib.Core.List.{[], _∷_}
 use lib.Dec.{ltb, eqb}
-use Rattle.ground.specs.Rows.{When, firstOf}
+use Rattle.ground.specs.Rows.{When, firstOr}
 use Rattle.geometry.specs.declared.Geometry.{Geometry}
 use Rattle.geometry.specs.declared.Reshaped.{Reshaped}
 use Rattle.geometry.specs.Limits.{cylindersFor}
@@ -13,11 +13,11 @@ geometryBy heads sectors total = record { cylinders = cylindersFor heads sectors
 
 unfoldable pub reshaped : ℕ → ℕ → ℕ → Reshaped
 reshaped count head total =
-    firstOf
+    firstOr
     (When (eqb count 0) Reshaped.Refused
     ∷ When (ltb total ((head % 16 + 1) * count)) Reshaped.Refused
     ∷ [])
-    (λ (x : Reshaped). x) (Reshaped.Taken (geometryBy (head % 16 + 1) count total))
+    (Reshaped.Taken (geometryBy (head % 16 + 1) count total))
 
 -- the geometry after 91H: "old geometry stays" where it is refused.
 abbrev pub currentAfter : Reshaped → Geometry → Geometry

@@ -21,3 +21,7 @@ abbrev pub firstOf {ℓ} : {R : Type 0} {A : Type ℓ} → List (Row R) → (R �
 firstOf [] give rest = rest
 firstOf (When t r ∷ l) give rest = pick t (give r) (firstOf l give rest)
 firstOf (Unless t r ∷ l) give rest = pick t (firstOf l give rest) (give r)
+
+-- where a row gives the answer itself
+abbrev pub firstOr : {A : Type 0} → List (Row A) → A → A
+firstOr {A} l rest = firstOf l (λ (x : A). x) rest

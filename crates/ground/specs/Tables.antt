@@ -6,22 +6,22 @@ use lib.Dec.{eqb}
 use Rattle.ground.specs.Choice.{pick, within}
 
 -- what stands at a number, at the numbers from one to another, and at the two-digit numbers with this first digit (H)
-pub data Entry {ℓ} (A : Type ℓ) : Type ℓ where
-  At : ℕ → A → Entry A
-  Through : ℕ → ℕ → A → Entry A
-  Digit : ℕ → A → Entry A
+pub data Numbered {ℓ} (A : Type ℓ) : Type ℓ where
+  At : ℕ → A → Numbered A
+  Through : ℕ → ℕ → A → Numbered A
+  Digit : ℕ → A → Numbered A
 
-abbrev pub names {ℓ} : {A : Type ℓ} → Entry A → ℕ → Bool
+abbrev pub names {ℓ} : {A : Type ℓ} → Numbered A → ℕ → Bool
 names (At k x) n = eqb n k
 names (Through k j x) n = within k j n
 names (Digit d x) n = eqb (n / 16) d
 
-abbrev pub entryOf {ℓ} : {A : Type ℓ} → Entry A → A
+abbrev pub entryOf {ℓ} : {A : Type ℓ} → Numbered A → A
 entryOf (At k x) = x
 entryOf (Through k j x) = x
 entryOf (Digit d x) = x
 
 -- what stands at a number: the first row that names it, else what is given for the rest
-abbrev pub lookup {ℓ} : {A : Type ℓ} → List (Entry A) → ℕ → A → A
+abbrev pub lookup {ℓ} : {A : Type ℓ} → List (Numbered A) → ℕ → A → A
 lookup [] n rest = rest
 lookup (e ∷ l) n rest = pick (names e n) (entryOf e) (lookup l n rest)

@@ -1,4 +1,5 @@
-// What every crate stands on: the choice by a test, the laws about tests and lists that the proofs cite, and small functions.
+// What every crate stands on: the sizes of 01, and small functions; in its definitions the choice by a test, rows, tables and what a call leaves, and the
+// laws about tests and lists that the proofs cite.
 ghost use mathlib.Core.Path.{_≡_};
 ghost use Prim.Native.Nat.{_<_, _≤_, min};
 ghost use lib.ListN.{length, getD};

@@ -25,7 +25,7 @@ use Rattle.transfers.specs.Steps.{sectorDone, readSector, nextRead, askSector, 
 use Rattle.port.specs.Halves.{takeOf}
 use Rattle.port.specs.Data.{wordRead, dataRead, wordWritten, dataWritten}
 use Rattle.commands.specs.Table.{commandOf, countOf, commandGiven}
-use Rattle.card.specs.Access.{Asked, askedWith, heldAway, decided, verdictOf, meaning}
+use Rattle.card.specs.Access.{Asked, askedWith, heldAway, meaning}
 use Rattle.card.specs.Perform.{optionWritten, plainCore, registerWritten, perform}
 use Rattle.card.specs.Step.{step, play}
 use Rattle.card.specs.Opening.{opened}
@@ -65,7 +65,7 @@ unfolding every fits totalOf currentFor locate locateChs locateLba byLba nextOf 
     readSector nextRead askSector nextAsked sectorDone sectorTest addressTest sectorStored
     countOf commandOf commandGiven
     dataRead dataWritten wordRead wordWritten takeOf
-    opened play step meaning verdictOf decided heldAway perform optionWritten registerWritten plainCore
+    opened play step meaning heldAway perform optionWritten registerWritten plainCore
     moves typed bytes twoSectors card writeAccess times
 computing = tt
 

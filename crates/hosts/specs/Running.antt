@@ -3,7 +3,7 @@ use Prim.Native.Nat.{ℕ}
 use mathlib.Core.Bool.{true, false, _&&_}
 use mathlib.Core.List.{List, [], _∷_}
 use mathlib.Core.Path.{_≡_}
-use Rattle.ground.specs.Rows.{Unless, firstOf}
+use Rattle.ground.specs.Rows.{Unless, firstOr}
 use Rattle.answers.specs.declared.Refusal.{Refusal}
 use Rattle.answers.specs.declared.Refusal.the-variants.{NotWellMade, StoreLength, MarksLength}
 use Rattle.registers.specs.declared.State.{State}
@@ -36,7 +36,7 @@ WrongLength s store marks = (storeSized s store && marksSized s marks) ≡ false
 
 -- the row with which it is refused: 12, 2 or 3
 abbrev pub wrongRow : Machine → List ℕ → Refusal
-wrongRow m store = firstOf (Unless (wellMade (m .phase) (m .state)) NotWellMade ∷ Unless (storeSized (m .state) store) StoreLength ∷ []) (λ r. r) MarksLength
+wrongRow m store = firstOr (Unless (wellMade (m .phase) (m .state)) NotWellMade ∷ Unless (storeSized (m .state) store) StoreLength ∷ []) MarksLength
 
 abbrev pub lent : List ℕ → List ℕ → Machine → Machine
 lent store marks m = record { phase = m .phase; state = m .state; buffer = m .buffer; store = store; marks = marks }

@@ -2,10 +2,11 @@
 use Prim.Native.Nat.{ℕ, _/_, _%_}
 use mathlib.Core.List.{List, [], _∷_}
 use lib.Dec.{eqb}
+use lib.ListN.{drop}
 use Rattle.ground.specs.Choice.{pick}
 use Rattle.ground.specs.Lists.{listed}
 use Rattle.ground.specs.Sizes.{sectorBytes}
-use Rattle.ground.specs.Tables.{Entry, At, Through, lookup}
+use Rattle.ground.specs.Tables.{Numbered, At, Through, lookup}
 use Rattle.geometry.specs.Limits.{totalOf, capacityOf}
 use Rattle.identify.specs.declared.Facts.{Facts}
 
@@ -17,7 +18,7 @@ highHalf n = n / 65536 % 65536
 
 -- "word 0 848AH; 1, 3, 6 default C, H, S; 7 high and 8 low half of N; 10..19, 23..26, 27..46 are 2020H; 49 is 0200H; 53 is 1; 54..56 current C, H, S;
 -- 57 low and 58 high half of current C·H·S; 60 low, 61 high of N"
-abbrev pub wordTable : Facts → List (Entry ℕ)
+abbrev pub wordTable : Facts → List (Numbered ℕ)
 wordTable f =
     At 0 0x848A
     ∷ At 1 (f .default .cylinders)
@@ -38,6 +39,13 @@ wordTable f =
     ∷ At 60 (lowHalf (totalOf (f .default)))
     ∷ At 61 (highHalf (totalOf (f .default)))
     ∷ []
+
+-- the table from word 10 on, and from word 49 on, as the code looks it up
+abbrev pub fromWord10 : Facts → List (Numbered ℕ)
+fromWord10 f = drop 6 (wordTable f)
+
+abbrev pub fromWord49 : Facts → List (Numbered ℕ)
+fromWord49 f = drop 9 (wordTable f)
 
 -- "the rest 0"
 unfoldable pub identifyWord : Facts → ℕ → ℕ

@@ -3,11 +3,10 @@ use geometry::Geometry;
 use ground::SECTOR_BYTES;
 use ground::Sector;
 ghost use mathlib.Core.Path.{_≡_};
-ghost use lib.ListN.{drop};
 ghost use Rattle.ground.specs.Choice.{within};
 ghost use Rattle.ground.specs.Tables.{lookup};
 ghost use Rattle.geometry.specs.Limits.{totalOf, capacityOf};
-ghost use Rattle.identify.specs.Words.{lowHalf, highHalf, wordTable, identifyWord, identifyByte, identifyBytes};
+ghost use Rattle.identify.specs.Words.{lowHalf, highHalf, fromWord10, fromWord49, identifyWord, identifyByte, identifyBytes};
 
 // What Identify tells.
 pub struct Facts {
@@ -28,7 +27,7 @@ fn high_half(n: usize) -> u16
 }
 
 // Whether n is from first to last.
-fn within(n: usize, first: usize, last: usize) -> bool
+fn within(first: usize, last: usize, n: usize) -> bool
     ensures { λ r. ⌜ r ≡ within first last n ⌝ }
 {
     if n < first {
@@ -56,7 +55,7 @@ impl Facts {
 
     // The table's rows from word 49 on.
     fn later_word(self, n: usize) -> u16
-        ensures { λ r. ⌜ r ≡ lookup (drop 9 (wordTable self)) n 0 ⌝ }
+        ensures { λ r. ⌜ r ≡ lookup (fromWord49 self) n 0 ⌝ }
     {
         let current = self.current;
         if n == 49 {
@@ -91,15 +90,15 @@ impl Facts {
 
     // The table's rows from word 10 on.
     fn blank_word(self, n: usize) -> u16
-        ensures { λ r. ⌜ r ≡ lookup (drop 6 (wordTable self)) n 0 ⌝ }
+        ensures { λ r. ⌜ r ≡ lookup (fromWord10 self) n 0 ⌝ }
     {
-        if within(n, 10, 19) {
+        if within(10, 19, n) {
             return 0x2020;
         }
-        if within(n, 23, 26) {
+        if within(23, 26, n) {
             return 0x2020;
         }
-        if within(n, 27, 46) {
+        if within(27, 46, n) {
             return 0x2020;
         }
         self.later_word(n)

@@ -1,6 +1,6 @@
 -- What an access to the data port can do: nothing, a refusal, a half moved, a word moved, or the last word moved.
 use Prim.Native.Nat.{ℕ}
-use mathlib.Core.Bool.{true, false}
+use mathlib.Core.Bool.{true}
 use mathlib.Core.Path.{_≡_, refl}
 use lib.Dec.{ltb}
 use Rattle.ground.proofs.Picks.{pick-elim}

@@ -4,7 +4,7 @@ pub mod Resets
 pub mod Lent
 pub mod Ends
 pub mod Steps
-pub mod Runs
+pub mod Sweeps
 pub mod DataElim
 pub mod Data
 pub mod Table

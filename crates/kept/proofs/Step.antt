@@ -8,7 +8,7 @@ use Rattle.answers.specs.declared.Refusal.the-variants.{NotWellMade}
 use Rattle.registers.specs.Machine.{Machine}
 use Rattle.registers.specs.WellMade.{wellMade}
 use Rattle.port.specs.Data.{Effect}
-use Rattle.card.specs.Access.{Asked, decided, verdictOf, meaning}
+use Rattle.card.specs.Access.{Asked, decided, meaning}
 use Rattle.card.specs.Perform.{perform}
 use Rattle.card.specs.Step.{step, fitStep, play}
 use Rattle.kept.specs.Sound.{CountFits, Sound}

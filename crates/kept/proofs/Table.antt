@@ -28,7 +28,7 @@ use Rattle.kept.proofs.Registers.{CoreFits}
 use Rattle.kept.proofs.Lent.{lent-same}
 use Rattle.kept.proofs.Ends.{Fine, Ready, CountAgrees, Next, ended-left, ready-left, asked-left}
 use Rattle.kept.proofs.Steps.{read-next, ask-left}
-use Rattle.kept.proofs.Runs.{verify-left, erase-left}
+use Rattle.kept.proofs.Sweeps.{verify-left, erase-left}
 
 -- "Count 0 means 256."
 count-agrees : (s : State) → CountFits s → CountAgrees (countOf s) s

@@ -5,7 +5,7 @@ use mathlib.Core.Bool.{false, false≢true}
 use mathlib.Core.List.{List, [], _∷_}
 use Rattle.geometry.specs.declared.Geometry.{Geometry}
 use Rattle.maps.specs.declared.Register.the-variants.{StatusCommand}
-use Rattle.registers.specs.Status.{dataStatus}
+use Rattle.laws.specs.Bits.{statusData}
 use Rattle.registers.specs.Machine.{Machine}
 use Rattle.registers.specs.Resets.{optionTurn, turnOf, bitTwo, bitOne}
 use Rattle.card.specs.declared.Meaning.{Meaning}
@@ -27,10 +27,10 @@ unfolding step
 coded-kept m a h = meant-coded (meaning m a) m h
 
 -- a transfer that ends in error has a code, whatever the code was
-pub meant-transfer-coded : (x : Meaning) (m : Machine) → m .state .registers .status ≡ dataStatus → Coded (perform x m .next .state)
+pub meant-transfer-coded : (x : Meaning) (m : Machine) → m .state .registers .status ≡ statusData → Coded (perform x m .next .state)
 meant-transfer-coded x m e = meant-coded x m (λ p. absurd (false≢true (sym (ap inError e) ∙ p)))
 
-pub coded-transfer : (m : Machine) (a : Asked) → m .state .registers .status ≡ dataStatus → Coded (step m a .next .state)
+pub coded-transfer : (m : Machine) (a : Asked) → m .state .registers .status ≡ statusData → Coded (step m a .next .state)
 unfolding step
 coded-transfer m a e = meant-transfer-coded (meaning m a) m e
 

@@ -15,7 +15,7 @@ use Rattle.registers.specs.declared.Load.{Load}
 use Rattle.registers.specs.declared.Load.the-variants.{Sectors, Buffer}
 use Rattle.registers.specs.declared.State.{State}
 use Rattle.registers.specs.declared.Core.{Core}
-use Rattle.registers.specs.Status.{dataStatus}
+use Rattle.laws.specs.Bits.{statusData}
 use Rattle.registers.specs.State.{totalIn}
 use Rattle.registers.specs.Machine.{Machine}
 use Rattle.transfers.specs.declared.Order.{Order}
@@ -30,9 +30,9 @@ use Rattle.transfers.specs.Ends.{endStatus, endCode}
 use Rattle.transfers.specs.declared.Way.the-variants.{In}
 use Rattle.transfers.specs.Before.{sectorTest, addressTest, sectorStored}
 use Rattle.transfers.specs.Steps.{readTested, readSector, nextRead, loadRead, askTested, askSector, nextAsked, coreWritten, loadWritten}
-use Rattle.commands.specs.Runs.{verifyFrom, eraseFrom}
+use Rattle.commands.specs.Sweeps.{verifyFrom, eraseFrom}
 use Rattle.commands.specs.Table.{obeyed, reshapedEnded, soughtEnd, commandOf, started, dropped, commandGiven}
-use Rattle.kept.proofs.Runs.{verify-elim, erase-elim}
+use Rattle.kept.proofs.Sweeps.{verify-elim, erase-elim}
 use Rattle.laws.specs.Coded.{inError, Coded}
 
 -- the table of ends: each in error has a code
@@ -47,7 +47,7 @@ end-coded BadGeometry code p = eqb-false 0x21 0 refl
 end-coded NoSuchCommand code p = eqb-false 0x20 0 refl
 
 -- 58H is no error
-begun-coded : (code : ℕ) → inError dataStatus ≡ true → code ≡ 0 → ⊥
+begun-coded : (code : ℕ) → inError statusData ≡ true → code ≡ 0 → ⊥
 begun-coded code p = absurd (false≢true p)
 
 -- ---- reading

@@ -21,9 +21,9 @@ use Rattle.transfers.specs.declared.End.the-variants.{WriteFault}
 use Rattle.transfers.specs.declared.Tested.the-variants.{Passes, Fails}
 use Rattle.transfers.specs.Before.{testedOf, addressTest, markTested, sectorTest, sectorStored}
 use Rattle.transfers.specs.Steps.{sectorDone}
-use Rattle.commands.specs.Runs.{allFF, eraseFrom}
+use Rattle.commands.specs.Sweeps.{allFF, eraseFrom}
 use Rattle.laws.specs.Changes.{Change, changed, sectorChanges, erasures}
-use Rattle.kept.proofs.Runs.{erasesOn}
+use Rattle.kept.proofs.Sweeps.{erasesOn}
 
 -- ---- a stored sector's mark is 0, and so it can be written as before
 

@@ -78,16 +78,16 @@ load-read (Sectors left) m a f =
     (λ e. read-tested (sectorTest In (sectorDone (left - 1) (m .state)) (m .marks)) (left - 1) (m .state) _ (read-proper _ (m .marks)) a (left-facts left (m .state) f e))
 
 -- what a well-made card has: Status and the transfer fit the phase
-abbrev pub PhaseFits : Phase → State → Type 0
-PhaseFits p s = (statusFits p (s .registers .status) ≡ true) × (runFits p s ≡ true)
+abbrev pub StatusAndLoadFit : Phase → State → Type 0
+StatusAndLoadFit p s = (statusFits p (s .registers .status) ≡ true) × (runFits p s ≡ true)
 
 -- so, where a transfer runs, it asks for data, and its load fits
-running : (way : Way) (t : Transfer) (p : Phase) (s : State) → p ≡ phaseOf way t → PhaseFits p s → (drqSet s ≡ true) × (loadFits (t .load) s ≡ true)
+running : (way : Way) (t : Transfer) (p : Phase) (s : State) → p ≡ phaseOf way t → StatusAndLoadFit p s → (drqSet s ≡ true) × (loadFits (t .load) s ≡ true)
 unfolding statusFits runFits
-running In t p s e r = subst (λ (p : Phase). PhaseFits p s) e r
-running Out t p s e r = subst (λ (p : Phase). PhaseFits p s) e r
+running In t p s e r = subst (λ (p : Phase). StatusAndLoadFit p s) e r
+running Out t p s e r = subst (λ (p : Phase). StatusAndLoadFit p s) e r
 
-pub data-read : (port : Port) (m : Machine) → PhaseFits (m .phase) (m .state) → InterruptRule DataRead (m .state) (dataRead port m .next .state)
+pub data-read : (port : Port) (m : Machine) → StatusAndLoadFit (m .phase) (m .state) → InterruptRule DataRead (m .state) (dataRead port m .next .state)
 data-read port m r =
     let z = still In (m .state) (m .state) refl refl refl in
     data-read-elim (λ (x : Effect). InterruptRule DataRead (m .state) (x .next .state)) port m (λ v. z) z (λ v part t e. z) (λ v t e w. z)
@@ -111,7 +111,7 @@ load-written : (l : Load) (s : State) (m : Machine) → drqSet s ≡ true → lo
 load-written Buffer s m a f = written-end s (loadWritten Buffer (idleWith s m) .state) a refl refl
 load-written (Sectors left) s m a f = core-written (sectorStored s (m .buffer) (m .store) (m .marks) .outcome) left s a f
 
-pub data-written : (port : Port) (v : ℕ) (m : Machine) → PhaseFits (m .phase) (m .state) → InterruptRule DataWrite (m .state) (dataWritten port v m .next .state)
+pub data-written : (port : Port) (v : ℕ) (m : Machine) → StatusAndLoadFit (m .phase) (m .state) → InterruptRule DataWrite (m .state) (dataWritten port v m .next .state)
 data-written port v m r =
     let z = still Out (m .state) (m .state) refl refl refl in
     data-written-elim (λ (x : Effect). InterruptRule DataWrite (m .state) (x .next .state)) port v m z z (λ part t e. z) (λ part t e w. z)

@@ -11,7 +11,7 @@ use Rattle.geometry.specs.Shape.{reshaped}
 use Rattle.geometry.specs.Address.{seek}
 use Rattle.registers.specs.declared.State.{State}
 use Rattle.registers.specs.declared.Core.{Core}
-use Rattle.registers.specs.Status.{dataStatus}
+use Rattle.laws.specs.Bits.{statusData}
 use Rattle.registers.specs.State.{totalIn}
 use Rattle.registers.specs.Machine.{Machine}
 use Rattle.transfers.specs.declared.Order.the-variants.{First}
@@ -25,15 +25,15 @@ use Rattle.transfers.specs.Ends.{endStatus}
 use Rattle.transfers.specs.declared.Way.the-variants.{In}
 use Rattle.transfers.specs.Before.{sectorTest, addressTest}
 use Rattle.transfers.specs.Steps.{readTested, readSector, askTested, askSector}
-use Rattle.commands.specs.Runs.{verifyFrom, eraseFrom}
+use Rattle.commands.specs.Sweeps.{verifyFrom, eraseFrom}
 use Rattle.commands.specs.Table.{countOf, soughtEnd, reshapedEnded, started, dropped, commandOf, obeyed, commandGiven}
-use Rattle.kept.proofs.Runs.{verify-elim, erase-elim}
+use Rattle.kept.proofs.Sweeps.{verify-elim, erase-elim}
 use Rattle.laws.specs.Interrupt.{drqSet, InterruptRule}
 use Rattle.laws.specs.Acts.{CommandWrite}
 use Rattle.laws.proofs.InterruptLaws.{over, ready, asked}
 
 -- no end is 58H
-pub end-drq : (e : End) → eqb (endStatus e) dataStatus ≡ false
+pub end-drq : (e : End) → eqb (endStatus e) statusData ≡ false
 end-drq Good = refl
 end-drq BadHeadOrSector = refl
 end-drq BadCylinder = refl
@@ -43,7 +43,7 @@ end-drq WriteFault = refl
 end-drq BadGeometry = refl
 end-drq NoSuchCommand = refl
 
--- the command is over, and the mark is set
+-- the command is over, and the interrupt mark is set
 abbrev Over : State → Type 0
 Over n = (n .interrupt ≡ true) × (drqSet n ≡ false)
 

@@ -5,7 +5,7 @@ use mathlib.Core.Bool.{Bool, true, false, not, _&&_, _||_, and-true, and-false}
 use lib.Dec.{eqb}
 use borrow.Author.Tests.{eq-eqb}
 use Rattle.registers.specs.declared.State.{State}
-use Rattle.registers.specs.Status.{idleStatus, dataStatus}
+use Rattle.laws.specs.Bits.{statusIdle, statusData}
 use Rattle.commands.specs.declared.Command.{Command}
 use Rattle.transfers.specs.declared.Way.{Way}
 use Rattle.transfers.specs.declared.Way.the-variants.{In, Out}
@@ -74,9 +74,9 @@ no-end false b e = refl
 pub still : (w : Way) (s n : State) → n .registers .status ≡ s .registers .status → n .registers .count ≡ s .registers .count → n .interrupt ≡ s .interrupt → InterruptRule (dataAct w) s n
 unfolding sets clears
 still In s n p q r =
-    interrupt-left DataRead s n (rw (no-turn (drqSet s) (drqSet n) (another s n) (same-count _ _ (sym q)), no-end (drqSet s) (drqSet n) (ap (λ (x : ℕ). eqb x dataStatus) p))) refl r
+    interrupt-left DataRead s n (rw (no-turn (drqSet s) (drqSet n) (another s n) (same-count _ _ (sym q)), no-end (drqSet s) (drqSet n) (ap (λ (x : ℕ). eqb x statusData) p))) refl r
 still Out s n p q r =
-    interrupt-left DataWrite s n (rw (no-turn (drqSet s) (drqSet n) (another s n) (same-count _ _ (sym q)), no-end (drqSet s) (drqSet n) (ap (λ (x : ℕ). eqb x dataStatus) p))) refl r
+    interrupt-left DataWrite s n (rw (no-turn (drqSet s) (drqSet n) (another s n) (same-count _ _ (sym q)), no-end (drqSet s) (drqSet n) (ap (λ (x : ℕ). eqb x statusData) p))) refl r
 
 -- the next sector is ready, or asked for
 pub turned : (w : Way) (s n : State) → drqSet s ≡ true → drqSet n ≡ true → another s n ≡ true → n .interrupt ≡ true → InterruptRule (dataAct w) s n
@@ -90,10 +90,10 @@ unfolding sets
 written-end s n p q m = interrupt-up DataWrite s n (rw (p, q)) m
 
 -- reading ends in error, or well
-pub read-failed : (s n : State) → drqSet s ≡ true → drqSet n ≡ false → eqb (n .registers .status) idleStatus ≡ false → n .interrupt ≡ true → InterruptRule DataRead s n
+pub read-failed : (s n : State) → drqSet s ≡ true → drqSet n ≡ false → eqb (n .registers .status) statusIdle ≡ false → n .interrupt ≡ true → InterruptRule DataRead s n
 unfolding sets
 read-failed s n p q r m = interrupt-up DataRead s n (rw (p, q, r)) m
 
-pub read-well : (s n : State) → drqSet s ≡ true → drqSet n ≡ false → eqb (n .registers .status) idleStatus ≡ true → n .interrupt ≡ s .interrupt → InterruptRule DataRead s n
+pub read-well : (s n : State) → drqSet s ≡ true → drqSet n ≡ false → eqb (n .registers .status) statusIdle ≡ true → n .interrupt ≡ s .interrupt → InterruptRule DataRead s n
 unfolding sets clears
 read-well s n p q r m = interrupt-left DataRead s n (rw (p, q, r)) refl m

@@ -26,7 +26,7 @@ use Rattle.laws.specs.Interrupt.{differ, sets, clears, InterruptRule}
 use Rattle.laws.specs.Acts.{StatusRead, NoMatter, readAct, writeAct, actOf}
 use Rattle.laws.proofs.InterruptLaws.{interrupt-gone, no-matter}
 use Rattle.laws.proofs.InterruptEnds.{commanded}
-use Rattle.laws.proofs.InterruptData.{PhaseFits, data-read, data-written}
+use Rattle.laws.proofs.InterruptData.{StatusAndLoadFit, data-read, data-written}
 
 -- ---- the resets: was the card held, and is the bit set now
 
@@ -80,7 +80,7 @@ register-written DriveAddress v m = plain DriveAddress v (coreOf m)
 
 -- ---- every access
 
-ruled : (x : Meaning) (m : Machine) → PhaseFits (m .phase) (m .state) → InterruptRule (actOf x (m .state .control .held)) (m .state) (perform x m .next .state)
+ruled : (x : Meaning) (m : Machine) → StatusAndLoadFit (m .phase) (m .state) → InterruptRule (actOf x (m .state .control .held)) (m .state) (perform x m .next .state)
 unfolding perform optionWritten sets clears
 ruled (Meaning.Refused r) m f = no-matter (m .state) (m .state) refl
 ruled (TupleByte b) m f = no-matter (m .state) (m .state) refl

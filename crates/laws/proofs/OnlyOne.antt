@@ -1,17 +1,19 @@
 -- A promise that gives the result together with all that was lent determines each of them: no second answer, and no second byte, satisfies it.
 use Prim.Native.Nat.{ℕ}
-use mathlib.Core.Path.{_≡_, sym, ap, _∙_}
+use mathlib.Core.Path.{_≡_, refl, sym, ap, _∙_}
 use mathlib.Core.Bool.{Bool}
 use mathlib.Core.List.{List}
-use Rattle.ground.proofs.OnlyOne.{only-one}
+use Rattle.ground.proofs.OnlyOne.{only-one, only-left}
+use Rattle.answers.specs.declared.Outcome.{Outcome}
 use Rattle.sectors.specs.Sectors.{StoreMarks, storeMarks}
 use Rattle.registers.specs.declared.Core.{Core}
 use Rattle.registers.specs.State.{lineOf}
 use Rattle.registers.specs.Machine.{Machine, machine}
 use Rattle.port.specs.declared.Done.{Done}
 use Rattle.port.specs.Data.{Effect, effect}
+use Rattle.card.specs.declared.Card.{Card}
 use Rattle.card.specs.declared.Answer.{Answer}
-use Rattle.card.specs.Doors.{answer, answered}
+use Rattle.card.specs.Doors.{machineOf, answer, answered}
 use Rattle.laws.specs.Lent.{SameLent}
 
 pub only-store-marks : (d : StoreMarks) (s s′ m m′ : List ℕ) → storeMarks s m ≡ d → storeMarks s′ m′ ≡ d → (s ≡ s′) × (m ≡ m′)
@@ -23,14 +25,8 @@ only-store-marks d s s′ m m′ p q =
 abbrev coreIn : Machine → Core
 coreIn m = record { phase = m .phase; state = m .state }
 
-abbrev doneIn : Effect → Done
-doneIn x = record { outcome = x .outcome; core = coreIn (x .next) }
-
-abbrev answerIn : Effect → Answer
-answerIn x = answer (x .outcome) (record { phase = x .next .phase; state = x .next .state; buffer = x .next .buffer })
-
-lined : (r : Answer) → r .line ≡ lineOf (r .card .state) → r ≡ answer (r .outcome) (r .card)
-lined r l = ap (λ (b : Bool). record { outcome = r .outcome; line = b; card = r .card }) l
+abbrev cardIn : Machine → Card
+cardIn m = record { phase = m .phase; state = m .state; buffer = m .buffer }
 
 -- what was lent besides
 lent : (x y : Machine) → x ≡ y → SameLent (x .buffer) (y .buffer) (x .store) (y .store) (x .marks) (y .marks)
@@ -41,14 +37,20 @@ only-machine d c c′ b b′ s s′ m m′ p q =
     let e = only-one d (machine c b s m) (machine c′ b′ s′ m′) p q in
     (ap coreIn e, lent (machine c b s m) (machine c′ b′ s′ m′) e)
 
+-- by `only-left`, and the parts of the machine
 pub only-effect : (d : Effect) (r r′ : Done) (b b′ s s′ m m′ : List ℕ) → effect r b s m ≡ d → effect r′ b′ s′ m′ ≡ d → (r ≡ r′) × SameLent b b′ s s′ m m′
 only-effect d r r′ b b′ s s′ m m′ p q =
-    let e = only-one d (effect r b s m) (effect r′ b′ s′ m′) p q in
-    (ap doneIn e, lent (effect r b s m .next) (effect r′ b′ s′ m′ .next) (ap (λ (x : Effect). x .next) e))
+    let e = only-left d (r .outcome) (r′ .outcome) (machine (r .core) b s m) (machine (r′ .core) b′ s′ m′) p q in
+    let k = only-machine (machine (r′ .core) b′ s′ m′) (r .core) (r′ .core) b b′ s s′ m m′ (e .1) refl in
+    (ap (λ (o : Outcome). record { outcome = o; core = r .core }) (e .0) ∙ ap (λ (c : Core). record { outcome = r′ .outcome; core = c }) (k .0), k .1)
 
 -- the line of an answer is promised besides
+lined : (r : Answer) → r .line ≡ lineOf (r .card .state) → r ≡ answer (r .outcome) (r .card)
+lined r l = ap (λ (b : Bool). record { outcome = r .outcome; line = b; card = r .card }) l
+
 pub only-answered : (d : Effect) (r r′ : Answer) (s s′ m m′ : List ℕ) → answered r s m ≡ d → answered r′ s′ m′ ≡ d →
     r .line ≡ lineOf (r .card .state) → r′ .line ≡ lineOf (r′ .card .state) → (r ≡ r′) × (s ≡ s′) × (m ≡ m′)
 only-answered d r r′ s s′ m m′ p q l l′ =
-    let e = only-one d (answered r s m) (answered r′ s′ m′) p q in
-    (lined r l ∙ ap answerIn e ∙ sym (lined r′ l′), ap (λ (x : Effect). x .next .store) e, ap (λ (x : Effect). x .next .marks) e)
+    let e = only-left d (r .outcome) (r′ .outcome) (machineOf (r .card) s m) (machineOf (r′ .card) s′ m′) p q in
+    let k = ap (λ (o : Outcome). answer o (r .card)) (e .0) ∙ ap (λ (n : Machine). answer (r′ .outcome) (cardIn n)) (e .1) in
+    (lined r l ∙ k ∙ sym (lined r′ l′), ap (λ (n : Machine). n .store) (e .1), ap (λ (n : Machine). n .marks) (e .1))

@@ -23,9 +23,9 @@ use Rattle.transfers.specs.Before.{addressTest, sectorTest, sectorStored}
 use Rattle.transfers.specs.Steps.{idleWith, sectorDone, readTested, readSector, nextRead, loadRead, askTested, askSector, nextAsked, coreWritten, loadWritten}
 use Rattle.commands.specs.declared.Command.{Command}
 use Rattle.commands.specs.declared.Command.the-variants.{Read, Write, Verify, Erase, Identify, ReadBuffer, WriteBuffer, SetGeometry, Diagnose, Recalibrate, Seek, Sense, Other}
-use Rattle.commands.specs.Runs.{verifyFrom, eraseFrom}
+use Rattle.commands.specs.Sweeps.{verifyFrom, eraseFrom}
 use Rattle.commands.specs.Table.{commandOf, countOf, obeyed, reshapedEnded, started, dropped, commandGiven}
-use Rattle.kept.proofs.Runs.{verify-elim, erase-elim}
+use Rattle.kept.proofs.Sweeps.{verify-elim, erase-elim}
 use Rattle.laws.specs.Settings.{settingsOf}
 
 done : (n : ℕ) (s : State) → settingsOf (sectorDone n s) ≡ settingsOf s

@@ -11,7 +11,7 @@ use Rattle.maps.specs.declared.Register.the-variants.{StatusCommand}
 use Rattle.registers.specs.declared.Phase.{Phase}
 use Rattle.registers.specs.declared.Phase.the-variants.{Idle, DataIn, DataOut}
 use Rattle.registers.specs.declared.State.{State}
-use Rattle.registers.specs.Status.{idleStatus, dataStatus, errorStatus, faultStatus}
+use Rattle.laws.specs.Bits.{statusIdle, statusData, statusError, statusWriteFault}
 use Rattle.registers.specs.State.{sresetIn, runs}
 use Rattle.registers.specs.Machine.{Machine}
 use Rattle.registers.specs.WellMade.{atRest, statusFits, inReset, holdFits, wellMade}
@@ -27,23 +27,23 @@ use Rattle.laws.specs.Bits.{bsy, rdy, dwf, dsc, drq, err}
 use Rattle.laws.proofs.Meant.{well-meant}
 
 -- what holds of each of the four, with whether a transfer runs, holds of Status
-at-rest : (P : ℕ → Type 0) (status : ℕ) → atRest status ≡ true → P idleStatus → P errorStatus → P faultStatus → P status
+at-rest : (P : ℕ → Type 0) (status : ℕ) → atRest status ≡ true → P statusIdle → P statusError → P statusWriteFault → P status
 unfolding atRest
 at-rest P status h a b c =
-    pick-elim (λ (t : Bool). t ≡ true → P status) (eqb status idleStatus) _ _
-    (λ e i. subst P (sym (eqb-true status idleStatus e)) a)
-    (λ n. pick-elim (λ (t : Bool). t ≡ true → P status) (eqb status errorStatus) _ _
-    (λ e i. subst P (sym (eqb-true status errorStatus e)) b)
-    (λ n i. subst P (sym (eqb-true status faultStatus i)) c))
+    pick-elim (λ (t : Bool). t ≡ true → P status) (eqb status statusIdle) _ _
+    (λ e i. subst P (sym (eqb-true status statusIdle e)) a)
+    (λ n. pick-elim (λ (t : Bool). t ≡ true → P status) (eqb status statusError) _ _
+    (λ e i. subst P (sym (eqb-true status statusError e)) b)
+    (λ n i. subst P (sym (eqb-true status statusWriteFault i)) c))
     h
 
-status-elim : (P : ℕ → Bool → Type 0) (p : Phase) (status : ℕ) → statusFits p status ≡ true → P idleStatus false → P dataStatus true → P errorStatus false → P faultStatus false → P status (runs p)
+status-elim : (P : ℕ → Bool → Type 0) (p : Phase) (status : ℕ) → statusFits p status ≡ true → P statusIdle false → P statusData true → P statusError false → P statusWriteFault false → P status (runs p)
 unfolding statusFits
 status-elim P Idle status h a d b c = at-rest (λ (n : ℕ). P n false) status h a b c
-status-elim P (DataIn t) status h a d b c = subst (λ (n : ℕ). P n true) (sym (eqb-true status dataStatus h)) d
-status-elim P (DataOut t) status h a d b c = subst (λ (n : ℕ). P n true) (sym (eqb-true status dataStatus h)) d
+status-elim P (DataIn t) status h a d b c = subst (λ (n : ℕ). P n true) (sym (eqb-true status statusData h)) d
+status-elim P (DataOut t) status h a d b c = subst (λ (n : ℕ). P n true) (sym (eqb-true status statusData h)) d
 
-made-elim : (P : ℕ → Bool → Type 0) (p : Phase) (s : State) → wellMade p s ≡ true → P idleStatus false → P dataStatus true → P errorStatus false → P faultStatus false → P (s .registers .status) (runs p)
+made-elim : (P : ℕ → Bool → Type 0) (p : Phase) (s : State) → wellMade p s ≡ true → P statusIdle false → P statusData true → P statusError false → P statusWriteFault false → P (s .registers .status) (runs p)
 made-elim P p s e = status-elim P p (s .registers .status) (apart p s e .1 .0)
 
 -- DRQ is set exactly while a transfer runs
@@ -54,8 +54,8 @@ drq-runs p s e = made-elim (λ (n : ℕ) (b : Bool). drq n ≡ b) p s e refl ref
 pub err-error : (p : Phase) (s : State) → wellMade p s ≡ true → err (s .registers .status) ≡ inError (s .registers .status)
 err-error p s e = made-elim (λ (n : ℕ) (b : Bool). err n ≡ inError n) p s e refl refl refl refl
 
-pub dwf-fault : (p : Phase) (s : State) → wellMade p s ≡ true → dwf (s .registers .status) ≡ eqb (s .registers .status) faultStatus
-dwf-fault p s e = made-elim (λ (n : ℕ) (b : Bool). dwf n ≡ eqb n faultStatus) p s e refl refl refl refl
+pub dwf-fault : (p : Phase) (s : State) → wellMade p s ≡ true → dwf (s .registers .status) ≡ eqb (s .registers .status) statusWriteFault
+dwf-fault p s e = made-elim (λ (n : ℕ) (b : Bool). dwf n ≡ eqb n statusWriteFault) p s e refl refl refl refl
 
 -- the others stay
 pub others-stay : (p : Phase) (s : State) → wellMade p s ≡ true →

@@ -7,7 +7,7 @@ use Rattle.ground.specs.Choice.{pick}
 use Rattle.maps.specs.declared.Register.the-variants.{AlternateControl}
 use Rattle.registers.specs.declared.Phase.{Phase}
 use Rattle.registers.specs.declared.Phase.the-variants.{Idle, DataIn, DataOut}
-use Rattle.registers.specs.Status.{idleStatus}
+use Rattle.laws.specs.Bits.{statusIdle}
 use Rattle.registers.specs.Machine.{Machine}
 use Rattle.registers.specs.State.{runs}
 use Rattle.registers.specs.Resets.{restStatus, turnOf, optionTurned, bufferTurned, controlTurned}
@@ -21,7 +21,7 @@ use Rattle.laws.specs.Turns.{sresetEntered, sresetLeft, settingTaken, co
 use Rattle.laws.proofs.Meant.{step-by}
 
 -- "A reset that ends one leaves Status 50H."
-rest-status : (p : Phase) (status : ℕ) → restStatus p status ≡ pick (runs p) idleStatus status
+rest-status : (p : Phase) (status : ℕ) → restStatus p status ≡ pick (runs p) statusIdle status
 rest-status Idle status = refl
 rest-status (DataIn t) status = refl
 rest-status (DataOut t) status = refl

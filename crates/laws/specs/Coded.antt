@@ -6,7 +6,7 @@ use mathlib.Core.List.{List, [], _∷_}
 use lib.Dec.{eqb}
 use Rattle.ground.specs.Choice.{pick}
 use Rattle.registers.specs.declared.State.{State}
-use Rattle.registers.specs.Status.{errorStatus, faultStatus}
+use Rattle.laws.specs.Bits.{statusError, statusWriteFault}
 use Rattle.transfers.specs.declared.Tested.{Tested}
 use Rattle.transfers.specs.declared.Tested.the-variants.{Passes, Fails}
 use Rattle.transfers.specs.Ends.{endCode}
@@ -14,7 +14,7 @@ use Rattle.port.specs.Data.{Effect}
 
 -- an error is read off Status
 abbrev pub inError : ℕ → Bool
-inError status = pick (eqb status errorStatus) true (eqb status faultStatus)
+inError status = pick (eqb status statusError) true (eqb status statusWriteFault)
 
 abbrev pub Coded : State → Type 0
 Coded s = inError (s .registers .status) ≡ true → s .code ≡ 0 → ⊥

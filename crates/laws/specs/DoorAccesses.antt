@@ -19,6 +19,7 @@ use Rattle.card.specs.declared.Meaning.{Meaning}
 use Rattle.card.specs.declared.Meaning.the-variants.{WriteOption, WriteRegister}
 use Rattle.card.specs.Access.{Asked, askedWith}
 use Rattle.card.specs.Rows.{mode0}
+use Rattle.laws.specs.Bits.{indexBits}
 
 -- "Attribute: … 200H the Configuration Option Register"
 abbrev pub optionAccess : ℕ → List ℕ → Asked
@@ -40,10 +41,10 @@ controlAccess v s tuples =
 
 -- what the methods mean to a well-made card: 7 in True IDE mode, where attribute memory does not answer, 10, else the write; 8 while SRESET holds, else the write
 abbrev pub optionMeaning : Mode → ℕ → Meaning
-optionMeaning mode v = firstOf (Unless (mode0 mode) SpaceSilent ∷ Unless (leb (indexIn v) 3) IndexAboveThree ∷ []) Meaning.Refused (WriteOption v)
+optionMeaning mode v = firstOf (Unless (mode0 mode) SpaceSilent ∷ Unless (leb (indexBits v) 3) IndexAboveThree ∷ []) Meaning.Refused (WriteOption v)
 
 abbrev pub controlMeaning : Bool → ℕ → Meaning
-controlMeaning held v = firstOf (When held HeldBySreset ∷ []) Meaning.Refused (WriteRegister AlternateControl v)
+controlMeaning sreset v = firstOf (When sreset HeldBySreset ∷ []) Meaning.Refused (WriteRegister AlternateControl v)
 
 -- a byte write that reaches Device Control, were the card not held by SRESET
 pub record Reaches (s : State) (a : Asked) : Type 0 where

@@ -4,7 +4,7 @@ use mathlib.Core.Path.{_≡_}
 use mathlib.Core.Bool.{Bool, true, false, not, _&&_, _||_}
 use lib.Dec.{eqb}
 use Rattle.registers.specs.declared.State.{State}
-use Rattle.registers.specs.Status.{idleStatus, dataStatus}
+use Rattle.laws.specs.Bits.{statusIdle, statusData}
 use Rattle.commands.specs.declared.Command.{Command}
 use Rattle.commands.specs.declared.Command.the-variants.{Read, Write, Verify, Erase, Identify, ReadBuffer, WriteBuffer, SetGeometry, Diagnose, Recalibrate, Seek, Sense, Other}
 use Rattle.laws.specs.Acts.{Act, StatusRead, CommandWrite, ControlWrite, OptionWrite, DataRead, DataWrite, NoMatter}
@@ -14,7 +14,7 @@ use Rattle.laws.specs.Bits.{bitSeven, bitTwo}
 
 -- Status 58H: a sector or the buffer is ready, or asked for
 abbrev pub drqSet : State → Bool
-drqSet s = eqb (s .registers .status) dataStatus
+drqSet s = eqb (s .registers .status) statusData
 
 -- another sector's turn: Sector Count holds the sectors left, the present one included
 abbrev pub another : State → State → Bool
@@ -73,7 +73,7 @@ goodReading StatusRead n = false
 goodReading (CommandWrite c) n = false
 goodReading (ControlWrite v) n = false
 goodReading (OptionWrite v) n = false
-goodReading DataRead n = eqb (n .registers .status) idleStatus
+goodReading DataRead n = eqb (n .registers .status) statusIdle
 goodReading DataWrite n = false
 goodReading NoMatter n = false
 
@@ -97,6 +97,6 @@ clears DataRead s = false
 clears DataWrite s = false
 clears NoMatter s = false
 
--- the mark after an access: it is cleared "before the command's own effect"
+-- the interrupt mark after an access: it is cleared "before the command's own effect"
 abbrev pub InterruptRule : Act → State → State → Type 0
 InterruptRule x s n = n .interrupt ≡ (sets x s n || (s .interrupt && not (clears x s)))

@@ -7,7 +7,7 @@ use Rattle.answers.specs.declared.Outcome.{Outcome}
 use Rattle.maps.specs.declared.Register.{Register}
 use Rattle.maps.specs.declared.Register.the-variants.{ErrorFeature, SectorCount, SectorNumber, CylinderLow, CylinderHigh, DriveHead, StatusCommand, AlternateControl, DriveAddress}
 use Rattle.registers.specs.declared.State.{State}
-use Rattle.registers.specs.Status.{idleStatus}
+use Rattle.laws.specs.Bits.{statusIdle}
 use Rattle.registers.specs.State.{runs, withStatus, withInterrupt, withOption, withControl}
 use Rattle.registers.specs.Machine.{Machine, core, withCore}
 use Rattle.transfers.specs.Steps.{idleWith}
@@ -31,8 +31,8 @@ powerOnValue SectorNumber = 1
 powerOnValue CylinderLow = 0
 powerOnValue CylinderHigh = 0
 powerOnValue DriveHead = 0xA0
-powerOnValue StatusCommand = idleStatus
-powerOnValue AlternateControl = idleStatus
+powerOnValue StatusCommand = statusIdle
+powerOnValue AlternateControl = statusIdle
 powerOnValue DriveAddress = 0x7E
 
 abbrev pub ReadsPowerOn : Machine → Type 0
@@ -44,7 +44,7 @@ goingOnWith s m = withCore (core (m .phase) s) m
 
 -- a reset is entered: "A reset that ends one leaves Status 50H"; the interrupt mark is "Cleared by entering or leaving a reset"; all else stays
 abbrev pub restingState : Machine → State
-restingState m = withInterrupt false (withStatus (pick (runs (m .phase)) idleStatus (m .state .registers .status)) (m .state))
+restingState m = withInterrupt false (withStatus (pick (runs (m .phase)) statusIdle (m .state .registers .status)) (m .state))
 
 -- ---- the Configuration Option Register
 

@@ -3,7 +3,7 @@ use Prim.Native.Nat.{ℕ, _+_, _-_, _%_}
 use lib.Dec.{eqb, leb}
 use mathlib.Core.List.{[], _∷_}
 use Rattle.ground.specs.Choice.{pick, within}
-use Rattle.ground.specs.Tables.{Entry, lookup}
+use Rattle.ground.specs.Tables.{Numbered, lookup}
 
 -- an address's offset in its map; `Nowhere` at an address that the map does not list
 pub data Offset : Type 0 where
@@ -38,9 +38,9 @@ windowAt first last alternate drive address =
 unfoldable pub ioAt : ℕ → ℕ → Offset
 ioAt index address =
     lookup
-    (Entry.At 1 (contiguousAt address)
-    ∷ Entry.At 2 (windowAt 0x1F0 0x1F7 0x3F6 0x3F7 address)
-    ∷ Entry.At 3 (windowAt 0x170 0x177 0x376 0x377 address)
+    (Numbered.At 1 (contiguousAt address)
+    ∷ Numbered.At 2 (windowAt 0x1F0 0x1F7 0x3F6 0x3F7 address)
+    ∷ Numbered.At 3 (windowAt 0x170 0x177 0x376 0x377 address)
     ∷ [])
     index Nowhere
 
@@ -48,8 +48,8 @@ ioAt index address =
 unfoldable pub offsetAt : ℕ → ℕ → ℕ → Offset
 offsetAt space index address =
     lookup
-    (Entry.At 1 (pick (eqb index 0) (memoryAt address) Nowhere)
-    ∷ Entry.At 2 (ioAt index address)
-    ∷ Entry.At 3 (windowAt 0x00 0x07 0x16 0x17 address)
+    (Numbered.At 1 (pick (eqb index 0) (memoryAt address) Nowhere)
+    ∷ Numbered.At 2 (ioAt index address)
+    ∷ Numbered.At 3 (windowAt 0x00 0x07 0x16 0x17 address)
     ∷ [])
     space Nowhere

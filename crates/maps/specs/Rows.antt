@@ -5,7 +5,7 @@ use mathlib.Core.Bool.{Bool, true, false, not, _&&_}
 use mathlib.Core.List.{List, [], _∷_}
 use Rattle.ground.specs.Choice.{pick}
 use Rattle.ground.specs.Rows.{Row, When, firstOf}
-use Rattle.ground.specs.Tables.{At, lookup}
+use Rattle.ground.specs.Tables.{Numbered, lookup}
 use Rattle.answers.specs.declared.Refusal.{Refusal}
 use Rattle.answers.specs.declared.Refusal.the-variants.{SpaceSilent, NoRegister, WidthOrValue, IndexAboveThree}
 use Rattle.maps.specs.declared.Access.{Access}
@@ -49,8 +49,8 @@ evenData EvenData = true
 unfoldable pub misfits : Bool → Access → Bool
 misfits even a =
     lookup
-    (At 1 (a .write && ltb 255 (a .value))
-    ∷ At 2 (not even)
+    (Numbered.At 1 (a .write && ltb 255 (a .value))
+    ∷ Numbered.At 2 (not even)
     ∷ [])
     (a .width) true
 

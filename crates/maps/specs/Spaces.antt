@@ -4,7 +4,7 @@ use lib.Dec.{eqb}
 use mathlib.Core.Bool.{Bool, true, false}
 use mathlib.Core.List.{[], _∷_}
 use Rattle.ground.specs.Choice.{within}
-use Rattle.ground.specs.Tables.{At, lookup}
+use Rattle.ground.specs.Tables.{Numbered, lookup}
 use Rattle.maps.specs.declared.Mode.{Mode}
 use Rattle.maps.specs.declared.Mode.the-variants.{PcCard, TrueIde}
 
@@ -16,9 +16,9 @@ ioAnswers index = within 1 3 index
 unfoldable pub cardAnswers : ℕ → ℕ → Bool
 cardAnswers space index =
     lookup
-    (At 0 true
-    ∷ At 1 (eqb index 0)
-    ∷ At 2 (ioAnswers index)
+    (Numbered.At 0 true
+    ∷ Numbered.At 1 (eqb index 0)
+    ∷ Numbered.At 2 (ioAnswers index)
     ∷ [])
     space false
 

@@ -12,6 +12,9 @@ pub enum Mode {
     TrueIde,
 }
 
+// 01: "200H the Configuration Option Register".
+pub const OPTION_ADDRESS: u16 = 0x200;
+
 // An access: any space, width, address and value, read or write.
 pub struct Access {
     pub space: u8,

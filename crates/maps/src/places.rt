@@ -67,7 +67,7 @@ fn attribute_place(address: u16) -> Place
         }
         return Place::Nothing;
     }
-    if address == 0x200 {
+    if address == super::OPTION_ADDRESS {
         return Place::Bytes(Target::Option);
     }
     Place::Nothing

@@ -1,6 +1,5 @@
 -- Reads and writes of the data port: 01, "Data".
 use Prim.Native.Nat.{ℕ}
-use mathlib.Core.Bool.{Bool, true, false}
 use mathlib.Core.List.{List}
 use lib.Dec.{ltb}
 use Rattle.ground.specs.Choice.{pick}
@@ -33,8 +32,8 @@ effect d buffer store marks = leaving (d .outcome) (machine (d .core) buffer sto
 abbrev pub accepted : ℕ → Machine → Effect
 accepted value m = leaving (Outcome.Accepted value) m
 
-abbrev pub refusedBy : Refusal → Machine → Effect
-refusedBy r m = leaving (Outcome.Refused r) m
+abbrev pub refusedWith : Refusal → Machine → Effect
+refusedWith r m = leaving (Outcome.Refused r) m
 
 abbrev pub withPhase : Phase → Machine → Machine
 withPhase p m = withCore (core p (m .state)) m
@@ -51,7 +50,7 @@ partRead Whole part t m = wordRead t m
 partRead Begun part t m = withPhase (DataIn (halved part t)) m
 
 abbrev pub takenRead : Take → Transfer → Machine → Effect
-takenRead Take.Refused t m = refusedBy HalfMoved m
+takenRead Take.Refused t m = refusedWith HalfMoved m
 takenRead (Take.Moves part fill) t m = accepted (partValue part (t .words) (m .buffer)) (partRead fill part t m)
 
 -- "Refusal 11 is given only for an access in the running transfer's direction. With no transfer that way, a read gives FFH or FFFFH …"
@@ -89,7 +88,7 @@ partWritten Begun part t m = withPhase (DataOut (halved part t)) m
 
 -- "Read sectors, Identify and writes pass through the same buffer, a written byte at once"
 abbrev pub takenWritten : Take → ℕ → Transfer → Machine → Effect
-takenWritten Take.Refused value t m = refusedBy HalfMoved m
+takenWritten Take.Refused value t m = refusedWith HalfMoved m
 takenWritten (Take.Moves part fill) value t m = accepted 0 (partWritten fill part t (withBuffer (withPart part (t .words) value (m .buffer)) m))
 
 -- "… and a write has no effect (H)"

@@ -46,7 +46,7 @@ accessIn file at write =
 unfoldable pub valueAbove : ℕ → ℕ → Bool
 valueAbove width value = pick (eqb width 1) (ltb 255 value) false
 
--- ---- "Broken: …": the tests of a record, in their order
+-- ---- "Broken: …": the tests of a record; what does not fit comes first, since the others read what would not be there
 
 -- "or a record that doesn't fit": it has its length and its kind at least; a length below that leaves no place for a kind
 abbrev pub fitBreaks : ℕ → ℕ → List (Row Break)

@@ -19,7 +19,7 @@ const HEAD_LENGTH: u16 = 4;
 // 01: "Kind 1, length 12".
 pub const OPENING_LENGTH: u16 = 12;
 
-// Which test of the whole file, or of a record, broke it, in the order in which the tests are first made.
+// Which test of the whole file, or of a record, broke it, in the order in which the tests stand first in the definitions.
 pub enum Break {
     Empty,
     TooLong,

@@ -7,10 +7,10 @@ use Rattle.ground.specs.Sizes.{sectorBytes}
 use Rattle.registers.specs.declared.Registers.{Registers}
 use Rattle.registers.specs.declared.Made.{Made}
 use Rattle.registers.specs.declared.State.{State}
-use Rattle.registers.specs.Status.{idleStatus}
+use Rattle.registers.specs.Status.{idleStatus, powerOnError}
 
 abbrev pub powerRegisters : Registers
-powerRegisters = record { status = idleStatus; error = 0x01; count = 1; address = record { sector = 1; low = 0; high = 0; head = 0 } }
+powerRegisters = record { status = idleStatus; error = powerOnError; count = 1; address = record { sector = 1; low = 0; high = 0; head = 0 } }
 
 -- with a map setting, since a cleared SRESET "is power-on with the index just written"
 abbrev pub powerOn : Made → ℕ → State

@@ -2,7 +2,7 @@
 -- IDNF, 04H ABRT."
 use Prim.Native.Nat.{ℕ}
 
--- the values of Status; BSY alone is what a held card reads as
+-- the values of Status; BSY alone is what a card held by Device Control reads as
 abbrev pub busyStatus : ℕ
 busyStatus = 0x80
 
@@ -27,3 +27,7 @@ IDNF = 0x10
 
 abbrev pub ABRT : ℕ
 ABRT = 0x04
+
+-- Error after power-on and after 90H
+abbrev pub powerOnError : ℕ
+powerOnError = 0x01

@@ -40,11 +40,11 @@ unfoldable pub inReset : State → Bool
 inReset s = pick (sresetIn (s .option)) true (s .control .held)
 
 unfoldable pub holdFits : Phase → Bool → Bool
-holdFits Idle held = true
-holdFits (DataIn t) held = not held
-holdFits (DataOut t) held = not held
+holdFits Idle reset = true
+holdFits (DataIn t) reset = not reset
+holdFits (DataOut t) reset = not reset
 
--- words already moved are 0..255
+-- words already moved are 0..255: fewer than a sector's, so no more than the number of its last word
 unfoldable pub wordsFit : Phase → Bool
 wordsFit Idle = true
 wordsFit (DataIn t) = leb (t .words) lastWord

@@ -10,7 +10,7 @@ pub mod states;
 pub mod values;
 pub mod well_made;
 
-// 01, "Registers": the values of Status; BSY alone is what a held card reads as.
+// 01, "Registers": the values of Status; BSY alone is what a card held by Device Control reads as.
 pub const BUSY_STATUS: u8 = 0x80;
 
 pub const IDLE_STATUS: u8 = 0x50;
@@ -27,6 +27,9 @@ pub const UNC: u8 = 0x40;
 pub const IDNF: u8 = 0x10;
 
 pub const ABRT: u8 = 0x04;
+
+// Error after power-on and after 90H.
+pub const POWER_ON_ERROR: u8 = 0x01;
 
 // 01, "Data": within a word nothing, the low half or the high half has moved.
 pub enum Half {

@@ -18,7 +18,7 @@ impl Made {
             current: default,
             registers: Registers {
                 status: super::IDLE_STATUS,
-                error: 0x01,
+                error: super::POWER_ON_ERROR,
                 count: 1,
                 address: Address {
                     sector: 1,

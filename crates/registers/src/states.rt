@@ -36,7 +36,7 @@ impl Phase {
 }
 
 impl State {
-    // The interrupt line: the mark is set and bit 1 is clear.
+    // The interrupt line: the interrupt mark is set and bit 1 is clear.
     pub fn line(self) -> bool
         ensures { λ r. ⌜ r ≡ lineOf self ⌝ }
     {

@@ -66,13 +66,13 @@ impl State {
 
 impl Phase {
     // No transfer runs in a held reset.
-    fn hold_fits(self, held: bool) -> bool
-        ensures { λ r. ⌜ r ≡ holdFits self held ⌝ }
+    fn hold_fits(self, reset: bool) -> bool
+        ensures { λ r. ⌜ r ≡ holdFits self reset ⌝ }
     {
         match self {
             Phase::Idle => true,
-            Phase::DataIn(_) => !held,
-            Phase::DataOut(_) => !held,
+            Phase::DataIn(_) => !reset,
+            Phase::DataOut(_) => !reset,
         }
     }
 

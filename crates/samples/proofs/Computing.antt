@@ -16,11 +16,11 @@ use Rattle.registers.specs.Resets.{turnOf, optionTurned, bufferTurned, controlT
 use Rattle.registers.specs.Values.{valueRead, afterRead, registerSet}
 use Rattle.transfers.specs.Before.{addressTest, sectorTest, sectorStored}
 use Rattle.transfers.specs.Steps.{sectorDone, readSector, nextRead, askSector, nextAsked}
-use Rattle.commands.specs.Runs.{verifyFrom, eraseFrom, allFF}
+use Rattle.commands.specs.Sweeps.{verifyFrom, eraseFrom, allFF}
 use Rattle.port.specs.Halves.{takeOf}
 use Rattle.port.specs.Data.{wordRead, dataRead, wordWritten, dataWritten}
 use Rattle.commands.specs.Table.{commandOf, countOf, commandGiven}
-use Rattle.card.specs.Access.{heldAway, decided, verdictOf, meaning}
+use Rattle.card.specs.Access.{heldAway, meaning}
 use Rattle.card.specs.Perform.{optionWritten, plainCore, registerWritten, perform}
 use Rattle.card.specs.Step.{step}
 use Rattle.card.specs.Opening.{opened}
@@ -43,7 +43,7 @@ unfolding every fits totalOf currentFor locate locateChs locateLba byLba seek re
     countOf commandOf commandGiven verifyFrom eraseFrom allFF
     identifyBytes identifyByte identifyWord
     dataRead dataWritten wordRead wordWritten takeOf
-    opened step meaning verdictOf decided heldAway perform optionWritten registerWritten plainCore
+    opened step meaning heldAway perform optionWritten registerWritten plainCore
     reader readOutcome chainFrom
     samples sample1 sample2 sample3 sample4 sample5 sample6 sample7 sample8 sample9 sample10 sample11 sample12 sample13 identified wordLines
     passes allOf holdsOf agrees readsAs sameEntries opening store marks tuples sector listed

@@ -35,8 +35,8 @@ withLent store marks m = machine (coreOf m) (m .buffer) store marks
 abbrev pub answersWith : ℕ → Effect → Effect
 answersWith value s = record { outcome = Accepted value; next = s .next }
 
-abbrev pub leaving : Machine → Effect → Effect
-leaving m s = record { outcome = s .outcome; next = m }
+abbrev pub withNext : Machine → Effect → Effect
+withNext m s = record { outcome = s .outcome; next = m }
 
 abbrev pub altered : (State → State) → Effect → Effect
-altered f s = leaving (withState (f (s .next .state)) (s .next)) s
+altered f s = withNext (withState (f (s .next .state)) (s .next)) s

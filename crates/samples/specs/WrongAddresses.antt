@@ -19,7 +19,7 @@ use Rattle.port.specs.Data.{Effect}
 use Rattle.card.specs.Access.{Asked, meaning}
 use Rattle.card.specs.Step.{step}
 use Rattle.samples.specs.Kinds.{opcodeIn, givesAny, givesSectors, inCommand, idnfIn, endsInIdnf}
-use Rattle.samples.specs.Faults.{addressIn, atAddress, withLent, leaving, altered}
+use Rattle.samples.specs.Faults.{addressIn, atAddress, withLent, withNext, altered}
 
 -- "CHS index is (c·H+h)·S+s-1": here without the -1, and the sector after the last is the first. Such a card works as over a store and marks whose
 -- first sector was put at the end.
@@ -33,7 +33,7 @@ abbrev pub back : Machine → Machine
 back m = withLent (firstLast (length (m .store) - sectorBytes) (m .store)) (firstLast (length (m .marks) - 1) (m .marks)) m
 
 unfoldable pub oneTooFar : Machine → Asked → Effect
-oneTooFar m a = let s = step (forth m) a in pick (inCommand m a && not (byLba (addressIn m))) (leaving (back (s .next)) s) (step m a)
+oneTooFar m a = let s = step (forth m) a in pick (inCommand m a && not (byLba (addressIn m))) (withNext (back (s .next)) s) (step m a)
 
 -- "s 1..S": here 0 is taken for 1
 abbrev pub fromOne : Address → Address
@@ -71,7 +71,7 @@ unfoldable pub pastEndAsZero : Machine → Asked → Effect
 pastEndAsZero m a =
     let s = step m a in
     let opcode = pick (givesAny m a) (opcodeIn (meaning m a)) (movedBy (m .phase)) in
-    pick (endsInIdnf 0x2F m a) (leaving (fromSectorZero 256 opcode (s .next)) s) s
+    pick (endsInIdnf 0x2F m a) (withNext (fromSectorZero 256 opcode (s .next)) s) s
 
 -- LBA "below N": here a command's first sector is below the current C·H·S
 unfoldable pub lbaBelowCurrent : Machine → Asked → Effect

@@ -15,7 +15,7 @@ use Rattle.port.specs.Data.{Effect}
 use Rattle.card.specs.Access.{Asked, askedWith}
 use Rattle.card.specs.Step.{step}
 use Rattle.samples.specs.Kinds.{gives, givesSectors}
-use Rattle.samples.specs.Faults.{leaving, altered}
+use Rattle.samples.specs.Faults.{withNext, altered}
 
 -- "03H clears the code, so a second 03H says 00H."
 unfoldable pub clearsCode : Machine → Asked → Effect
@@ -34,7 +34,7 @@ abbrev pub lowFirst : List ℕ → List ℕ
 lowFirst b = take 14 b ++ (take 2 (drop 16 b) ++ (take 2 (drop 14 b) ++ drop 18 b))
 
 unfoldable pub lowHalfFirst : Machine → Asked → Effect
-lowHalfFirst m a = let s = step m a in pick (gives 0xEC m a) (leaving (withBuffer (lowFirst (s .next .buffer)) (s .next)) s) s
+lowHalfFirst m a = let s = step m a in pick (gives 0xEC m a) (withNext (withBuffer (lowFirst (s .next .buffer)) (s .next)) s) s
 
 -- 91H: here it does nothing, as 1XH
 unfoldable pub ignores91H : Machine → Asked → Effect

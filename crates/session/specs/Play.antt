@@ -3,7 +3,7 @@ use Prim.Native.Nat.{ℕ, _*_}
 use mathlib.Core.List.{List, [], _∷_, _++_}
 use lib.Dec.{eqb, ltb}
 use lib.ListN.{length, replicate}
-use Rattle.ground.specs.Rows.{Row, When, firstOf}
+use Rattle.ground.specs.Rows.{Row, When, firstOf, firstOr}
 use Rattle.ground.specs.Sizes.{sectorBytes, tupleBufferBytes}
 use Rattle.answers.specs.declared.Outcome.{Outcome}
 use Rattle.answers.specs.declared.Refusal.the-variants.{GeometryOrMode, SessionBroken}
@@ -30,6 +30,13 @@ longestFile = 32768
 abbrev pub mostSectors : ℕ
 mostSectors = 32
 
+-- "store and marks zero, tuples FFH"
+unfoldable pub zeroBytes : ℕ → List ℕ
+zeroBytes n = replicate n 0
+
+unfoldable pub noTuples : List ℕ
+noTuples = replicate tupleBufferBytes 0xFF
+
 -- a file's first byte has the place 0; "its number from 1"
 abbrev pub fileStart : ℕ
 fileStart = 0
@@ -40,11 +47,15 @@ firstNumber = 1
 abbrev pub stopped : ℕ → Ending → Session (List ℕ)
 stopped place end = record { place = place; done = 0; end = end; text = endText end place }
 
+-- "Broken: empty (place 0)"; "A longer file runs nothing and is broken at 32768"
+abbrev pub fileBreaks : ℕ → List (Row (Session (List ℕ)))
+fileBreaks size = When (eqb size 0) (stopped fileStart (Broken Empty)) ∷ When (ltb longestFile size) (stopped longestFile (Broken TooLong)) ∷ []
+
 -- "A refused opening prints `open` and the number, and stops"; else the accesses after it, from 1
 abbrev pub opensAs : Outcome → Card → List ℕ → List ℕ → List ℕ → List ℕ → Session (List ℕ)
 opensAs (Outcome.Accepted value) c file store marks tuples =
     resultOf fileStart firstNumber (machineOf c store marks) (scriptFrom (length file) file tuples openingLength) .session
-opensAs (Outcome.Refused r) c file store marks tuples = stopped 0 (Unopened r)
+opensAs (Outcome.Refused r) c file store marks tuples = stopped fileStart (Unopened r)
 
 abbrev pub geometryOf : Sizes → Geometry
 geometryOf s = record { cylinders = s .cylinders; heads = s .heads; sectors = s .sectors }
@@ -53,30 +64,20 @@ unfoldable pub openedOn : Sizes → List ℕ → List ℕ → List ℕ → List 
 openedOn s file store marks tuples =
     opensAs (opened (geometryOf s) (s .mode) store marks tuples .outcome) (opened (geometryOf s) (s .mode) store marks tuples .card) file store marks tuples
 
--- "store and marks zero, tuples FFH"
-unfoldable pub zeroBytes : ℕ → List ℕ
-zeroBytes n = replicate n 0
-
-unfoldable pub noTuples : List ℕ
-noTuples = replicate tupleBufferBytes 0xFF
-
 -- "N above 32 counts as refusal 1"
 unfoldable pub opening : Sizes → List ℕ → Session (List ℕ)
 opening s file =
     let total = capacityOf (geometryOf s) in
-    firstOf (When (ltb mostSectors total) GeometryOrMode ∷ []) (λ r. stopped 0 (Unopened r))
+    firstOf (When (ltb mostSectors total) GeometryOrMode ∷ []) (λ r. stopped fileStart (Unopened r))
     (openedOn s file (zeroBytes (sectorBytes * total)) (zeroBytes total) noTuples)
 
 abbrev pub byFirst : First → List ℕ → Session (List ℕ)
 byFirst (First.Opening s) file = opening s file
-byFirst (First.Stop why) file = stopped 0 (Broken why)
+byFirst (First.Stop why) file = stopped fileStart (Broken why)
 
--- "Broken: empty (place 0)"; "A longer file runs nothing and is broken at 32768"
-abbrev pub fileBreaks : ℕ → List (Row (Session (List ℕ)))
-fileBreaks size = When (eqb size 0) (stopped 0 (Broken Empty)) ∷ When (ltb longestFile size) (stopped longestFile (Broken TooLong)) ∷ []
-
+-- the whole: broken as a file, or by its first record
 unfoldable pub sessionOf : List ℕ → Session (List ℕ)
-sessionOf file = firstOf (fileBreaks (length file)) (λ s. s) (byFirst (firstRecord file) file)
+sessionOf file = firstOr (fileBreaks (length file)) (byFirst (firstRecord file) file)
 
 -- "It prints a header always"
 abbrev pub printOf : List ℕ → List ℕ

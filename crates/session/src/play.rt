@@ -20,7 +20,7 @@ ghost use Prim.Native.Nat.{_*_};
 ghost use Rattle.ground.specs.Sizes.{sectorBytes};
 ghost use Rattle.text.specs.Output.{output, LiesIn};
 ghost use Rattle.session.specs.Run.{printedAt, toldAs};
-ghost use Rattle.session.specs.Play.{stopped, openedOn, mostSectors, zeroBytes, noTuples, opening, sessionOf, printed, endNumber};
+ghost use Rattle.session.specs.Play.{fileStart, stopped, openedOn, mostSectors, zeroBytes, noTuples, opening, sessionOf, printed, endNumber};
 
 // A file's first byte has the place 0; 01: an access has "its number from 1".
 const FILE_START: u64 = 0;
@@ -40,11 +40,11 @@ fn bad(out: &mut [u8], at: usize, place: u64, why: Break) -> Told
 }
 
 fn unopened(out: &mut [u8], at: usize, refusal: Refusal) -> Told
-    ensures { λ r. ⌜ toldAs r (now (out .exit)) ≡ printedAt (output (now (out .entry)) at) (stopped 0 (Unopened refusal)) ⌝ }
+    ensures { λ r. ⌜ toldAs r (now (out .exit)) ≡ printedAt (output (now (out .entry)) at) (stopped fileStart (Unopened refusal)) ⌝ }
 {
     let next = text::lines::put_unopened(out, at, refusal.number());
     Told {
-        place: 0,
+        place: FILE_START,
         done: 0,
         end: Ending::Unopened(refusal),
         text: next,
@@ -148,11 +148,11 @@ fn session(file: &[u8], out: &mut [u8], at: usize) -> Told
         return bad(out, at, LONGEST_FILE as u64, Break::TooLong);
     }
     if file.len() == 0 {
-        return bad(out, at, 0, Break::Empty);
+        return bad(out, at, FILE_START, Break::Empty);
     }
     match records::first_record(file) {
         First::Opening(sizes) => opening(sizes, file, out, at),
-        First::Stop(why) => bad(out, at, 0, why),
+        First::Stop(why) => bad(out, at, FILE_START, why),
     }
 }
 

@@ -71,8 +71,8 @@ fn ran(
     }
 }
 
-// The answer to what a record asks for, by the verdict on the card, which stands.
-fn answer(
+// What a record asks for is done, by the verdict on the card, which stands.
+fn access_done(
     verdict: Verdict,
     core: Core,
     access: Access,
@@ -151,7 +151,7 @@ fn lines(
                 return ran(core, buffer, first, at, count, Ending::Broken(why), next);
             }
             After::Access(access) => {
-                let done = answer(verdict, core, access, &mut buffer, store, marks, tuples);
+                let done = access_done(verdict, core, access, &mut buffer, store, marks, tuples);
                 let outcome = done.outcome;
                 let after = done.core;
                 text = put_answer(out, text, counter, access, outcome, &table);

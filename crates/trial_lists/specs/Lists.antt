@@ -19,11 +19,11 @@ countedAs n = min n 256
 
 -- what the place of a number holds after a list of so many places that all held one entry was read into
 abbrev pub handedAfter : List ℕ → ℕ → Entry → ℕ → Handed
-handedAfter s places held i =
-    record { outcome = readOutcome s (countedAs places); entry = getD (readList s (replicate (countedAs places) held)) i held }
+handedAfter s places before i =
+    record { outcome = readOutcome s (countedAs places); entry = getD (readList s (replicate (countedAs places) before)) i before }
 
 abbrev pub HandedAfter : List ℕ → ℕ → Entry → ℕ → Handed → Type 0
-HandedAfter s places held i r = (r ≡ handedAfter s places held i) × Says (r .outcome) (readOutcome s (countedAs places))
+HandedAfter s places before i r = (r ≡ handedAfter s places before i) × Says (r .outcome) (readOutcome s (countedAs places))
 
 -- a list of n tuples: all are e, and the last is f
 unfoldable pub made : ℕ → Entry → Entry → List Entry

@@ -51,14 +51,14 @@ fits-by s a n h true e = let f : n ≤ length (drop a s) = omega (arith, length-
 fits-by s a n h false e = let f : length (drop a s) < n = omega (arith, length-drop a s, leb-false (a + n) (length s) e) in lt-leb _ _ f ∙ sym e
 
 -- what stands at a place within the buffer
-abbrev within : List ℕ → ℕ → Step
-within s at =
+abbrev inside : List ℕ → ℕ → Step
+inside s at =
     pick (eqb (getD s at 0) 255) End
     (pick (eqb (getD s at 0) 0) Null
     (pick (leb (at + 2 + getD s (at + 1) 0) (length s)) (Tuple (entry (getD s at 0) (at + 2) (getD s (at + 1) 0))) Broken))
 
 -- a place with a byte after it
-inner : (s : List ℕ) (at : ℕ) → at + 1 < length s → chainAt s at ≡ after s at (within s at)
+inner : (s : List ℕ) (at : ℕ) → at + 1 < length s → chainAt s at ≡ after s at (inside s at)
 unfolding chainFrom
 inner s at h =
     let b = getD s at 0 in
@@ -73,7 +73,7 @@ inner s at h =
     ∙ simp (pick-of (after s at))
 
 -- the last byte
-last : (s : List ℕ) (at : ℕ) → at < length s → length s ≤ at + 1 → chainAt s at ≡ after s at (within s at)
+last : (s : List ℕ) (at : ℕ) → at < length s → length s ≤ at + 1 → chainAt s at ≡ after s at (inside s at)
 unfolding chainFrom
 last s at h m =
     let b = getD s at 0 in
@@ -83,7 +83,7 @@ last s at h m =
     ∙ pick-stop (eqb b 255)
     ∙ simp (pick-of (after s at), lt-leb _ _ short, past s (at + 1) m, pick-same)
 
-by-next : (s : List ℕ) (at : ℕ) → at < length s → (t : Bool) → ltb (at + 1) (length s) ≡ t → chainAt s at ≡ after s at (within s at)
+by-next : (s : List ℕ) (at : ℕ) → at < length s → (t : Bool) → ltb (at + 1) (length s) ≡ t → chainAt s at ≡ after s at (inside s at)
 by-next s at h true e = inner s at (ltb-true (at + 1) (length s) e)
 by-next s at h false e = last s at h (ltb-false (at + 1) (length s) e)
 

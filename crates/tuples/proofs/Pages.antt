@@ -114,7 +114,7 @@ module _ (bs : List ℕ) where
     all-added : allGood bs es ≡ true → Ends bs newPage es []
     all-added g = ends es newPage [] g (record { its-at = refl; its-bytes = refl; its-over = refl; small = omega arith })
 
-    -- the page's marks are the two tests
+    -- the page's flags are the two tests
     good-is : (t : Bool) → allGood bs es ≡ t → not (the-page .bad) ≡ t
     good-is true g = ap not (pages-bad bs newPage es) ∙ rw g refl
     good-is false g = ap not (pages-bad bs newPage es) ∙ rw g refl

@@ -5,7 +5,7 @@ use mathlib.Core.List.{List, _∷_, []}
 use lib.ListN.{length, getD, drop}
 use lib.Dec.{ltb, leb, eqb}
 use Rattle.ground.specs.Choice.{pick}
-use Rattle.ground.specs.Rows.{When, Unless, firstOf}
+use Rattle.ground.specs.Rows.{When, Unless, firstOr}
 use Rattle.tuples.specs.declared.Entry.{Entry}
 use Rattle.tuples.specs.declared.chain.Found.{Found}
 use Rattle.tuples.specs.declared.chain.Step.{Step}
@@ -59,13 +59,13 @@ chainAt s at = chainFrom 0 (drop at s) at
 -- one step: what stands at a place
 unfoldable pub stepAt : List ℕ → ℕ → Step
 stepAt s at =
-    firstOf
+    firstOr
     (Unless (ltb at (length s)) Broken
     ∷ When (eqb (getD s at 0) endMark) End
     ∷ When (eqb (getD s at 0) nullCode) Null
     ∷ Unless (leb (at + 2 + getD s (at + 1) 0) (length s)) Broken
     ∷ [])
-    (λ (x : Step). x) (Tuple (entry (getD s at 0) (at + 2) (getD s (at + 1) 0)))
+    (Tuple (entry (getD s at 0) (at + 2) (getD s (at + 1) 0)))
 
 abbrev pub found : Entry → ℕ → Found
 found e n = record { entry = e; next = n }

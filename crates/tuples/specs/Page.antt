@@ -10,7 +10,7 @@ use Rattle.ground.specs.Sizes.{tupleBufferBytes}
 use Rattle.tuples.specs.Chain.{endMark}
 use Rattle.answers.specs.declared.Outcome.{Outcome}
 use Rattle.answers.specs.declared.Outcome.the-variants.{Accepted, Refused}
-use Rattle.ground.specs.Rows.{Unless, firstOf}
+use Rattle.ground.specs.Rows.{Unless, firstOf, firstOr}
 use Rattle.tuples.specs.declared.Entry.{Entry}
 use Rattle.tuples.specs.declared.page.Page.{Page}
 use Rattle.tuples.specs.Read.{unlessRefused}
@@ -30,11 +30,11 @@ withTuple bs w e =
 -- one tuple more; a bad one, or one that goes beyond 255 bytes, sets its flag only, so the flags speak of the whole list
 unfoldable pub addedTo : List ℕ → Page → Entry → Page
 addedTo bs w e =
-    firstOf
+    firstOr
     (Unless (good bs e) (page (w .bytes) (w .at) true (w .over))
     ∷ Unless (leb (w .at + 2 + e .length) mostBytes) (page (w .bytes) (w .at) (w .bad) true)
     ∷ [])
-    (λ (p : Page). p) (withTuple bs w e)
+    (withTuple bs w e)
 
 unfoldable pub pages : List ℕ → Page → List Entry → Page
 pages bs w [] = w

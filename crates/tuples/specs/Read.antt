@@ -4,7 +4,6 @@ use mathlib.Core.Path.{_≡_}
 use mathlib.Core.List.{List, _++_, [], _∷_}
 use lib.ListN.{length, drop}
 use lib.Dec.{leb, eqb}
-use Rattle.ground.specs.Choice.{pick}
 use Rattle.ground.specs.Sizes.{tupleBufferBytes}
 use Rattle.answers.specs.Answers.{outcomeValue, Says}
 use Rattle.answers.specs.declared.Outcome.{Outcome}

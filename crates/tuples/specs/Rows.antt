@@ -6,7 +6,7 @@ use mathlib.Core.List.{List, [], _∷_}
 use lib.ListN.{length, getD}
 use lib.Dec.{eqb, leb, ltb}
 use Rattle.answers.specs.declared.Refusal.the-variants.{TupleBufferLength, ListTooShort, ChainBroken, TupleBad, TuplesTooLong}
-use Rattle.ground.specs.Rows.{Row, When, Unless, firstOf}
+use Rattle.ground.specs.Rows.{Row, When, Unless, firstOr}
 use Rattle.answers.specs.declared.Refusal.{Refusal}
 use Rattle.tuples.specs.declared.Entry.{Entry}
 
@@ -15,8 +15,8 @@ use Rattle.tuples.specs.declared.Entry.{Entry}
 unfoldable pub reachesEnd : ℕ → List ℕ → ℕ → Bool
 reachesEnd zero s at = false
 reachesEnd (suc n) s at =
-    firstOf (Unless (leb at 255) false ∷ When (eqb (getD s at 0) 0xFF) true ∷ When (eqb (getD s at 0) 0x00) (reachesEnd n s (at + 1)) ∷ [])
-    (λ (b : Bool). b) (reachesEnd n s (at + 2 + getD s (at + 1) 0))
+    firstOr (Unless (leb at 255) false ∷ When (eqb (getD s at 0) 0xFF) true ∷ When (eqb (getD s at 0) 0x00) (reachesEnd n s (at + 1)) ∷ [])
+    (reachesEnd n s (at + 2 + getD s (at + 1) 0))
 
 -- 15: "a tuple to be written has code 00H or FFH, or its body lies outside the lent bytes"
 abbrev pub bad : List ℕ → Entry → Bool

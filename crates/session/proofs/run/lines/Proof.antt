@@ -110,8 +110,8 @@ returns c =
 enum-known-access : tie.Need-enum-known-access Inv-loop μ-loop
 enum-known-access c = search needs
 
-answer-requires : tie.Need-answer-requires Inv-loop μ-loop
-answer-requires c κs = c .before .before .before .before .before .before .before .before .loop .inv .5
+access-done-requires : tie.Need-access-done-requires Inv-loop μ-loop
+access-done-requires c κs = c .before .before .before .before .before .before .before .before .loop .inv .5
 
 put-answer-requires : tie.Need-put-answer-requires Inv-loop μ-loop
 put-answer-requires c κs = let c16 = c .before .before .before .before .before .before .before .before .before .before .before .before .before .before .before .before in (c16 .loop .inv .7, c16 .before .hex-table .ensures)
@@ -146,7 +146,7 @@ loop-again c =
     let q = known c4 in
     let l = began q .before .loop in
     let a = began q .before .before .before .before .before .before .before .before .before .before .before .args in
-    let r = c4 .before .before .before .before .before .before .before .before .answer in
+    let r = c4 .before .before .before .before .before .before .before .before .access-done in
     let w = c4 .put-answer in
     let k = r .kept .1 .1 .1 .1 in
     let m = machine (l .core) (l .buffer) (l .store) (l .marks) in
@@ -201,7 +201,7 @@ lines-spec =
     same-length-3
     returns
     enum-known-access
-    answer-requires
+    access-done-requires
     put-answer-requires
     next-requires
     access-length-requires

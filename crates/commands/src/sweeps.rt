@@ -8,7 +8,7 @@ use transfers::Way;
 ghost use mathlib.Core.Path.{_≡_};
 ghost use Rattle.ground.specs.Left.{leaving};
 ghost use Rattle.sectors.specs.Sectors.{storeMarks};
-ghost use Rattle.commands.specs.Runs.{verifyFrom, eraseFrom};
+ghost use Rattle.commands.specs.Sweeps.{verifyFrom, eraseFrom};
 
 // 40H 41H.
 pub(crate) fn verify(state: State, count: u16, marks: &[u8]) -> Core

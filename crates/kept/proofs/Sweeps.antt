@@ -15,7 +15,7 @@ use Rattle.transfers.specs.Ends.{ended}
 use Rattle.transfers.specs.declared.Way.the-variants.{In}
 use Rattle.transfers.specs.Before.{sectorTest, sectorStored, storedBy}
 use Rattle.transfers.specs.Steps.{sectorDone}
-use Rattle.commands.specs.Runs.{unlessFailed, verifyFrom, allFF, eraseFrom}
+use Rattle.commands.specs.Sweeps.{unlessFailed, verifyFrom, allFF, eraseFrom}
 use Rattle.kept.proofs.Registers.{CoreFits}
 use Rattle.kept.proofs.Ends.{Fine, ended-left, done-fine}
 use Rattle.kept.proofs.Steps.{sector-stored}
@@ -26,9 +26,9 @@ erasesOn x n s t k =
     unlessFailed (storedBy x allFF t k .outcome) (λ c. leaving c (storedBy x allFF t k .next)) s
     (eraseFrom n (sectorDone n s) (storedBy x allFF t k .next .store) (storedBy x allFF t k .next .marks))
 
-goes-elim : {A : Type 0} (P : A → Type 0) (t : Tested) (end : Core → A) (s : State) (rest : A) → ((e : End) → P (end (ended e s))) → P rest → P (unlessFailed t end s rest)
-goes-elim P (Passes spot) end s rest f g = g
-goes-elim P (Fails e) end s rest f g = f e
+unless-elim : {A : Type 0} (P : A → Type 0) (t : Tested) (end : Core → A) (s : State) (rest : A) → ((e : End) → P (end (ended e s))) → P rest → P (unlessFailed t end s rest)
+unless-elim P (Passes spot) end s rest f g = g
+unless-elim P (Fails e) end s rest f g = f e
 
 -- what each sector and each end keep, Verify keeps
 pub verify-elim : (I : State → Type 0) (P : Core → Type 0) → ((n : ℕ) (s : State) → I s → I (sectorDone n s)) → ((e : End) (s : State) → I s → P (ended e s)) →
@@ -36,7 +36,7 @@ pub verify-elim : (I : State → Type 0) (P : Core → Type 0) → ((n : ℕ) (s
 unfolding verifyFrom
 verify-elim I P f g zero s marks h = g End.Good s h
 verify-elim I P f g (suc n) s marks h =
-    goes-elim P (sectorTest In s marks) (λ k. k) s (verifyFrom n (sectorDone n s) marks) (λ e. g e s h) (verify-elim I P f g n (sectorDone n s) marks (f n s h))
+    unless-elim P (sectorTest In s marks) (λ k. k) s (verifyFrom n (sectorDone n s) marks) (λ e. g e s h) (verify-elim I P f g n (sectorDone n s) marks (f n s h))
 
 -- … and Erase, with the store and the marks
 pub erase-elim : (I : State → List ℕ → List ℕ → Type 0) (P : Left Core StoreMarks → Type 0) →
@@ -49,7 +49,7 @@ erase-elim I P w f g zero s store marks h = g End.Good s store marks h
 erase-elim I P w f g (suc n) s store marks h =
     let k = sectorStored s allFF store marks in
     let i = w s store marks h in
-    goes-elim P (k .outcome) (λ c. leaving c (k .next)) s (eraseFrom n (sectorDone n s) (k .next .store) (k .next .marks))
+    unless-elim P (k .outcome) (λ c. leaving c (k .next)) s (eraseFrom n (sectorDone n s) (k .next .store) (k .next .marks))
     (λ e. g e s (k .next .store) (k .next .marks) i)
     (erase-elim I P w f g n (sectorDone n s) (k .next .store) (k .next .marks) (f n s (k .next .store) (k .next .marks) i))
 

@@ -1,9 +1,9 @@
 use borrow.Author.Needs.{needs}
 use mathlib.Core.Path.{_≡_, sym, _∙_}
-use Rattle.commands.specs.Runs.{verifyFrom}
+use Rattle.commands.specs.Sweeps.{verifyFrom}
 use Rattle.commands.proofs.Loops.{verify-end, verify-fails, verify-step}
-use Rattle.commands.proofs.runs.verify.Statement.{statement}
-use Rattle.commands.proofs.runs.verify.Tie as tie
+use Rattle.commands.proofs.sweeps.verify.Statement.{statement}
+use Rattle.commands.proofs.sweeps.verify.Tie as tie
 
 abbrev Inv-loop : tie.InvT-loop
 Inv-loop count marks s₀ n₀ s n = verifyFrom n s marks ≡ verifyFrom n₀ s₀ marks

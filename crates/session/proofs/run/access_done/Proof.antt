@@ -2,8 +2,8 @@ use Rattle.card.specs.Access.{askedWith}
 use Rattle.registers.specs.Machine.{machine}
 use Rattle.session.proofs.Verdicts.{steady}
 use borrow.Author.Needs.{needs}
-use Rattle.session.proofs.run.answer.Statement.{statement}
-use Rattle.session.proofs.run.answer.Tie as tie
+use Rattle.session.proofs.run.access_done.Statement.{statement}
+use Rattle.session.proofs.run.access_done.Tie as tie
 
 length-known-requires : tie.Need-length-known-requires
 length-known-requires c κs = search needs
@@ -30,8 +30,8 @@ returns c =
     let m = machine (a .core) (a .buffer .now) (a .store .now) (a .marks .now) in
     steady (a .verdict) m (askedWith (a .access) (a .tuples .now)) _ (c14 .pre) (c8 .count-known .ensures) (c9 .length-known .ensures) (c4 .by-verdict .ensures)
 
-pub answer-spec : {M : Type 1} → statement M
-answer-spec =
+pub access-done-spec : {M : Type 1} → statement M
+access-done-spec =
     tie.close
     (tie.spec
     length-known-requires

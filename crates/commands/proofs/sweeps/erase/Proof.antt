@@ -1,10 +1,10 @@
 use borrow.Author.Needs.{needs}
 use mathlib.Core.Path.{_≡_, sym, _∙_}
 use lib.ListN.{length}
-use Rattle.commands.specs.Runs.{allFF, eraseFrom}
+use Rattle.commands.specs.Sweeps.{allFF, eraseFrom}
 use Rattle.commands.proofs.Loops.{erase-end, erase-fails, erase-step}
-use Rattle.commands.proofs.runs.erase.Statement.{statement}
-use Rattle.commands.proofs.runs.erase.Tie as tie
+use Rattle.commands.proofs.sweeps.erase.Statement.{statement}
+use Rattle.commands.proofs.sweeps.erase.Tie as tie
 
 abbrev Inv-loop : tie.InvT-loop
 Inv-loop count store₀ marks₀ bytes s₀ n₀ store marks s n = (length store ≡ length store₀) × (length marks ≡ length marks₀) × (eraseFrom n s store marks ≡ eraseFrom n₀ s₀ store₀ marks₀)
