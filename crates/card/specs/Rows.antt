@@ -1,6 +1,6 @@
 -- 01, "Answers": the rows of an access and of the two resets' methods, each with its test in 01's words.
--- They share with the card's own definitions what is well made, N, the bits of the option, and the offset that a map gives to an address; the numbers
--- stand here anew.
+-- They share with the card's own definitions what is well made, N, the bits of the option, the offset that a map gives to an address, and `ground`'s
+-- tables and ranges; the numbers stand here anew.
 use Prim.Native.Nat.{ℕ, _*_, _%_}
 use mathlib.Core.Bool.{Bool, true, false, not, _&&_, _||_}
 use mathlib.Core.List.{List, [], _∷_}
@@ -8,8 +8,7 @@ use lib.Dec.{eqb, leb, ltb}
 use lib.ListN.{length}
 use Rattle.ground.specs.Choice.{pick, within}
 use Rattle.ground.specs.Tables.{Numbered, lookup}
-use Rattle.answers.specs.declared.Refusal.the-variants.{NotWellMade, StoreLength, MarksLength, TupleBufferLength}
-use Rattle.answers.specs.declared.Refusal.the-variants.{HeldBySreset, SpaceSilent, NoRegister, WidthOrValue, IndexAboveThree, HalfMoved}
+use Rattle.answers.specs.declared.Refusal.the-variants.{NotWellMade, StoreLength, MarksLength, TupleBufferLength, HeldBySreset, SpaceSilent, NoRegister, WidthOrValue, IndexAboveThree, HalfMoved}
 use Rattle.ground.specs.Rows.{Row, When, Unless}
 use Rattle.answers.specs.declared.Refusal.{Refusal}
 use Rattle.maps.specs.declared.Mode.{Mode}

@@ -8,8 +8,7 @@ ghost use mathlib.Core.Path.{_≡_};
 ghost use Rattle.registers.specs.Machine.{machine};
 ghost use Rattle.port.specs.Data.{effect};
 ghost use Rattle.card.specs.Access.{askedWith};
-ghost use Rattle.card.specs.Step.{fitStep, step};
-ghost use Rattle.card.specs.Step.{byVerdict};
+ghost use Rattle.card.specs.Step.{fitStep, step, byVerdict};
 
 // An access to a card that is known to be well made, with all that is lent of the right length: rows 8, 7, 6, 9, 10, 11, and what it does.
 fn fit_step(

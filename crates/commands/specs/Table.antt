@@ -6,6 +6,7 @@ use lib.Dec.{eqb}
 use lib.ListN.{drop}
 use Rattle.ground.specs.Choice.{pick}
 use Rattle.ground.specs.Left.{Left}
+use Rattle.ground.specs.Sizes.{mostCount}
 use Rattle.ground.specs.Tables.{Numbered, At, Digit, lookup}
 use Rattle.geometry.specs.declared.Sought.{Sought}
 use Rattle.geometry.specs.declared.Reshaped.{Reshaped}
@@ -49,8 +50,8 @@ commandTable =
     ∷ []
 
 -- the rows after these seven, as the code looks them up
-abbrev pub sectorlessRows : List (Numbered Command)
-sectorlessRows = drop 7 commandTable
+abbrev pub sectorlessTable : List (Numbered Command)
+sectorlessTable = drop 7 commandTable
 
 -- the row of an opcode; "others" are all that the table does not name
 unfoldable pub commandOf : ℕ → Command
@@ -62,7 +63,7 @@ started s = withCode 0 (withError 0 s)
 
 -- "Count 0 means 256."
 unfoldable pub countOf : State → ℕ
-countOf s = pick (eqb (s .registers .count) 0) 256 (s .registers .count)
+countOf s = pick (eqb (s .registers .count) 0) mostCount (s .registers .count)
 
 abbrev pub factsOf : State → Facts
 factsOf s = record { default = s .made .default; current = s .current }

@@ -16,11 +16,11 @@ ghost use Rattle.identify.specs.Words.{identifyBytes};
 ghost use Rattle.registers.specs.Machine.{machine};
 ghost use Rattle.transfers.specs.Steps.{idle};
 ghost use Rattle.commands.specs.declared.Command.the-variants.{Other};
-ghost use Rattle.commands.specs.Table.{sectorlessRows, commandOf, started, countOf, factsOf, geometryEnded, diagnosed, soughtEnd, seekEnded, senseEnded, obeyed, commandGiven};
+ghost use Rattle.commands.specs.Table.{sectorlessTable, commandOf, started, countOf, factsOf, geometryEnded, diagnosed, soughtEnd, seekEnded, senseEnded, obeyed, commandGiven};
 
 // The rows after the seven opcodes that move sectors.
 fn sectorless_command(opcode: u8) -> Command
-    ensures { λ r. ⌜ r ≡ lookup sectorlessRows opcode Other ⌝ }
+    ensures { λ r. ⌜ r ≡ lookup sectorlessTable opcode Other ⌝ }
 {
     if opcode == 0xEC {
         return Command::Identify;
@@ -95,7 +95,7 @@ fn count_of(state: State) -> u16
     let registers = state.registers;
     let count = registers.count;
     if count == 0 {
-        return 256;
+        return ground::MOST_COUNT;
     }
     ground::wide(count)
 }

@@ -12,3 +12,7 @@ tupleBufferBytes = 256
 -- the number of a sector's last word
 abbrev pub lastWord : ℕ
 lastWord = 255
+
+-- "Count 0 means 256": the most sectors of a command
+abbrev pub mostCount : ℕ
+mostCount = 256

@@ -16,6 +16,9 @@ pub const TUPLE_BUFFER_BYTES: usize = 256;
 // 01: a sector moves as 256 words; the number of the last.
 pub const LAST_WORD: u16 = 255;
 
+// 01: "Count 0 means 256": the most sectors of a command.
+pub const MOST_COUNT: u16 = 256;
+
 // A byte as a wider number, with its bound.
 pub fn wide(x: u8) -> u16
     ensures { λ r. ⌜ (r ≡ x) × (r < 256) ⌝ }

@@ -14,7 +14,7 @@ use Rattle.registers.specs.State.{runs}
 use Rattle.registers.specs.Machine.{Machine}
 use Rattle.port.specs.declared.Part.{Part}
 use Rattle.port.specs.declared.Fill.{Fill}
-use Rattle.port.specs.declared.Fill.the-variants.{Begun, Whole}
+use Rattle.port.specs.declared.Fill.the-variants.{Begun, Full}
 use Rattle.port.specs.declared.Take.{Take}
 use Rattle.port.specs.Halves.{takeOf}
 use Rattle.port.specs.Data.{takenRead, takenWritten, phaseRead, phaseWritten}
@@ -32,17 +32,17 @@ take-moves : (h : Half) (w : Waiting) (port : Port) (n : ℕ) (b : List ℕ) →
 unfolding takeOf
 take-moves Half.Nothing None Port.Even n b p e = (Part.Low, Begun, refl)
 take-moves Half.Nothing None Port.Odd n b p e = (Part.High, Begun, refl)
-take-moves Half.Nothing None Port.Word n b p e = (Part.Both, Whole, refl)
+take-moves Half.Nothing None Port.Word n b p e = (Part.Both, Full, refl)
 take-moves Half.Nothing (LowByte v) port n b p e = absurd p
 take-moves Half.Nothing (HighByte v) port n b p e = absurd p
 take-moves Half.Low None port n b p e = absurd p
-take-moves Half.Low (LowByte v) Port.Even n b p e = (Part.High, Whole, refl)
-take-moves Half.Low (LowByte v) Port.Odd n b p e = (Part.High, Whole, refl)
+take-moves Half.Low (LowByte v) Port.Even n b p e = (Part.High, Full, refl)
+take-moves Half.Low (LowByte v) Port.Odd n b p e = (Part.High, Full, refl)
 take-moves Half.Low (LowByte v) Port.Word n b p e = absurd (false≢true e)
 take-moves Half.Low (HighByte v) port n b p e = absurd p
 take-moves Half.High None port n b p e = absurd p
 take-moves Half.High (LowByte v) port n b p e = absurd p
-take-moves Half.High (HighByte v) Port.Even n b p e = (Part.Low, Whole, refl)
+take-moves Half.High (HighByte v) Port.Even n b p e = (Part.Low, Full, refl)
 take-moves Half.High (HighByte v) Port.Odd n b p e = absurd (false≢true e)
 take-moves Half.High (HighByte v) Port.Word n b p e = absurd (false≢true e)
 

@@ -12,7 +12,7 @@ use Rattle.registers.specs.declared.Phase.{Phase}
 use Rattle.registers.specs.declared.Phase.the-variants.{Idle, DataIn, DataOut}
 use Rattle.registers.specs.Machine.{Machine, withBuffer}
 use Rattle.port.specs.declared.Part.{Part}
-use Rattle.port.specs.declared.Fill.the-variants.{Begun, Whole}
+use Rattle.port.specs.declared.Fill.the-variants.{Begun, Full}
 use Rattle.port.specs.declared.Take.{Take}
 use Rattle.port.specs.Halves.{takeOf, partValue, withPart, halved, nextWord}
 use Rattle.transfers.specs.Steps.{loadRead, loadWritten, allMoved}
@@ -32,7 +32,7 @@ taken-read : (P : Effect → Type 0) (k : Take) (t : Transfer) (m : Machine) →
 unfolding wordRead
 taken-read P Take.Refused t m r h n l = r
 taken-read P (Take.Moves part Begun) t m r h n l = h _ part
-taken-read P (Take.Moves part Whole) t m r h n l =
+taken-read P (Take.Moves part Full) t m r h n l =
     let v = partValue part (t .words) (m .buffer) in
     pick-elim (λ (x : Machine). P (accepted v x)) (ltb (t .words) 255) _ _ (n v) (λ e. l v)
 
@@ -68,7 +68,7 @@ taken-written : (P : Effect → Type 0) (k : Take) (value : ℕ) (t : Transfer) 
 unfolding wordWritten
 taken-written P Take.Refused value t m r h n l = r
 taken-written P (Take.Moves part Begun) value t m r h n l = h part
-taken-written P (Take.Moves part Whole) value t m r h n l = pick-elim (λ (x : Machine). P (accepted 0 x)) (ltb (t .words) 255) _ _ (n part) (λ e. l part)
+taken-written P (Take.Moves part Full) value t m r h n l = pick-elim (λ (x : Machine). P (accepted 0 x)) (ltb (t .words) 255) _ _ (n part) (λ e. l part)
 
 phase-written-elim : (P : Effect → Type 0) (p : Phase) (port : Port) (value : ℕ) (m : Machine) → P (accepted 0 m) → P (halfMoved m) →
     ((part : Part) (t : Transfer) → p ≡ DataOut t → P (accepted 0 (withPhase (DataOut (halved part t)) (partCome part t value m)))) →

@@ -24,7 +24,7 @@ use Rattle.registers.specs.declared.Phase.the-variants.{Idle, DataIn, DataOut}
 use Rattle.registers.specs.declared.State.{State}
 use Rattle.registers.specs.State.{locatedIn}
 use Rattle.registers.specs.Machine.{Machine}
-use Rattle.port.specs.declared.Fill.the-variants.{Begun, Whole}
+use Rattle.port.specs.declared.Fill.the-variants.{Begun, Full}
 use Rattle.port.specs.declared.Take.{Take}
 use Rattle.commands.specs.declared.Command.{Command}
 use Rattle.commands.specs.declared.Command.the-variants.{Read, Write, Verify, Erase, Identify, ReadBuffer, WriteBuffer, SetGeometry, Diagnose, Recalibrate, Seek, Sense, Other}
@@ -106,7 +106,7 @@ load-one (Sectors left) bytes m = sector-one (locatedIn (m .state)) (m .marks) b
 taken-one : (k : Take) (v : ℕ) (t : Transfer) (m : Machine) → AtMost 1 (takenChanges k v t m)
 taken-one Take.Refused v t m = omega arith
 taken-one (Take.Moves part Begun) v t m = omega arith
-taken-one (Take.Moves part Whole) v t m = pick-elim (AtMost 1) (ltb (t .words) 255) _ _ (λ e. omega arith) (λ e. load-one (t .load) (withPart part (t .words) v (m .buffer)) m)
+taken-one (Take.Moves part Full) v t m = pick-elim (AtMost 1) (ltb (t .words) 255) _ _ (λ e. omega arith) (λ e. load-one (t .load) (withPart part (t .words) v (m .buffer)) m)
 
 phase-one : (p : Phase) (port : Port) (v : ℕ) (m : Machine) → AtMost 1 (phaseChanges p port v m)
 phase-one Idle port v m = omega arith

@@ -27,7 +27,7 @@ use Rattle.registers.specs.declared.State.{State}
 use Rattle.registers.specs.State.{totalIn, locatedIn}
 use Rattle.registers.specs.Machine.{Machine}
 use Rattle.registers.specs.WellMade.{wellMade}
-use Rattle.port.specs.declared.Fill.the-variants.{Begun, Whole}
+use Rattle.port.specs.declared.Fill.the-variants.{Begun, Full}
 use Rattle.port.specs.declared.Take.{Take}
 use Rattle.commands.specs.declared.Command.{Command}
 use Rattle.commands.specs.declared.Command.the-variants.{Read, Write, Verify, Erase, Identify, ReadBuffer, WriteBuffer, SetGeometry, Diagnose, Recalibrate, Seek, Sense, Other}
@@ -89,7 +89,7 @@ of-load (Sectors left) bytes m c b =
 of-taken : (k : Take) (v : ℕ) (t : Transfer) (m : Machine) → currentFor (m .state .current) (totalIn (m .state)) ≡ true → length (m .buffer) ≡ 512 → WholeSectors (totalIn (m .state)) (takenChanges k v t m)
 of-taken Take.Refused v t m c b = tt
 of-taken (Take.Moves part Begun) v t m c b = tt
-of-taken (Take.Moves part Whole) v t m c b =
+of-taken (Take.Moves part Full) v t m c b =
     pick-elim (WholeSectors (totalIn (m .state))) (ltb (t .words) 255) _ _ (λ e. tt)
     (λ e. of-load (t .load) (withPart part (t .words) v (m .buffer)) m c (part-length part (t .words) v (m .buffer) ∙ b))
 

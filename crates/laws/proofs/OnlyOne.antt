@@ -8,7 +8,7 @@ use Rattle.answers.specs.declared.Outcome.{Outcome}
 use Rattle.sectors.specs.Sectors.{StoreMarks, storeMarks}
 use Rattle.registers.specs.declared.Core.{Core}
 use Rattle.registers.specs.State.{lineOf}
-use Rattle.registers.specs.Machine.{Machine, machine}
+use Rattle.registers.specs.Machine.{Machine, machine, coreOf}
 use Rattle.port.specs.declared.Done.{Done}
 use Rattle.port.specs.Data.{Effect, effect}
 use Rattle.card.specs.declared.Card.{Card}
@@ -21,10 +21,7 @@ only-store-marks d s s′ m m′ p q =
     let e = only-one d (storeMarks s m) (storeMarks s′ m′) p q in
     (ap (λ (k : StoreMarks). k .store) e, ap (λ (k : StoreMarks). k .marks) e)
 
--- the result is read back from the whole: its core, or its card, has the phase, the state and the buffer of the machine
-abbrev coreIn : Machine → Core
-coreIn m = record { phase = m .phase; state = m .state }
-
+-- the card is read back from the machine
 abbrev cardIn : Machine → Card
 cardIn m = record { phase = m .phase; state = m .state; buffer = m .buffer }
 
@@ -35,7 +32,7 @@ lent x y e = (ap (λ (n : Machine). n .buffer) e, ap (λ (n : Machine). n .store
 pub only-machine : (d : Machine) (c c′ : Core) (b b′ s s′ m m′ : List ℕ) → machine c b s m ≡ d → machine c′ b′ s′ m′ ≡ d → (c ≡ c′) × SameLent b b′ s s′ m m′
 only-machine d c c′ b b′ s s′ m m′ p q =
     let e = only-one d (machine c b s m) (machine c′ b′ s′ m′) p q in
-    (ap coreIn e, lent (machine c b s m) (machine c′ b′ s′ m′) e)
+    (ap coreOf e, lent (machine c b s m) (machine c′ b′ s′ m′) e)
 
 -- by `only-left`, and the parts of the machine
 pub only-effect : (d : Effect) (r r′ : Done) (b b′ s s′ m m′ : List ℕ) → effect r b s m ≡ d → effect r′ b′ s′ m′ ≡ d → (r ≡ r′) × SameLent b b′ s s′ m m′

@@ -11,7 +11,7 @@ use Rattle.maps.specs.declared.Register.the-variants.{StatusCommand}
 use Rattle.registers.specs.declared.Phase.{Phase}
 use Rattle.registers.specs.declared.Phase.the-variants.{Idle, DataIn, DataOut}
 use Rattle.registers.specs.declared.State.{State}
-use Rattle.laws.specs.Bits.{statusIdle, statusData, statusError, statusWriteFault}
+use Rattle.laws.specs.Bits.{statusIdle, statusData, statusError, statusWriteFault, bsy, rdy, dwf, dsc, drq, err}
 use Rattle.registers.specs.State.{sresetIn, runs}
 use Rattle.registers.specs.Machine.{Machine}
 use Rattle.registers.specs.WellMade.{atRest, statusFits, inReset, holdFits, wellMade}
@@ -23,7 +23,6 @@ use Rattle.card.specs.Perform.{perform}
 use Rattle.card.specs.Step.{step}
 use Rattle.kept.proofs.Registers.{apart}
 use Rattle.laws.specs.Coded.{inError}
-use Rattle.laws.specs.Bits.{bsy, rdy, dwf, dsc, drq, err}
 use Rattle.laws.proofs.Meant.{well-meant}
 
 -- what holds of each of the four, with whether a transfer runs, holds of Status

@@ -7,7 +7,7 @@ use Rattle.ground.specs.Choice.{pick}
 use Rattle.maps.specs.declared.Register.the-variants.{AlternateControl}
 use Rattle.registers.specs.declared.Phase.{Phase}
 use Rattle.registers.specs.declared.Phase.the-variants.{Idle, DataIn, DataOut}
-use Rattle.laws.specs.Bits.{statusIdle}
+use Rattle.laws.specs.Bits.{statusIdle, bitSeven, bitTwo}
 use Rattle.registers.specs.Machine.{Machine}
 use Rattle.registers.specs.State.{runs}
 use Rattle.registers.specs.Resets.{restStatus, turnOf, optionTurned, bufferTurned, controlTurned}
@@ -16,7 +16,6 @@ use Rattle.card.specs.declared.Meaning.the-variants.{WriteOption, WriteRegister
 use Rattle.card.specs.Access.{Asked, meaning}
 use Rattle.card.specs.Perform.{optionWritten, registerWritten, perform}
 use Rattle.card.specs.Step.{step}
-use Rattle.laws.specs.Bits.{bitSeven, bitTwo}
 use Rattle.laws.specs.Turns.{sresetEntered, sresetLeft, settingTaken, controlEntered, controlLeft, maskTaken}
 use Rattle.laws.proofs.Meant.{step-by}
 

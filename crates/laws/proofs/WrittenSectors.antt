@@ -20,7 +20,7 @@ use Rattle.registers.specs.State.{locatedIn}
 use Rattle.registers.specs.Machine.{Machine, withBuffer}
 use Rattle.transfers.specs.declared.End.the-variants.{WriteFault}
 use Rattle.transfers.specs.declared.Tested.the-variants.{Passes, Fails}
-use Rattle.port.specs.declared.Fill.the-variants.{Begun, Whole}
+use Rattle.port.specs.declared.Fill.the-variants.{Begun, Full}
 use Rattle.port.specs.declared.Take.{Take}
 use Rattle.transfers.specs.Before.{testedOf, addressTest, markTested, sectorTest, storedBy, sectorStored}
 use Rattle.transfers.specs.Steps.{loadWritten, allMoved}
@@ -58,7 +58,7 @@ taken-written : (k : Take) (v : ℕ) (t : Transfer) (m : Machine) → storeMarks
 unfolding changed wordWritten
 taken-written Take.Refused v t m = refl
 taken-written (Take.Moves part Begun) v t m = refl
-taken-written (Take.Moves part Whole) v t m = by-word (ltb (t .words) 255) (t .load) (withPart part (t .words) v (m .buffer)) m _ refl
+taken-written (Take.Moves part Full) v t m = by-word (ltb (t .words) 255) (t .load) (withPart part (t .words) v (m .buffer)) m _ refl
 
 pub phase-written : (p : Phase) (port : Port) (v : ℕ) (m : Machine) → storeMarksIn (phaseWritten p port v m .next) ≡ changed (phaseChanges p port v m) (storeMarksIn m)
 unfolding changed

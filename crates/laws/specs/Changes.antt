@@ -26,7 +26,7 @@ use Rattle.registers.specs.declared.Phase.the-variants.{Idle, DataIn, DataOut}
 use Rattle.registers.specs.declared.State.{State}
 use Rattle.registers.specs.State.{totalIn, locatedIn}
 use Rattle.registers.specs.Machine.{Machine}
-use Rattle.port.specs.declared.Fill.the-variants.{Begun, Whole}
+use Rattle.port.specs.declared.Fill.the-variants.{Begun, Full}
 use Rattle.port.specs.declared.Take.{Take}
 use Rattle.commands.specs.declared.Command.{Command}
 use Rattle.commands.specs.declared.Command.the-variants.{Read, Write, Verify, Erase, Identify, ReadBuffer, WriteBuffer, SetGeometry, Diagnose, Recalibrate, Seek, Sense, Other}
@@ -98,7 +98,7 @@ loadChanges (Sectors left) bytes m = sectorChanges (locatedIn (m .state)) (m .ma
 abbrev pub takenChanges : Take → ℕ → Transfer → Machine → List Change
 takenChanges Take.Refused v t m = []
 takenChanges (Take.Moves part Begun) v t m = []
-takenChanges (Take.Moves part Whole) v t m = pick (ltb (t .words) lastWord) [] (loadChanges (t .load) (withPart part (t .words) v (m .buffer)) m)
+takenChanges (Take.Moves part Full) v t m = pick (ltb (t .words) lastWord) [] (loadChanges (t .load) (withPart part (t .words) v (m .buffer)) m)
 
 abbrev pub phaseChanges : Phase → Port → ℕ → Machine → List Change
 phaseChanges Idle port v m = []

@@ -14,7 +14,6 @@ use Rattle.maps.specs.declared.Target.the-variants.{Named}
 use Rattle.maps.specs.declared.Standing.the-variants.{There}
 use Rattle.maps.specs.Rows.{standsAt}
 use Rattle.registers.specs.declared.State.{State}
-use Rattle.registers.specs.State.{indexIn}
 use Rattle.card.specs.declared.Meaning.{Meaning}
 use Rattle.card.specs.declared.Meaning.the-variants.{WriteOption, WriteRegister}
 use Rattle.card.specs.Access.{Asked, askedWith}
@@ -36,7 +35,7 @@ controlAddress TrueIde index = 0x16
 
 abbrev pub controlAccess : ℕ → State → List ℕ → Asked
 controlAccess v s tuples =
-    let index = indexIn (s .option) in
+    let index = indexBits (s .option) in
     askedWith (record { space = controlSpace (s .made .mode) index; width = 1; address = controlAddress (s .made .mode) index; value = v; write = true }) tuples
 
 -- what the methods mean to a well-made card: 7 in True IDE mode, where attribute memory does not answer, 10, else the write; 8 while SRESET holds, else the write
@@ -49,4 +48,4 @@ controlMeaning sreset v = firstOf (When sreset HeldBySreset ∷ []) Meaning.Refu
 -- a byte write that reaches Device Control, were the card not held by SRESET
 pub record Reaches (s : State) (a : Asked) : Type 0 where
   pub write : a .access .write ≡ true
-  pub stands : standsAt (s .made .mode) (indexIn (s .option)) (a .access) ≡ There (Named AlternateControl)
+  pub stands : standsAt (s .made .mode) (indexBits (s .option)) (a .access) ≡ There (Named AlternateControl)

@@ -7,9 +7,10 @@ use Rattle.maps.specs.Offsets.{Offset, offsetAt}
 use Rattle.maps.specs.declared.Port.{Port}
 use Rattle.maps.specs.declared.Register.{Register}
 use Rattle.maps.specs.declared.Register.the-variants.{ErrorFeature, SectorCount, SectorNumber, CylinderLow, CylinderHigh, DriveHead, StatusCommand, AlternateControl, DriveAddress}
-use Rattle.registers.specs.State.{withInterrupt, indexIn}
+use Rattle.registers.specs.State.{withInterrupt}
 use Rattle.registers.specs.Machine.{Machine, core, withCore}
 use Rattle.card.specs.Access.{Asked}
+use Rattle.laws.specs.Bits.{indexBits}
 
 -- "While DRQ is set, writes to 1..6 and D have no effect.": Error/Feature stands at 1 and D
 abbrev pub blocked : Register → Bool
@@ -39,10 +40,13 @@ lostInHold DriveAddress = true
 abbrev pub byteInHold : ℕ
 byteInHold = 0x80
 
+abbrev pub wordInHold : ℕ
+wordInHold = 0x8080
+
 abbrev pub dataInHold : Port → ℕ
 dataInHold Port.Even = byteInHold
 dataInHold Port.Odd = byteInHold
-dataInHold Port.Word = 0x8080
+dataInHold Port.Word = wordInHold
 
 -- the interrupt mark is "cleared … by reading Status"; nothing else changes by reading a register
 abbrev pub interruptCleared : Machine → Machine
@@ -62,7 +66,7 @@ afterReading DriveAddress m = m
 -- ---- the same by the offset that an access reaches in the card's map, and by its width
 
 abbrev pub offsetOf : Machine → Asked → Offset
-offsetOf m a = offsetAt (a .access .space) (indexIn (m .state .option)) (a .access .address)
+offsetOf m a = offsetAt (a .access .space) (indexBits (m .state .option)) (a .access .address)
 
 -- "writes to 1..6 and D"
 abbrev pub blockedAt : ℕ → Bool
@@ -70,4 +74,4 @@ blockedAt offset = pick (eqb offset 0xD) true (pick (leb 1 offset) (leb offset 6
 
 -- an access of width 1 is a byte's, one of width 2 a data word's
 abbrev pub readInHold : ℕ → ℕ
-readInHold width = pick (eqb width 2) 0x8080 byteInHold
+readInHold width = pick (eqb width 2) wordInHold byteInHold

@@ -4,11 +4,10 @@ use mathlib.Core.Path.{_≡_}
 use mathlib.Core.Bool.{Bool, true, false, not, _&&_, _||_}
 use lib.Dec.{eqb}
 use Rattle.registers.specs.declared.State.{State}
-use Rattle.laws.specs.Bits.{statusIdle, statusData}
+use Rattle.laws.specs.Bits.{statusIdle, statusData, bitSeven, bitTwo}
 use Rattle.commands.specs.declared.Command.{Command}
 use Rattle.commands.specs.declared.Command.the-variants.{Read, Write, Verify, Erase, Identify, ReadBuffer, WriteBuffer, SetGeometry, Diagnose, Recalibrate, Seek, Sense, Other}
 use Rattle.laws.specs.Acts.{Act, StatusRead, CommandWrite, ControlWrite, OptionWrite, DataRead, DataWrite, NoMatter}
-use Rattle.laws.specs.Bits.{bitSeven, bitTwo}
 
 -- ---- what a host sees
 

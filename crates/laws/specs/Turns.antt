@@ -7,7 +7,7 @@ use Rattle.answers.specs.declared.Outcome.{Outcome}
 use Rattle.maps.specs.declared.Register.{Register}
 use Rattle.maps.specs.declared.Register.the-variants.{ErrorFeature, SectorCount, SectorNumber, CylinderLow, CylinderHigh, DriveHead, StatusCommand, AlternateControl, DriveAddress}
 use Rattle.registers.specs.declared.State.{State}
-use Rattle.laws.specs.Bits.{statusIdle}
+use Rattle.laws.specs.Bits.{statusIdle, bitOne}
 use Rattle.registers.specs.State.{runs, withStatus, withInterrupt, withOption, withControl}
 use Rattle.registers.specs.Machine.{Machine, core, withCore}
 use Rattle.transfers.specs.Steps.{idleWith}
@@ -17,7 +17,6 @@ use Rattle.card.specs.Access.{Asked, meaning}
 use Rattle.card.specs.Step.{step}
 use Rattle.card.specs.Opening.{powered}
 use Rattle.card.specs.Doors.{machineOf}
-use Rattle.laws.specs.Bits.{bitOne}
 
 -- the card that the opening made, at power-on
 abbrev pub poweredOf : Machine → Card

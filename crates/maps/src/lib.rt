@@ -1,4 +1,4 @@
-// 01, "Maps": from space, index, address, width and value to what an access means, or its refusal.
+// 01, "Maps": from space, index, address, width and value to what an access finds, or its refusal.
 // Spaces: 0 attribute, 1 memory, 2 I/O, 3 True IDE.
 use answers::Refusal;
 

@@ -16,7 +16,7 @@ use Rattle.registers.specs.Status.{busyStatus}
 use Rattle.registers.specs.Machine.{Machine, machine, core, withCore, withBuffer}
 use Rattle.port.specs.declared.Part.{Part}
 use Rattle.port.specs.declared.Fill.{Fill}
-use Rattle.port.specs.declared.Fill.the-variants.{Begun, Whole}
+use Rattle.port.specs.declared.Fill.the-variants.{Begun, Full}
 use Rattle.port.specs.declared.Take.{Take}
 use Rattle.port.specs.declared.Done.{Done}
 use Rattle.port.specs.Halves.{takeOf, partValue, withPart, halved, nextWord}
@@ -46,7 +46,7 @@ wordRead t m = pick (ltb (t .words) lastWord) (withPhase (DataIn (nextWord t)) m
 
 -- a part has gone: the word is whole, or begun
 abbrev pub partRead : Fill → Part → Transfer → Machine → Machine
-partRead Whole part t m = wordRead t m
+partRead Full part t m = wordRead t m
 partRead Begun part t m = withPhase (DataIn (halved part t)) m
 
 abbrev pub takenRead : Take → Transfer → Machine → Effect
@@ -83,7 +83,7 @@ wordWritten t m = pick (ltb (t .words) lastWord) (withPhase (DataOut (nextWord t
 
 -- a part has come: the word is whole, or begun
 abbrev pub partWritten : Fill → Part → Transfer → Machine → Machine
-partWritten Whole part t m = wordWritten t m
+partWritten Full part t m = wordWritten t m
 partWritten Begun part t m = withPhase (DataOut (halved part t)) m
 
 -- "Read sectors, Identify and writes pass through the same buffer, a written byte at once"

@@ -7,7 +7,7 @@ use Rattle.registers.specs.declared.Half.{Half}
 use Rattle.registers.specs.declared.Transfer.{Transfer}
 use Rattle.port.specs.declared.Part.{Part}
 use Rattle.port.specs.declared.Part.the-variants.{Low, High, Both}
-use Rattle.port.specs.declared.Fill.the-variants.{Begun, Whole}
+use Rattle.port.specs.declared.Fill.the-variants.{Begun, Full}
 use Rattle.port.specs.declared.Take.{Take}
 use Rattle.port.specs.declared.Take.the-variants.{Refused, Moves}
 
@@ -24,11 +24,11 @@ highAt words = 2 * words + 1
 unfoldable pub takeOf : Half → Port → Take
 takeOf Half.Nothing Port.Even = Moves Low Begun
 takeOf Half.Nothing Port.Odd = Moves High Begun
-takeOf Half.Nothing Port.Word = Moves Both Whole
-takeOf Half.Low Port.Even = Moves High Whole
-takeOf Half.Low Port.Odd = Moves High Whole
+takeOf Half.Nothing Port.Word = Moves Both Full
+takeOf Half.Low Port.Even = Moves High Full
+takeOf Half.Low Port.Odd = Moves High Full
 takeOf Half.Low Port.Word = Refused
-takeOf Half.High Port.Even = Moves Low Whole
+takeOf Half.High Port.Even = Moves Low Full
 takeOf Half.High Port.Odd = Refused
 takeOf Half.High Port.Word = Refused
 

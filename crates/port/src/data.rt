@@ -61,7 +61,7 @@ fn part_read(
                 state: state,
             }
         }
-        Fill::Whole => word_read(state, transfer, buffer, store, marks),
+        Fill::Full => word_read(state, transfer, buffer, store, marks),
     }
 }
 
@@ -167,7 +167,7 @@ fn part_written(
                 state: state,
             }
         }
-        Fill::Whole => word_written(state, transfer, buffer, store, marks),
+        Fill::Full => word_written(state, transfer, buffer, store, marks),
     }
 }
 

@@ -21,15 +21,15 @@ pub(crate) fn take_of(half: Half, port: Port) -> Take
         Half::Nothing => match port {
             Port::Even => Take::Moves(Part::Low, Fill::Begun),
             Port::Odd => Take::Moves(Part::High, Fill::Begun),
-            Port::Word => Take::Moves(Part::Both, Fill::Whole),
+            Port::Word => Take::Moves(Part::Both, Fill::Full),
         },
         Half::Low => match port {
-            Port::Even => Take::Moves(Part::High, Fill::Whole),
-            Port::Odd => Take::Moves(Part::High, Fill::Whole),
+            Port::Even => Take::Moves(Part::High, Fill::Full),
+            Port::Odd => Take::Moves(Part::High, Fill::Full),
             Port::Word => Take::Refused, // a word begun halfway
         },
         Half::High => match port {
-            Port::Even => Take::Moves(Part::Low, Fill::Whole),
+            Port::Even => Take::Moves(Part::Low, Fill::Full),
             Port::Odd => Take::Refused,
             Port::Word => Take::Refused,
         },

@@ -14,10 +14,10 @@ pub enum Part {
     Both,
 }
 
-// What becomes of the word with that part: it is begun, or whole.
+// What becomes of the word with that part: it is begun, or full.
 pub enum Fill {
     Begun,
-    Whole,
+    Full,
 }
 
 // Whether a part may move: it is refused, or it moves, with what becomes of the word.

@@ -4,7 +4,8 @@ use mathlib.Core.Bool.{Bool, true, not}
 use mathlib.Core.List.{[], _∷_}
 use lib.Dec.{leb, eqb}
 use Rattle.ground.specs.Choice.{pick, every}
-use Rattle.ground.specs.Sizes.{lastWord}
+use Rattle.ground.specs.Rows.{When, firstOr}
+use Rattle.ground.specs.Sizes.{lastWord, mostCount}
 use Rattle.geometry.specs.Limits.{fits, currentFor}
 use Rattle.geometry.specs.Address.{validAddress}
 use Rattle.maps.specs.declared.Mode.{Mode}
@@ -28,7 +29,7 @@ sresetFits TrueIde option = not (sresetIn option)
 
 -- Status is 58H exactly while a transfer runs, else 50H, 51H or 71H
 unfoldable pub atRest : ℕ → Bool
-atRest status = pick (eqb status idleStatus) true (pick (eqb status errorStatus) true (eqb status faultStatus))
+atRest status = firstOr (When (eqb status idleStatus) true ∷ When (eqb status errorStatus) true ∷ []) (eqb status faultStatus)
 
 unfoldable pub statusFits : Phase → ℕ → Bool
 statusFits Idle status = atRest status
@@ -56,7 +57,7 @@ sectorsFit left s =
     every
     (validAddress (locatedIn s)
     ∷ leb 1 left
-    ∷ leb left 256
+    ∷ leb left mostCount
     ∷ eqb (left % 256) (s .registers .count)
     ∷ [])
 

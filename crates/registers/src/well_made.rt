@@ -99,7 +99,7 @@ impl State {
         if left < 1 {
             return false;
         }
-        if 256 < left {
+        if ground::MOST_COUNT < left {
             return false;
         }
         let registers = self.registers;

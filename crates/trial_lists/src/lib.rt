@@ -10,6 +10,9 @@ ghost use Rattle.answers.specs.Answers.{outcomeValue, refused};
 ghost use Rattle.tuples.specs.Write.{Writes};
 ghost use Rattle.trial_lists.specs.Lists.{countedAs, HandedAfter, made, lastPlace, WritesBack};
 
+// The places of the longest list.
+const MOST_PLACES: usize = 256;
+
 // An entry, with the answer of the reading that handed it out.
 pub struct Handed {
     pub outcome: Outcome,
@@ -20,9 +23,9 @@ pub struct Handed {
 pub fn read_into(buffer: &[u8], places: usize, before: Entry, number: usize) -> Handed
     ensures { λ r. ⌜ HandedAfter (now (buffer .entry)) places before number r ⌝ }
 {
-    let n = ground::at_most(places, 256);
+    let n = ground::at_most(places, MOST_PLACES);
     let place = ground::at_most(number, 255);
-    let mut list = [before; 256];
+    let mut list = [before; MOST_PLACES];
     let outcome = read::read_tuples(buffer, &mut list[..n]);
     let entry = list[place];
     Handed {
@@ -66,7 +69,7 @@ pub fn write_back(buffer: &[u8], out: &mut [u8]) -> Outcome
 fn last_place(count: usize) -> usize
     ensures { λ r. ⌜ (r ≡ lastPlace (countedAs count)) × (r ≤ 255) ⌝ }
 {
-    let n = ground::at_most(count, 256);
+    let n = ground::at_most(count, MOST_PLACES);
     if n == 0 {
         return 255;
     }
@@ -77,9 +80,9 @@ fn last_place(count: usize) -> usize
 pub fn write_made(first: Entry, last: Entry, count: usize, bodies: &[u8], out: &mut [u8]) -> Outcome
     ensures { λ r. ⌜ Writes (now (bodies .entry)) (made (countedAs count) first last) (now (out .entry)) r (now (out .exit)) ⌝ }
 {
-    let n = ground::at_most(count, 256);
+    let n = ground::at_most(count, MOST_PLACES);
     let k = last_place(count);
-    let mut list = [first; 256];
+    let mut list = [first; MOST_PLACES];
     list[k] = last;
     write::write_tuples(&list[..n], bodies, out)
 }

@@ -48,9 +48,12 @@ chainFrom k [] at = stop false
 chainFrom (suc k) (b ∷ r) at = chainFrom k r (at + 1)
 chainFrom zero (b ∷ []) at = stop (eqb b endMark)
 chainFrom zero (b ∷ (n ∷ r)) at =
-    pick (eqb b endMark) (stop true)
-    (pick (eqb b nullCode) (chainFrom zero (n ∷ r) (at + 1))
-    (pick (leb n (length r)) (grow (entry b (at + 2) n) (chainFrom n r (at + 2))) (stop false)))
+    firstOr
+    (When (eqb b endMark) (stop true)
+    ∷ When (eqb b nullCode) (chainFrom zero (n ∷ r) (at + 1))
+    ∷ Unless (leb n (length r)) (stop false)
+    ∷ [])
+    (grow (entry b (at + 2) n) (chainFrom n r (at + 2)))
 
 -- the chain from a place of a buffer on
 abbrev pub chainAt : List ℕ → ℕ → Chain

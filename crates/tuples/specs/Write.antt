@@ -11,7 +11,7 @@ use Rattle.answers.specs.Answers.{Says}
 use Rattle.answers.specs.declared.Outcome.{Outcome}
 use Rattle.answers.specs.declared.Outcome.the-variants.{Accepted, Refused}
 use Rattle.answers.specs.declared.Refusal.the-variants.{TupleBufferLength, TuplesTooLong, TupleBad}
-use Rattle.ground.specs.Rows.{Row, Unless, firstOf}
+use Rattle.ground.specs.Rows.{Row, When, Unless, firstOf, firstOr}
 use Rattle.answers.specs.declared.Refusal.{Refusal}
 use Rattle.tuples.specs.declared.Entry.{Entry}
 use Rattle.tuples.specs.Chain.{nullCode, endMark}
@@ -23,7 +23,8 @@ bodyOf bs e = take (e .length) (drop (e .start) bs)
 
 -- not "a tuple to be written has code 00H or FFH, or its body lies outside the lent bytes"
 unfoldable pub good : List ℕ → Entry → Bool
-good bs e = pick (eqb (e .code) nullCode) false (pick (eqb (e .code) endMark) false (leb (e .start + e .length) (length bs)))
+good bs e =
+    firstOr (When (eqb (e .code) nullCode) false ∷ When (eqb (e .code) endMark) false ∷ []) (leb (e .start + e .length) (length bs))
 
 unfoldable pub allGood : List ℕ → List Entry → Bool
 allGood bs es = every (map (good bs) es)
