@@ -6,7 +6,6 @@ use mathlib.Core.List.{List, [], _∷_}
 use lib.Dec.{ltb}
 use lib.ListN.{length, getD, replicate}
 use Rattle.ground.specs.Choice.{pick}
-use Rattle.ground.specs.Sizes.{sectorBytes, lastWord}
 use Rattle.geometry.specs.declared.Address.{Address}
 use Rattle.geometry.specs.declared.Geometry.{Geometry}
 use Rattle.geometry.specs.declared.Located.{Located}
@@ -35,6 +34,13 @@ use Rattle.commands.specs.Table.{countOf, commandOf}
 use Rattle.card.specs.declared.Meaning.{Meaning}
 use Rattle.card.specs.declared.Meaning.the-variants.{TupleByte, ReadOption, WriteOption, ReadRegister, WriteRegister, ReadData, WriteData}
 
+-- "the 512-byte buffer", "A sector moves as 256 words", from 01 anew: a law that took the card's sizes would not speak against wrong ones
+abbrev pub bytesInSector : ℕ
+bytesInSector = 512
+
+abbrev pub lastWordNumber : ℕ
+lastWordNumber = 255
+
 -- a sector and its 512 bytes
 pub record Change : Type 0 where
   pub index : ℕ
@@ -48,7 +54,7 @@ changed (c ∷ l) k = changed l (stored (k .store) (k .marks) (c .index) (c .byt
 -- each is one of the card's sectors, and whole
 abbrev pub WholeSectors : ℕ → List Change → Type 0
 WholeSectors total [] = Unit {0}
-WholeSectors total (c ∷ l) = (c .index < total) × (length (c .bytes) ≡ sectorBytes) × WholeSectors total l
+WholeSectors total (c ∷ l) = (c .index < total) × (length (c .bytes) ≡ bytesInSector) × WholeSectors total l
 
 -- the sector of an address, where there is one and its mark lets it be written, and what comes after it
 abbrev pub sectorChanges : Located → List ℕ → List ℕ → List Change → List Change
@@ -60,7 +66,7 @@ sectorChanges BadLba marks bytes rest = []
 -- C0H: sector after sector, until none is left or one cannot be written
 unfoldable pub erasures : ℕ → Address → Geometry → ℕ → List ℕ → List Change
 erasures zero a g total marks = []
-erasures (suc n) a g total marks = sectorChanges (locate a g total) marks (replicate sectorBytes 0xFF) (erasures n (nextOf a g) g total marks)
+erasures (suc n) a g total marks = sectorChanges (locate a g total) marks (replicate bytesInSector 0xFF) (erasures n (nextOf a g) g total marks)
 
 abbrev pub commandChanges : Command → State → List ℕ → List Change
 commandChanges Read s marks = []
@@ -98,7 +104,7 @@ loadChanges (Sectors left) bytes m = sectorChanges (locatedIn (m .state)) (m .ma
 abbrev pub takenChanges : Take → ℕ → Transfer → Machine → List Change
 takenChanges Take.Refused v t m = []
 takenChanges (Take.Moves part Begun) v t m = []
-takenChanges (Take.Moves part Full) v t m = pick (ltb (t .words) lastWord) [] (loadChanges (t .load) (withPart part (t .words) v (m .buffer)) m)
+takenChanges (Take.Moves part Full) v t m = pick (ltb (t .words) lastWordNumber) [] (loadChanges (t .load) (withPart part (t .words) v (m .buffer)) m)
 
 abbrev pub phaseChanges : Phase → Port → ℕ → Machine → List Change
 phaseChanges Idle port v m = []
