@@ -1,4 +1,5 @@
 """The card's words (document 01, "Maps", "Registers", "Commands", "Answers"): what stands where, and what it is called."""
+from . import opcodes
 
 SPACE_NAMES = ("attribute", "memory", "I/O", "True IDE")
 MODES = {0: "PC Card", 1: "True IDE"}
@@ -74,24 +75,6 @@ CODES = {
     **dict.fromkeys((0x0C, 0x38, 0x3B, 0x3C, 0x3F), "Corrupted Media Format"),
 }
 
-COMMANDS = {
-    0x03: "Request Sense",
-    0x20: "Read Sectors",
-    0x21: "Read Sectors",
-    0x30: "Write Sectors",
-    0x31: "Write Sectors",
-    0x40: "Read Verify Sectors",
-    0x41: "Read Verify Sectors",
-    0x90: "Execute Drive Diagnostic",
-    0x91: "Initialize Drive Parameters",
-    0xC0: "Erase Sectors",
-    0xE4: "Read Buffer",
-    0xE8: "Write Buffer",
-    0xEC: "Identify Drive",
-    **dict.fromkeys(range(0x10, 0x20), "Recalibrate"),
-    **dict.fromkeys(range(0x70, 0x80), "Seek"),
-}
-
 
 def offset_of(space, index, address):
     """The offset of an address in the map of its space and index; None where the map has none."""
@@ -121,7 +104,9 @@ def register_name(offset, write):
 
 
 def command_name(code):
-    return COMMANDS.get(code, "no command of the card")
+    """The name of an opcode's command, as the table that decides has it."""
+    name = opcodes.command_names()[code]
+    return "no command of the card" if name == opcodes.OTHERS else name
 
 
 def access_words(access, spaces):

@@ -6,8 +6,8 @@ Up to the next `;`, a place holds for the names in backticks after it:
     crate/proofs/File     crates/crate/proofs/File.antt
     crate/src/file        crates/crate/src/file.rt
 
-A name is a definition, law, record, field or case that begins its own line there, in code a function (`T::f` in an `impl T`), enum, struct or
-variant. Words after it, as in `obeyed Sense`, stand in its text. A name with no place before it is a crate or a path from the root.
+A name is a definition, law, record, field or case that begins its own line there, in code a function (`T::f` in an `impl T`), enum, struct,
+variant or constant. Words after it, as in `obeyed Sense`, stand in its text. A name with no place before it is a crate or a path from the root.
 """
 import functools
 import glob
@@ -47,14 +47,14 @@ def in_definitions(text, name):
 
 
 def in_code(text, name):
-    """The text of a function, enum, struct or variant of an .rt file."""
+    """The text of a function, enum, struct, variant or constant of an .rt file."""
     if "::" in name:
         owner, name = name.split("::")
         parts = re.findall(rf"^impl(?:<[^>]*>)? {owner}\b.*?^}}", text, re.M | re.S)
         begins = rf"^    (?:pub(?:\(crate\))? )?fn {re.escape(name)}\b"
     else:
         parts = [text]
-        begins = rf"^(?:pub(?:\(crate\))? )?(?:fn|enum|struct) {re.escape(name)}\b|^    {re.escape(name)}(?:\([^)]*\))?,$"
+        begins = rf"^(?:pub(?:\(crate\))? )?(?:fn|enum|struct|const) {re.escape(name)}\b|^    {re.escape(name)}(?:\([^)]*\))?,$"
     for part in parts:
         found = re.search(begins, part, re.M)
         if found:

@@ -1,1 +1,2 @@
+pub mod EachOpcode
 pub mod Loops

@@ -3,7 +3,6 @@ use Prim.Native.Nat.{ℕ}
 use mathlib.Core.Bool.{false}
 use mathlib.Core.List.{List, [], _∷_}
 use lib.Dec.{eqb}
-use lib.ListN.{drop}
 use Rattle.ground.specs.Choice.{pick}
 use Rattle.ground.specs.Left.{Left}
 use Rattle.ground.specs.Sizes.{mostCount}
@@ -29,7 +28,7 @@ use Rattle.transfers.specs.Ends.{ended}
 use Rattle.transfers.specs.Steps.{idleWith, ready, askedFor, readSector, askSector}
 use Rattle.commands.specs.Sweeps.{verifyFrom, eraseFrom}
 
--- the table's opcodes, row by row; first the seven that move sectors
+-- the table's opcodes, row by row
 abbrev pub commandTable : List (Numbered Command)
 commandTable =
     At 0x20 Read
@@ -48,10 +47,6 @@ commandTable =
     ∷ Digit 7 Seek
     ∷ At 0x03 Sense
     ∷ []
-
--- the rows after these seven, as the code looks them up
-abbrev pub sectorlessTable : List (Numbered Command)
-sectorlessTable = drop 7 commandTable
 
 -- the row of an opcode; "others" are all that the table does not name
 unfoldable pub commandOf : ℕ → Command

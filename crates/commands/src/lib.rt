@@ -1,4 +1,5 @@
-// The command table, and the commands that run over sectors with no data moved.
+// Which command each opcode is, the command table, and the commands that run over sectors with no data moved.
+mod opcodes;
 pub mod sweeps;
 pub mod table;
 

@@ -11,72 +11,10 @@ use registers::State;
 use transfers::End;
 use transfers::Order;
 ghost use mathlib.Core.Path.{_≡_};
-ghost use Rattle.ground.specs.Tables.{lookup};
 ghost use Rattle.identify.specs.Words.{identifyBytes};
 ghost use Rattle.registers.specs.Machine.{machine};
 ghost use Rattle.transfers.specs.Steps.{idle};
-ghost use Rattle.commands.specs.declared.Command.the-variants.{Other};
-ghost use Rattle.commands.specs.Table.{sectorlessTable, commandOf, started, countOf, factsOf, geometryEnded, diagnosed, soughtEnd, seekEnded, senseEnded, obeyed, commandGiven};
-
-// The rows after the seven opcodes that move sectors.
-fn sectorless_command(opcode: u8) -> Command
-    ensures { λ r. ⌜ r ≡ lookup sectorlessTable opcode Other ⌝ }
-{
-    if opcode == 0xEC {
-        return Command::Identify;
-    }
-    if opcode == 0xE4 {
-        return Command::ReadBuffer;
-    }
-    if opcode == 0xE8 {
-        return Command::WriteBuffer;
-    }
-    if opcode == 0x91 {
-        return Command::SetGeometry;
-    }
-    if opcode == 0x90 {
-        return Command::Diagnose;
-    }
-    let upper = opcode / 16;
-    if upper == 1 {
-        return Command::Recalibrate;
-    }
-    if upper == 7 {
-        return Command::Seek;
-    }
-    if opcode == 0x03 {
-        return Command::Sense;
-    }
-    Command::Other
-}
-
-// The row of an opcode.
-fn command_of(opcode: u8) -> Command
-    ensures { λ r. ⌜ r ≡ commandOf opcode ⌝ }
-{
-    if opcode == 0x20 {
-        return Command::Read;
-    }
-    if opcode == 0x21 {
-        return Command::Read;
-    }
-    if opcode == 0x30 {
-        return Command::Write;
-    }
-    if opcode == 0x31 {
-        return Command::Write;
-    }
-    if opcode == 0x40 {
-        return Command::Verify;
-    }
-    if opcode == 0x41 {
-        return Command::Verify;
-    }
-    if opcode == 0xC0 {
-        return Command::Erase;
-    }
-    sectorless_command(opcode)
-}
+ghost use Rattle.commands.specs.Table.{started, countOf, factsOf, geometryEnded, diagnosed, soughtEnd, seekEnded, senseEnded, obeyed, commandGiven};
 
 // 01: every command but 03H starts with Error and code 0.
 fn started(state: State) -> State
@@ -228,6 +166,6 @@ pub fn command_given(
 {
     let mut s = state;
     s.interrupt = false;
-    let command = command_of(opcode);
+    let command = super::opcodes::command_of(opcode);
     obey(s, command, buffer, store, marks)
 }

@@ -1,0 +1,106 @@
+// 02, "The whole opcode list on one page": which command each opcode is. Nothing else decides on an opcode.
+use super::Command;
+ghost use mathlib.Core.Path.{_≡_};
+ghost use Rattle.commands.specs.Table.{commandOf};
+ghost use Rattle.commands.specs.Opcodes.{commandOfClass, TableAgrees};
+
+// The classes: a number each, with the letter that stands for it in the table and the command's name.
+// "Others" has a small letter, so that the card's own commands stand out.
+
+// others
+const o: u8 = 0;
+
+// Read Sectors
+const R: u8 = 1;
+
+// Write Sectors
+const W: u8 = 2;
+
+// Read Verify Sectors
+const V: u8 = 3;
+
+// Erase Sectors
+const E: u8 = 4;
+
+// Identify Drive
+const I: u8 = 5;
+
+// Read Buffer
+const B: u8 = 6;
+
+// Write Buffer: the host fills it
+const F: u8 = 7;
+
+// Initialize Drive Parameters: the current geometry
+const G: u8 = 8;
+
+// Execute Drive Diagnostic
+const D: u8 = 9;
+
+// Recalibrate
+const C: u8 = 10;
+
+// Seek
+const S: u8 = 11;
+
+// Request Sense
+const Q: u8 = 12;
+
+// The opcode table: the class of each opcode. An opcode's first digit names the row, its second the place in the row.
+//   0  1  2  3  4  5  6  7  8  9  A  B  C  D  E  F
+const OPCODES: [[u8; 16]; 16] = [
+    [o, o, o, Q, o, o, o, o, o, o, o, o, o, o, o, o], // 0XH
+    [C, C, C, C, C, C, C, C, C, C, C, C, C, C, C, C], // 1XH
+    [R, R, o, o, o, o, o, o, o, o, o, o, o, o, o, o], // 2XH
+    [W, W, o, o, o, o, o, o, o, o, o, o, o, o, o, o], // 3XH
+    [V, V, o, o, o, o, o, o, o, o, o, o, o, o, o, o], // 4XH
+    [o, o, o, o, o, o, o, o, o, o, o, o, o, o, o, o], // 5XH
+    [o, o, o, o, o, o, o, o, o, o, o, o, o, o, o, o], // 6XH
+    [S, S, S, S, S, S, S, S, S, S, S, S, S, S, S, S], // 7XH
+    [o, o, o, o, o, o, o, o, o, o, o, o, o, o, o, o], // 8XH
+    [D, G, o, o, o, o, o, o, o, o, o, o, o, o, o, o], // 9XH
+    [o, o, o, o, o, o, o, o, o, o, o, o, o, o, o, o], // AXH
+    [o, o, o, o, o, o, o, o, o, o, o, o, o, o, o, o], // BXH
+    [E, o, o, o, o, o, o, o, o, o, o, o, o, o, o, o], // CXH
+    [o, o, o, o, o, o, o, o, o, o, o, o, o, o, o, o], // DXH
+    [o, o, o, o, B, o, o, o, F, o, o, o, I, o, o, o], // EXH
+    [o, o, o, o, o, o, o, o, o, o, o, o, o, o, o, o], // FXH
+];
+
+// 02: "show once, over the whole table, that it agrees with the command list": the promise is that test.
+fn opcode_table() -> [[u8; 16]; 16]
+    ensures { λ r. ⌜ TableAgrees r ⌝ }
+{
+    OPCODES
+}
+
+// Which command a class means; a number that no entry has means "others".
+fn command_of_class(class: u8) -> Command
+    ensures { λ r. ⌜ r ≡ commandOfClass class ⌝ }
+{
+    match class {
+        R => Command::Read,
+        W => Command::Write,
+        V => Command::Verify,
+        E => Command::Erase,
+        I => Command::Identify,
+        B => Command::ReadBuffer,
+        F => Command::WriteBuffer,
+        G => Command::SetGeometry,
+        D => Command::Diagnose,
+        C => Command::Recalibrate,
+        S => Command::Seek,
+        Q => Command::Sense,
+        _ => Command::Other,
+    }
+}
+
+// The decision: the row of an opcode in the command list.
+pub(crate) fn command_of(opcode: u8) -> Command
+    ensures { λ r. ⌜ r ≡ commandOf opcode ⌝ }
+{
+    let first = (opcode / 16) as usize;
+    let second = (opcode % 16) as usize;
+    let table = opcode_table();
+    command_of_class(table[first][second])
+}

@@ -1,0 +1,87 @@
+"""tools/opcodes: the page of the opcode table is what the source has, and what docs/CARD.md shows; its names are the CFA's."""
+import os
+import shutil
+import subprocess
+import tempfile
+
+from cardtools import card, opcodes
+from faults import fault_of
+
+# 01, "Commands", with the CFA's names.
+NAMES = {
+    "Read Sectors": (0x20, 0x21),
+    "Write Sectors": (0x30, 0x31),
+    "Read Verify Sectors": (0x40, 0x41),
+    "Erase Sectors": (0xC0,),
+    "Identify Drive": (0xEC,),
+    "Read Buffer": (0xE4,),
+    "Write Buffer": (0xE8,),
+    "Initialize Drive Parameters": (0x91,),
+    "Execute Drive Diagnostic": (0x90,),
+    "Recalibrate": range(0x10, 0x20),
+    "Seek": range(0x70, 0x80),
+    "Request Sense": (0x03,),
+}
+
+
+def source():
+    with open(opcodes.SOURCE, encoding="utf-8") as file:
+        return file.read()
+
+
+def changed(old, new):
+    """The source with a change at the one place that has the text."""
+    text = source()
+    assert text.count(old) == 1, old
+    return list(opcodes.commands_of(text.replace(old, new)))
+
+
+def printed():
+    done = subprocess.run(["tools/opcodes"], capture_output=True, text=True, check=False)
+    assert not done.returncode and not done.stderr, done
+    return done.stdout
+
+
+def test_the_page_stands_in_the_docs():
+    with open("docs/CARD.md", encoding="utf-8") as file:
+        assert f"```sh\ntools/opcodes\n```\n\n```text\n{printed()}```\n" in file.read()
+
+
+def test_the_names_of_all_opcodes():
+    wanted = {code: name for name, codes in NAMES.items() for code in codes}
+    for code, name in enumerate(opcodes.command_names()):
+        assert name == wanted.get(code, "others"), f"{code:02X}H: {name}"
+        assert card.command_name(code) == wanted.get(code, "no command of the card"), f"{code:02X}H"
+
+
+def test_the_page_follows_the_source():
+    before = list(opcodes.page(opcodes.read()))
+    after = list(opcodes.page(changed("[E, o, o, o, o, o,", "[o, o, o, o, Q, Q,")))
+    assert [line for line in before if line not in after] == [before[13]], after
+    assert after[13] == "CXH   . . . . Q Q . . . . . . . . . .   C4H C5H Request Sense", after[13]
+    assert list(opcodes.page(changed("// Seek\n", "// Sought: by the heads\n")))[8].endswith("   70H..7FH Sought")
+
+
+def test_a_table_that_is_none():
+    for old, new, said in (
+        ("], // 3XH", "], // 2XH", "0XH 1XH 2XH 2XH 4XH"),
+        ("    [E, o,", "    [E, o, o,", "row CXH"),
+        ("    [E, o,", "    [Z, o,", "row CXH"),
+        ("const Q: u8", "const P: u8", "row 0XH"),
+    ):
+        fault = str(fault_of(opcodes.Fault, changed, old, new))
+        assert said in fault, fault
+
+
+def test_a_source_that_is_not_there():
+    with tempfile.TemporaryDirectory() as root:
+        shutil.copytree("tools", os.path.join(root, "tools"), ignore=shutil.ignore_patterns("tests", "__pycache__"))
+        session = os.path.abspath("sessions/sample.session")
+        for words, status, said in ((["tools/opcodes"], 1, "opcodes: "), (["tools/session", "--text", session], 2, "session: the names of the commands: ")):
+            done = subprocess.run(words, cwd=root, capture_output=True, text=True, check=False)
+            assert done.returncode == status and not done.stdout and done.stderr.startswith(said) and done.stderr.count("\n") == 1, done
+
+
+def test_a_wrong_call():
+    done = subprocess.run(["tools/opcodes", "x"], capture_output=True, text=True, check=False)
+    assert done.returncode == 2 and done.stderr == "opcodes: unrecognized arguments: x; see tools/opcodes --help\n", done
