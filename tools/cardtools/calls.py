@@ -1,5 +1,6 @@
 """How the tools are called: a wrong call is told in one line."""
 import argparse
+import os
 import shlex
 import sys
 
@@ -8,6 +9,17 @@ def fail(name, message, status=2):
     """Says why the tool of this name can't go on, and ends it."""
     print(f"{name}: {message}", file=sys.stderr)
     sys.exit(status)
+
+
+def put(name, output):
+    """Writes the output of the tool of this name to standard output; says so where that does not work."""
+    try:
+        with os.fdopen(1, "wb", closefd=False) as out:
+            out.write(output)
+    except BrokenPipeError:  # whoever read the output has gone
+        sys.exit(1)
+    except OSError as fault:
+        fail(name, f"standard output: {fault.strerror}")
 
 
 class Parser(argparse.ArgumentParser):

@@ -6,8 +6,9 @@ import re
 
 ROOT = os.path.realpath(os.path.join(os.path.dirname(__file__), "..", ".."))
 SOURCE = os.path.join(ROOT, "crates", "commands", "src", "opcodes.rt")
-CLASS = re.compile(r"^// ([^\n:]+)(?:: [^\n]*)?\nconst (\w): u8 = \d+;$", re.M)
-ROW = re.compile(r"^    \[(.*)\], // (.*)$", re.M)
+CLASS = re.compile(r"^// ([^\n:]+)(?:: [^\n]*)?\nconst (\w): u8 = (\d+);$", re.M)
+TABLE = re.compile(r"^const CLASSES: [^\n]*\n(.*?)^\];$", re.M | re.S)
+ROW = re.compile(r"    \[(.*)\], // (.)XH")
 OTHERS = "others"
 
 
@@ -17,14 +18,19 @@ class Fault(Exception):
 
 def commands_of(source):
     """The letter and the name of each opcode's class, in order: sixteen for each row."""
-    names = {letter: name for name, letter in CLASS.findall(source)}
-    rows = ROW.findall(source)
-    if [digit for _, digit in rows] != [f"{first:X}XH" for first in range(16)]:
-        raise Fault(f"the rows are not 0XH to FXH: {' '.join(digit for _, digit in rows)}")
-    for row, digit in rows:
-        letters = row.split(", ")
+    classes = CLASS.findall(source)
+    names = {letter: name for name, letter, _ in classes}
+    if not len({number for _, _, number in classes}) == len(set(names.values())) == len(classes):
+        raise Fault("two classes have one number or one name")
+    table = TABLE.search(source)
+    lines = table[1].splitlines() if table else []
+    rows = [ROW.fullmatch(line) for line in lines]
+    if [row and row[2] for row in rows] != list("0123456789ABCDEF"):
+        raise Fault(f"the table has not the rows 0XH to FXH: {len(lines)} lines")
+    for row in rows:
+        letters = row[1].split(", ")
         if len(letters) != 16 or not set(letters) <= set(names):
-            raise Fault(f"row {digit} has not sixteen classes: {row}")
+            raise Fault(f"row {row[2]}XH has not sixteen classes: {row[1]}")
         yield from ((letter, names[letter]) for letter in letters)
 
 
@@ -34,6 +40,8 @@ def read():
             return list(commands_of(file.read()))
     except OSError as fault:
         raise Fault(f"{fault.filename}: {fault.strerror}") from fault
+    except UnicodeDecodeError as fault:
+        raise Fault(f"{SOURCE}: not a text") from fault
 
 
 @functools.cache

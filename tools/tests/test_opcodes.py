@@ -1,4 +1,4 @@
-"""tools/opcodes: the page of the opcode table is what the source has, and what docs/CARD.md shows; its names are the CFA's."""
+"""tools/opcodes: the page of the opcode table is what the source has, and what docs/OPCODES.md shows; its names are the CFA's."""
 import os
 import shutil
 import subprocess
@@ -43,7 +43,7 @@ def printed():
 
 
 def test_the_page_stands_in_the_docs():
-    with open("docs/CARD.md", encoding="utf-8") as file:
+    with open("docs/OPCODES.md", encoding="utf-8") as file:
         assert f"```sh\ntools/opcodes\n```\n\n```text\n{printed()}```\n" in file.read()
 
 
@@ -56,7 +56,7 @@ def test_the_names_of_all_opcodes():
 
 def test_the_page_follows_the_source():
     before = list(opcodes.page(opcodes.read()))
-    after = list(opcodes.page(changed("[E, o, o, o, o, o,", "[o, o, o, o, Q, Q,")))
+    after = list(opcodes.page(changed("[X, o, o, o, o, o,", "[o, o, o, o, Q, Q,")))
     assert [line for line in before if line not in after] == [before[13]], after
     assert after[13] == "CXH   . . . . Q Q . . . . . . . . . .   C4H C5H Request Sense", after[13]
     assert list(opcodes.page(changed("// Seek\n", "// Sought: by the heads\n")))[8].endswith("   70H..7FH Sought")
@@ -64,22 +64,42 @@ def test_the_page_follows_the_source():
 
 def test_a_table_that_is_none():
     for old, new, said in (
-        ("], // 3XH", "], // 2XH", "0XH 1XH 2XH 2XH 4XH"),
-        ("    [E, o,", "    [E, o, o,", "row CXH"),
-        ("    [E, o,", "    [Z, o,", "row CXH"),
-        ("const Q: u8", "const P: u8", "row 0XH"),
+        ("], // 3XH", "], // 2XH", "16 lines"),
+        ("], // 3XH\n", "], // 3XH\n    // more\n", "17 lines"),
+        ("const CLASSES", "const OTHER", "0 lines"),
+        ("    [X, o,", "    [X, o, o,", "row CXH"),
+        ("    [X, o,", "    [Y, o,", "row CXH"),
+        ("const Q: u8", "const Y: u8", "row 0XH"),
+        ("const Q: u8 = 12", "const Q: u8 = 11", "one number"),
+        ("// Seek\n", "// Recalibrate\n", "one name"),
     ):
         fault = str(fault_of(opcodes.Fault, changed, old, new))
         assert said in fault, fault
 
 
+def told_without_table(root):
+    session = os.path.abspath("sessions/sample.session")
+    for words, status, said in ((["tools/opcodes"], 1, "opcodes: "), (["tools/session", "--text", session], 2, "session: the names of the commands: ")):
+        done = subprocess.run(words, cwd=root, capture_output=True, text=True, check=False)
+        assert done.returncode == status and not done.stdout and done.stderr.startswith(said) and done.stderr.count("\n") == 1, done
+        yield done.stderr
+
+
 def test_a_source_that_is_not_there():
     with tempfile.TemporaryDirectory() as root:
         shutil.copytree("tools", os.path.join(root, "tools"), ignore=shutil.ignore_patterns("tests", "__pycache__"))
-        session = os.path.abspath("sessions/sample.session")
-        for words, status, said in ((["tools/opcodes"], 1, "opcodes: "), (["tools/session", "--text", session], 2, "session: the names of the commands: ")):
-            done = subprocess.run(words, cwd=root, capture_output=True, text=True, check=False)
-            assert done.returncode == status and not done.stdout and done.stderr.startswith(said) and done.stderr.count("\n") == 1, done
+        assert all("No such file" in said for said in told_without_table(root))
+        path = os.path.join(root, os.path.relpath(opcodes.SOURCE, opcodes.ROOT))
+        os.makedirs(os.path.dirname(path))
+        with open(path, "wb") as file:
+            file.write(b"\xff")
+        assert all("not a text" in said for said in told_without_table(root))
+
+
+def test_streams_that_fail_are_told():
+    with open("/dev/full", "wb") as full:
+        done = subprocess.run(["tools/opcodes"], stdout=full, stderr=subprocess.PIPE, text=True, check=False)
+    assert done.returncode == 2 and done.stderr == "opcodes: standard output: No space left on device\n", done
 
 
 def test_a_wrong_call():

@@ -4,8 +4,8 @@ ghost use mathlib.Core.Path.{_≡_};
 ghost use Rattle.commands.specs.Table.{commandOf};
 ghost use Rattle.commands.specs.Opcodes.{commandOfClass, TableAgrees};
 
-// The classes: a number each, with the letter that stands for it in the table and the command's name.
-// "Others" has a small letter, so that the card's own commands stand out.
+// The classes: a number each, named by the letter that stands for it in the table; "others" has a small one, so that the rest stands out.
+// The words above a class, up to a colon, are the command's name as tools/opcodes and tools/session print it.
 
 // others
 const o: u8 = 0;
@@ -20,50 +20,50 @@ const W: u8 = 2;
 const V: u8 = 3;
 
 // Erase Sectors
-const E: u8 = 4;
+const X: u8 = 4;
 
 // Identify Drive
 const I: u8 = 5;
 
-// Read Buffer
-const B: u8 = 6;
+// Read Buffer: the host gets it
+const G: u8 = 6;
 
-// Write Buffer: the host fills it
-const F: u8 = 7;
+// Write Buffer: the host puts it
+const P: u8 = 7;
 
-// Initialize Drive Parameters: the current geometry
-const G: u8 = 8;
+// Initialize Drive Parameters: the sizes
+const Z: u8 = 8;
 
-// Execute Drive Diagnostic
-const D: u8 = 9;
+// Execute Drive Diagnostic: the card's own test
+const T: u8 = 9;
 
 // Recalibrate
-const C: u8 = 10;
+const L: u8 = 10;
 
 // Seek
-const S: u8 = 11;
+const K: u8 = 11;
 
 // Request Sense
 const Q: u8 = 12;
 
 // The opcode table: the class of each opcode. An opcode's first digit names the row, its second the place in the row.
 //   0  1  2  3  4  5  6  7  8  9  A  B  C  D  E  F
-const OPCODES: [[u8; 16]; 16] = [
+const CLASSES: [[u8; 16]; 16] = [
     [o, o, o, Q, o, o, o, o, o, o, o, o, o, o, o, o], // 0XH
-    [C, C, C, C, C, C, C, C, C, C, C, C, C, C, C, C], // 1XH
+    [L, L, L, L, L, L, L, L, L, L, L, L, L, L, L, L], // 1XH
     [R, R, o, o, o, o, o, o, o, o, o, o, o, o, o, o], // 2XH
     [W, W, o, o, o, o, o, o, o, o, o, o, o, o, o, o], // 3XH
     [V, V, o, o, o, o, o, o, o, o, o, o, o, o, o, o], // 4XH
     [o, o, o, o, o, o, o, o, o, o, o, o, o, o, o, o], // 5XH
     [o, o, o, o, o, o, o, o, o, o, o, o, o, o, o, o], // 6XH
-    [S, S, S, S, S, S, S, S, S, S, S, S, S, S, S, S], // 7XH
+    [K, K, K, K, K, K, K, K, K, K, K, K, K, K, K, K], // 7XH
     [o, o, o, o, o, o, o, o, o, o, o, o, o, o, o, o], // 8XH
-    [D, G, o, o, o, o, o, o, o, o, o, o, o, o, o, o], // 9XH
+    [T, Z, o, o, o, o, o, o, o, o, o, o, o, o, o, o], // 9XH
     [o, o, o, o, o, o, o, o, o, o, o, o, o, o, o, o], // AXH
     [o, o, o, o, o, o, o, o, o, o, o, o, o, o, o, o], // BXH
-    [E, o, o, o, o, o, o, o, o, o, o, o, o, o, o, o], // CXH
+    [X, o, o, o, o, o, o, o, o, o, o, o, o, o, o, o], // CXH
     [o, o, o, o, o, o, o, o, o, o, o, o, o, o, o, o], // DXH
-    [o, o, o, o, B, o, o, o, F, o, o, o, I, o, o, o], // EXH
+    [o, o, o, o, G, o, o, o, P, o, o, o, I, o, o, o], // EXH
     [o, o, o, o, o, o, o, o, o, o, o, o, o, o, o, o], // FXH
 ];
 
@@ -71,10 +71,10 @@ const OPCODES: [[u8; 16]; 16] = [
 fn opcode_table() -> [[u8; 16]; 16]
     ensures { λ r. ⌜ TableAgrees r ⌝ }
 {
-    OPCODES
+    CLASSES
 }
 
-// Which command a class means; a number that no entry has means "others".
+// Which command a class means; any other number means "others".
 fn command_of_class(class: u8) -> Command
     ensures { λ r. ⌜ r ≡ commandOfClass class ⌝ }
 {
@@ -82,20 +82,20 @@ fn command_of_class(class: u8) -> Command
         R => Command::Read,
         W => Command::Write,
         V => Command::Verify,
-        E => Command::Erase,
+        X => Command::Erase,
         I => Command::Identify,
-        B => Command::ReadBuffer,
-        F => Command::WriteBuffer,
-        G => Command::SetGeometry,
-        D => Command::Diagnose,
-        C => Command::Recalibrate,
-        S => Command::Seek,
+        G => Command::ReadBuffer,
+        P => Command::WriteBuffer,
+        Z => Command::SetGeometry,
+        T => Command::Diagnose,
+        L => Command::Recalibrate,
+        K => Command::Seek,
         Q => Command::Sense,
         _ => Command::Other,
     }
 }
 
-// The decision: the row of an opcode in the command list.
+// The decision: the row of an opcode in the command table.
 pub(crate) fn command_of(opcode: u8) -> Command
     ensures { λ r. ⌜ r ≡ commandOf opcode ⌝ }
 {
