@@ -1,6 +1,9 @@
 """Where the card stands in a session, as far as the accesses and the answers so far tell it."""
 from . import card
 
+# what the Error register holds after a command, but for "flags"
+ERROR_AFTER = {"Request Sense": "code", "Execute Drive Diagnostic": "diagnostic"}
+
 
 class Follower:
     """Follows what decides a name or a refusal: mode, map setting, the two resets, what the Error register holds, and
@@ -79,7 +82,7 @@ class Follower:
         elif not self.held:
             self.data_wanted = self.data_wanted and offset not in (card.COMMAND, *card.DATA)
             if offset == card.COMMAND:
-                self.error = {0x03: "code", 0x90: "diagnostic"}.get(access.value, "flags")
+                self.error = ERROR_AFTER.get(card.command_name(access.value), "flags")
 
     def set_option(self, access):
         if not access.write:

@@ -7,7 +7,7 @@ import re
 ROOT = os.path.realpath(os.path.join(os.path.dirname(__file__), "..", ".."))
 SOURCE = os.path.join(ROOT, "crates", "commands", "src", "opcodes.rt")
 CLASS = re.compile(r"^// ([^\n:]+)(?:: [^\n]*)?\nconst (\w): u8 = (\d+);$", re.M)
-TABLE = re.compile(r"^const CLASSES: [^\n]*\n(.*?)^\];$", re.M | re.S)
+TABLE = re.compile(r"^const OPCODE_TABLE: [^\n]*\n(.*?)^\];$", re.M | re.S)
 ROW = re.compile(r"    \[(.*)\], // (.)XH")
 OTHERS = "others"
 
@@ -22,8 +22,10 @@ def commands_of(source):
     names = {letter: name for name, letter, _ in classes}
     if not len({number for _, _, number in classes}) == len(set(names.values())) == len(classes):
         raise Fault("two classes have one number or one name")
-    table = TABLE.search(source)
-    lines = table[1].splitlines() if table else []
+    tables = TABLE.findall(source)
+    if len(tables) != 1:
+        raise Fault(f"the source has {len(tables)} opcode tables")
+    lines = tables[0].splitlines()
     rows = [ROW.fullmatch(line) for line in lines]
     if [row and row[2] for row in rows] != list("0123456789ABCDEF"):
         raise Fault(f"the table has not the rows 0XH to FXH: {len(lines)} lines")
@@ -46,7 +48,7 @@ def read():
 
 @functools.cache
 def command_names():
-    """The name of each opcode's command; "others" for those that the card has not."""
+    """The name of each opcode's command; 01's "others" have that name."""
     return [name for _, name in read()]
 
 

@@ -54,24 +54,33 @@ def test_the_names_of_all_opcodes():
         assert card.command_name(code) == wanted.get(code, "no command of the card"), f"{code:02X}H"
 
 
+def test_each_letter_stands_at_its_opcodes():
+    header, *rows = (line[6:37].split(" ") for line in printed().splitlines())
+    assert header == list("0123456789ABCDEF") and [len(row) for row in rows] == [16] * 16, rows
+    letters = [letter for row in rows for letter in row]
+    stand = {letter: [code for code, other in enumerate(letters) if other == letter] for letter in letters if letter != "."}
+    assert sorted(stand.values()) == sorted(list(codes) for codes in NAMES.values()), stand
+
+
 def test_the_page_follows_the_source():
     before = list(opcodes.page(opcodes.read()))
-    after = list(opcodes.page(changed("[X, o, o, o, o, o,", "[o, o, o, o, Q, Q,")))
+    after = list(opcodes.page(changed("[U, o, o, o, o, o,", "[o, o, o, o, Q, Q,")))
     assert [line for line in before if line not in after] == [before[13]], after
     assert after[13] == "CXH   . . . . Q Q . . . . . . . . . .   C4H C5H Request Sense", after[13]
-    assert list(opcodes.page(changed("// Seek\n", "// Sought: by the heads\n")))[8].endswith("   70H..7FH Sought")
+    assert list(opcodes.page(changed("// Seek: seeK\n", "// Sought: the heads\n")))[8].endswith("   70H..7FH Sought")
 
 
 def test_a_table_that_is_none():
     for old, new, said in (
         ("], // 3XH", "], // 2XH", "16 lines"),
         ("], // 3XH\n", "], // 3XH\n    // more\n", "17 lines"),
-        ("const CLASSES", "const OTHER", "0 lines"),
-        ("    [X, o,", "    [X, o, o,", "row CXH"),
-        ("    [X, o,", "    [Y, o,", "row CXH"),
+        ("const OPCODE_TABLE", "const OTHER", "0 opcode tables"),
+        ("const OPCODE_TABLE", "const OPCODE_TABLE: none\n];\nconst OPCODE_TABLE", "2 opcode tables"),
+        ("    [U, o,", "    [U, o, o,", "row CXH"),
+        ("    [U, o,", "    [Y, o,", "row CXH"),
         ("const Q: u8", "const Y: u8", "row 0XH"),
         ("const Q: u8 = 12", "const Q: u8 = 11", "one number"),
-        ("// Seek\n", "// Recalibrate\n", "one name"),
+        ("// Seek: seeK\n", "// Recalibrate: again\n", "one name"),
     ):
         fault = str(fault_of(opcodes.Fault, changed, old, new))
         assert said in fault, fault
@@ -79,9 +88,9 @@ def test_a_table_that_is_none():
 
 def told_without_table(root):
     session = os.path.abspath("sessions/sample.session")
-    for words, status, said in ((["tools/opcodes"], 1, "opcodes: "), (["tools/session", "--text", session], 2, "session: the names of the commands: ")):
+    for words, said in ((["tools/opcodes"], "opcodes: "), (["tools/session", "--text", session], "session: the names of the commands: ")):
         done = subprocess.run(words, cwd=root, capture_output=True, text=True, check=False)
-        assert done.returncode == status and not done.stdout and done.stderr.startswith(said) and done.stderr.count("\n") == 1, done
+        assert done.returncode == 2 and not done.stdout and done.stderr.startswith(said) and done.stderr.count("\n") == 1, done
         yield done.stderr
 
 
@@ -97,9 +106,10 @@ def test_a_source_that_is_not_there():
 
 
 def test_streams_that_fail_are_told():
-    with open("/dev/full", "wb") as full:
-        done = subprocess.run(["tools/opcodes"], stdout=full, stderr=subprocess.PIPE, text=True, check=False)
-    assert done.returncode == 2 and done.stderr == "opcodes: standard output: No space left on device\n", done
+    for words in (["tools/opcodes"], ["tools/opcodes", "--help"]):
+        with open("/dev/full", "wb") as full:
+            done = subprocess.run(words, stdout=full, stderr=subprocess.PIPE, text=True, check=False)
+        assert done.returncode == 2 and done.stderr == "opcodes: standard output: No space left on device\n", done
 
 
 def test_a_wrong_call():

@@ -14,5 +14,5 @@ pub each-opcode : (table : List (List ℕ)) → TableAgrees table → (opcode : 
 each-opcode table agrees opcode byte =
     rw (zero-add opcode)
     at (sym (listed-at (λ (k : ℕ). commandOfClass (classAt table k)) 0 opcodeCount opcode Other byte)
-    ∙ ap (λ (l : List Command). getD l opcode Other) (agrees .1)
+    ∙ ap (λ (l : List Command). getD l opcode Other) agrees
     ∙ listed-at commandOf 0 opcodeCount opcode Other byte)

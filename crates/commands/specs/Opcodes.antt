@@ -1,11 +1,8 @@
 -- 02, "Two": the class of each opcode, a number in a table of sixteen rows of sixteen, and the command that a class means.
 use Prim.Native.Nat.{ℕ, _/_, _%_}
 use mathlib.Core.Path.{_≡_}
-use mathlib.Core.Bool.{Bool, true}
 use mathlib.Core.List.{List, [], _∷_}
-use lib.Dec.{leb}
-use lib.ListN.{length, getD}
-use Rattle.ground.specs.Choice.{every}
+use lib.ListN.{getD}
 use Rattle.ground.specs.Lists.{listed}
 use Rattle.ground.specs.Tables.{Numbered, At, lookup}
 use Rattle.commands.specs.declared.Command.{Command}
@@ -29,10 +26,6 @@ classTable =
     ∷ At 12 Sense
     ∷ []
 
--- they are numbered through
-abbrev pub isClass : ℕ → Bool
-isClass n = leb n (length classTable)
-
 -- which command a class means; any other number means "others"
 unfoldable pub commandOfClass : ℕ → Command
 commandOfClass class = lookup classTable class Other
@@ -45,8 +38,6 @@ classAt table opcode = getD (getD table (opcode / 16) []) (opcode % 16) 0
 abbrev pub opcodeCount : ℕ
 opcodeCount = 256
 
--- "over the whole table, that it agrees with the command list": each entry is a class, and means what the list has for its opcode
+-- "over the whole table, that it agrees with the command list": what the class of each opcode means is what the list has for the opcode
 abbrev pub TableAgrees : List (List ℕ) → Type 0
-TableAgrees table =
-    (every (listed (λ (opcode : ℕ). isClass (classAt table opcode)) 0 opcodeCount) ≡ true)
-    × (listed (λ (opcode : ℕ). commandOfClass (classAt table opcode)) 0 opcodeCount ≡ listed commandOf 0 opcodeCount)
+TableAgrees table = listed (λ (opcode : ℕ). commandOfClass (classAt table opcode)) 0 opcodeCount ≡ listed commandOf 0 opcodeCount

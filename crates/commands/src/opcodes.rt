@@ -1,11 +1,11 @@
-// 02, "The whole opcode list on one page": which command each opcode is. Nothing else decides on an opcode.
+// 02, "Two": which command each opcode is. Nothing else decides on an opcode.
 use super::Command;
 ghost use mathlib.Core.Path.{_≡_};
 ghost use Rattle.commands.specs.Table.{commandOf};
 ghost use Rattle.commands.specs.Opcodes.{commandOfClass, TableAgrees};
 
-// The classes: a number each, named by the letter that stands for it in the table; "others" has a small one, so that the rest stands out.
-// The words above a class, up to a colon, are the command's name as tools/opcodes and tools/session print it.
+// The classes: a number each, named by the letter that stands for it in the table; that of "others" is lower case, so that the rest stands out.
+// The words above a class, up to a colon, are the command's name as tools/opcodes and tools/session print it; after the colon stands where the letter is from.
 
 // others
 const o: u8 = 0;
@@ -19,36 +19,36 @@ const W: u8 = 2;
 // Read Verify Sectors
 const V: u8 = 3;
 
-// Erase Sectors
-const X: u8 = 4;
+// Erase Sectors: Unwritten again
+const U: u8 = 4;
 
 // Identify Drive
 const I: u8 = 5;
 
-// Read Buffer: the host gets it
+// Read Buffer: Get it
 const G: u8 = 6;
 
-// Write Buffer: the host puts it
+// Write Buffer: Put it
 const P: u8 = 7;
 
-// Initialize Drive Parameters: the sizes
+// Initialize Drive Parameters: initialiZe
 const Z: u8 = 8;
 
-// Execute Drive Diagnostic: the card's own test
+// Execute Drive Diagnostic: Test
 const T: u8 = 9;
 
-// Recalibrate
+// Recalibrate: recaLibrate
 const L: u8 = 10;
 
-// Seek
+// Seek: seeK
 const K: u8 = 11;
 
-// Request Sense
+// Request Sense: reQuest
 const Q: u8 = 12;
 
 // The opcode table: the class of each opcode. An opcode's first digit names the row, its second the place in the row.
 //   0  1  2  3  4  5  6  7  8  9  A  B  C  D  E  F
-const CLASSES: [[u8; 16]; 16] = [
+const OPCODE_TABLE: [[u8; 16]; 16] = [
     [o, o, o, Q, o, o, o, o, o, o, o, o, o, o, o, o], // 0XH
     [L, L, L, L, L, L, L, L, L, L, L, L, L, L, L, L], // 1XH
     [R, R, o, o, o, o, o, o, o, o, o, o, o, o, o, o], // 2XH
@@ -61,7 +61,7 @@ const CLASSES: [[u8; 16]; 16] = [
     [T, Z, o, o, o, o, o, o, o, o, o, o, o, o, o, o], // 9XH
     [o, o, o, o, o, o, o, o, o, o, o, o, o, o, o, o], // AXH
     [o, o, o, o, o, o, o, o, o, o, o, o, o, o, o, o], // BXH
-    [X, o, o, o, o, o, o, o, o, o, o, o, o, o, o, o], // CXH
+    [U, o, o, o, o, o, o, o, o, o, o, o, o, o, o, o], // CXH
     [o, o, o, o, o, o, o, o, o, o, o, o, o, o, o, o], // DXH
     [o, o, o, o, G, o, o, o, P, o, o, o, I, o, o, o], // EXH
     [o, o, o, o, o, o, o, o, o, o, o, o, o, o, o, o], // FXH
@@ -71,7 +71,7 @@ const CLASSES: [[u8; 16]; 16] = [
 fn opcode_table() -> [[u8; 16]; 16]
     ensures { λ r. ⌜ TableAgrees r ⌝ }
 {
-    CLASSES
+    OPCODE_TABLE
 }
 
 // Which command a class means; any other number means "others".
@@ -82,7 +82,7 @@ fn command_of_class(class: u8) -> Command
         R => Command::Read,
         W => Command::Write,
         V => Command::Verify,
-        X => Command::Erase,
+        U => Command::Erase,
         I => Command::Identify,
         G => Command::ReadBuffer,
         P => Command::WriteBuffer,
