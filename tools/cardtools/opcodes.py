@@ -7,13 +7,14 @@ import re
 ROOT = os.path.realpath(os.path.join(os.path.dirname(__file__), "..", ".."))
 SOURCE = os.path.join(ROOT, "crates", "commands", "src", "opcodes.rt")
 CLASS = re.compile(r"^// ([^\n:]+)(?:: [^\n]*)?\nconst (\w): u8 = (\d+);$", re.M)
-TABLE = re.compile(r"^const OPCODE_TABLE: [^\n]*\n(.*?)^\];$", re.M | re.S)
+DIGITS = "0123456789ABCDEF"
+TABLE = re.compile(rf"^//   {'  '.join(DIGITS)}\nconst OPCODE_TABLE: [^\n]*\n(.*?)^\];$", re.M | re.S)
 ROW = re.compile(r"    \[(.*)\], // (.)XH")
 OTHERS = "others"
 
 
 class Fault(Exception):
-    """The source has no table of sixteen rows of sixteen."""
+    """The source can't be read as an opcode table."""
 
 
 def commands_of(source):
@@ -27,7 +28,7 @@ def commands_of(source):
         raise Fault(f"the source has {len(tables)} opcode tables")
     lines = tables[0].splitlines()
     rows = [ROW.fullmatch(line) for line in lines]
-    if [row and row[2] for row in rows] != list("0123456789ABCDEF"):
+    if [row and row[2] for row in rows] != list(DIGITS):
         raise Fault(f"the table has not the rows 0XH to FXH: {len(lines)} lines")
     for row in rows:
         letters = row[1].split(", ")
@@ -65,8 +66,8 @@ def row_names(first, row):
 
 def page(commands):
     """The table with the commands' names, a line for each row."""
-    yield "      " + " ".join(f"{second:X}" for second in range(16))
-    for first in range(16):
+    yield "      " + " ".join(DIGITS)
+    for first, digit in enumerate(DIGITS):
         row = commands[16 * first:16 * first + 16]
         letters = " ".join("." if name == OTHERS else letter for letter, name in row)
-        yield f"{first:X}XH   {letters}   {', '.join(row_names(first, row))}".rstrip()
+        yield f"{digit}XH   {letters}   {', '.join(row_names(first, row))}".rstrip()

@@ -38,6 +38,6 @@ classAt table opcode = getD (getD table (opcode / 16) []) (opcode % 16) 0
 abbrev pub opcodeCount : ℕ
 opcodeCount = 256
 
--- "over the whole table, that it agrees with the command list": what the class of each opcode means is what the list has for the opcode
+-- "over the whole table, that it agrees with the command list": what the class of each opcode means is what the command table has for the opcode
 abbrev pub TableAgrees : List (List ℕ) → Type 0
 TableAgrees table = listed (λ (opcode : ℕ). commandOfClass (classAt table opcode)) 0 opcodeCount ≡ listed commandOf 0 opcodeCount
