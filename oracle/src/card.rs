@@ -112,6 +112,8 @@ pub struct Card {
     pub sectors: bool,
     /// The buffer on its way to the host is Identify's: for the coverage table alone.
     pub identity: bool,
+    /// The current geometry when Identify was last read to its end: for the coverage table alone.
+    pub shown: Option<Geometry>,
     pub left: u16,
     pub words: u16,
     pub half: Half,
@@ -147,6 +149,7 @@ impl Card {
             phase: Phase::Idle,
             sectors: false,
             identity: false,
+            shown: None,
             left: 0,
             words: 0,
             half: Half::Nothing,

@@ -395,9 +395,8 @@ impl Card {
         match (self.phase, self.sectors) {
             (Phase::In, true) => self.sector_was_read(lent),
             (Phase::Out, true) => self.sector_was_written(lent),
-            (Phase::In, false) => {
-                self.good_read(if self.identity { Row::Identify } else { Row::ReadBuffer })
-            }
+            (Phase::In, false) if self.identity => self.identify_was_read(),
+            (Phase::In, false) => self.good_read(Row::ReadBuffer),
             _ => self.good(Row::WriteBuffer),
         }
     }
@@ -437,9 +436,24 @@ impl Card {
         cover::identify();
     }
 
+    fn identify_was_read(&mut self) {
+        cover::identified(self);
+        self.shown = Some(self.current);
+        self.good_read(Row::Identify);
+    }
+
     fn identify_words(&self) -> [u16; 256] {
+        let mut w = self.plain_words(self.current);
+        let summed =
+            if on(Change::IntegrityByDefault) { self.plain_words(self.default) } else { w };
+        w[255] = integrity(&summed[..255]);
+        w
+    }
+
+    /// The words of 01 for this current geometry; word 255 is still 0.
+    fn plain_words(&self, now: Geometry) -> [u16; 256] {
         let mut w = [0u16; 256];
-        let (all, now) = (self.default, self.current);
+        let all = self.default;
         let n = all.sectors() as u32;
         let capacity = now.sectors() as u32;
         let high = |x: u32| (x >> 16) as u16;
@@ -461,4 +475,20 @@ impl Card {
         (w[60], w[61]) = (low(n), high(n));
         w
     }
+}
+
+/// Word 255 after these words: "low byte A5H, and the high byte such that all 512 bytes, summed
+/// with wrap-around in eight bits, give 0". So the high byte fills the sum up to a multiple of 256.
+fn integrity(words: &[u16]) -> u16 {
+    const LOW: u8 = 0xA5;
+    let bytes = words.iter().flat_map(|word| word.to_le_bytes());
+    let first = on(Change::IntegrityWithoutFirst) as usize;
+    let low = if on(Change::IntegrityWithoutLow) { 0 } else { LOW };
+    let sum: u32 = bytes.skip(first).chain([low]).map(u32::from).sum();
+    let high = match sum.next_multiple_of(256) - sum {
+        _ if on(Change::IntegrityIsSum) => sum as u8,
+        0 if on(Change::IntegrityNeverZero) => 0xFF,
+        fill => fill as u8,
+    };
+    u16::from_le_bytes(if on(Change::IntegritySwapped) { [high, LOW] } else { [LOW, high] })
 }

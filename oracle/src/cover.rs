@@ -70,7 +70,22 @@ pub fn sense(code: u8) {
 }
 
 pub fn identify() {
-    hit(Point::Identify);
+    hit(Point::Identify(Identity::Begun));
+}
+
+/// Identify was read to its last word.
+pub fn identified(card: &Card) {
+    let (whole, anew) = match card.current == card.default {
+        true => (Identity::Default, Identity::DefaultAnew),
+        false => (Identity::Changed, Identity::ChangedAnew),
+    };
+    hit(Point::Identify(whole));
+    if card.shown.is_some_and(|before| before != card.current) {
+        hit(Point::Identify(anew));
+    }
+    if card.buffer[510..] == [0xA5, 0] {
+        hit(Point::Identify(Identity::ZeroByte));
+    }
 }
 
 pub fn mark(row: Row, mark: u8) {

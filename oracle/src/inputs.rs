@@ -29,6 +29,7 @@ pub enum Group {
     Wanderings = 6,
     LateBreaks = 7,
     Noise = 8,
+    Identities = 9,
     Oddities = 19,
     LentLengths = 20,
     Conditions = 21,
@@ -41,6 +42,7 @@ pub enum Group {
     Chains = 28,
     Lists = 29,
     MadeUp = 30,
+    TrialIdentities = 31,
 }
 
 impl Group {

@@ -15,7 +15,7 @@ pub enum Point {
     End(Row, Ending, bool),
     /// This code told by 03H.
     Sense(u8),
-    Identify,
+    Identify(Identity),
     /// A register reached, by its offset.
     Register {
         map: Map,
@@ -108,6 +108,19 @@ named! {
         Dwf: "DWF 03",
         Abrt20: "ABRT 20",
         Abrt21: "ABRT 21",
+    }
+}
+
+named! {
+    /// An Identify: begun, or read to its integrity word. Anew: the last one read so far showed
+    /// another current geometry.
+    Identity {
+        Begun: "begun",
+        Default: "whole, default geometry",
+        Changed: "whole, changed by 91H",
+        ChangedAnew: "whole anew, 91H between",
+        DefaultAnew: "whole anew, default again",
+        ZeroByte: "integrity byte 0",
     }
 }
 

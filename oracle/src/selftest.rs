@@ -1,7 +1,8 @@
-//! 01's sample session, its thirteen samples and the old model's errors, checked on this program.
+//! 01's sample session, its thirteen samples, the old model's errors and Identify's integrity word,
+//! checked on this program.
 
-use crate::card::Access;
-use crate::host::{push_access, push_opening};
+use crate::card::{Access, Geometry};
+use crate::host::{push_access, push_opening, Host};
 use crate::session_player;
 use crate::trial_player;
 use crate::tuples::{self, Entry};
@@ -98,6 +99,8 @@ pub fn run() -> bool {
         tuple_sample(),
         drive_address(),
         identify_halves(),
+        integrity_words(),
+        integrity_sums(),
         sense_twice(),
         alternate_status(),
     ];
@@ -203,14 +206,15 @@ fn new_geometry() -> bool {
     t.put(7, 0x40);
     t.ended(0x50, 0, 0);
     t.put(7, 0xEC);
-    for word in identify([2, 3, 5, 30, 0]) {
+    // As at power-on, but words 54..57 give 40: in all 2,728, which lacks 58H to 11·256.
+    for word in identify([2, 3, 5, 30, 0], 0x58A5) {
         t.get_word(word);
     }
     t.check("8: 91H with Count 5, nibble 2")
 }
 
-/// Identify for the default C 4, H 2, S 4, with words 54..58 as given.
-fn identify(now: [u16; 5]) -> Vec<u16> {
+/// Identify for the default C 4, H 2, S 4, with words 54..58 and 255 as given.
+fn identify(now: [u16; 5], integrity: u16) -> Vec<u16> {
     let mut w = vec![0; 256];
     (w[0], w[1], w[3], w[6], w[8]) = (0x848A, 4, 2, 4, 32);
     for i in [10..20, 23..27, 27..47].into_iter().flatten() {
@@ -218,6 +222,7 @@ fn identify(now: [u16; 5]) -> Vec<u16> {
     }
     (w[49], w[53], w[60]) = (0x0200, 1, 32);
     w[54..59].copy_from_slice(&now);
+    w[255] = integrity;
     w
 }
 
@@ -274,11 +279,45 @@ fn drive_address() -> bool {
 fn identify_halves() -> bool {
     let mut t = Talk::new(3);
     t.put(7, 0xEC);
-    for word in identify([4, 2, 4, 32, 0]) {
+    // Word 0 gives 270; 1, 3, 6, 8 give 42; the 34 words 2020H 2,176; 49, 53 give 3; 54..57 give
+    // 42; 60 gives 32; A5H is 165: in all 2,730, which lacks 56H to 11·256.
+    for word in identify([4, 2, 4, 32, 0], 0x56A5) {
         t.get_word(word);
     }
     t.get(7, 0x50);
     t.check("Identify, words 7 and 8 high half first")
+}
+
+/// The words of Identify as a host reads them, after a 91H (Count, nibble) if there is one.
+fn identified(g: Geometry, parameters: Option<(u8, u8)>) -> Vec<u16> {
+    let mut host = Host::trial(1, g, 1);
+    if let Some((count, nibble)) = parameters {
+        host.put(2, count);
+        host.put(6, nibble);
+        host.put(7, 0x91);
+    }
+    host.put(7, 0xEC);
+    (0..256).map(|_| host.get_word(0)).collect()
+}
+
+/// C 4, H 2, S 4 as above; C 142, H 1, S 1, whose other bytes give 3,328 = 13·256.
+fn integrity_words() -> bool {
+    let last = |c, h, s| identified(Geometry::new(c, h, s), None)[255];
+    told("Identify, the integrity word", last(4, 2, 4) == 0x56A5 && last(142, 1, 1) == 0x00A5)
+}
+
+/// At power-on and after 91H, taken or not.
+fn integrity_sums() -> bool {
+    let cards = [(4, 2, 4), (1, 1, 1), (142, 1, 1), (1000, 1, 1), (2, 2, 255), (1, 16, 63)];
+    let changes = [None, Some((1, 0)), Some((5, 2)), Some((63, 15)), Some((255, 1))];
+    let zero = |words: Vec<u16>| {
+        let bytes: Vec<u8> = words.into_iter().flat_map(u16::to_le_bytes).collect();
+        bytes[510] == 0xA5 && bytes.into_iter().fold(0, u8::wrapping_add) == 0
+    };
+    let good = cards.into_iter().all(|(c, h, s)| {
+        changes.into_iter().all(|change| zero(identified(Geometry::new(c, h, s), change)))
+    });
+    told("Identify, 512 bytes that give 0", good)
 }
 
 fn sense_twice() -> bool {

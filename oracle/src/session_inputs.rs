@@ -33,6 +33,7 @@ pub fn sessions(seed: u64) -> Vec<Case> {
     transfers(seed, &mut all);
     addresses(seed, &mut all);
     parameters(seed, &mut all);
+    identities(seed, &mut all);
     wanderings(seed, &mut all);
     broken_inputs::files(seed, &mut all);
     all
@@ -228,6 +229,16 @@ fn parameters(seed: u64, all: &mut Vec<Case>) {
             }
             finish(format!("parameters-{}-{}-{}-{round}", g.0, g.1, g.2), host, all);
         }
+    }
+}
+
+/// Identify read whole on several geometries, at power-on and after what changes its words.
+fn identities(seed: u64, all: &mut Vec<Case>) {
+    for (number, g) in SMALL.into_iter().enumerate() {
+        let map = (number % 5) as u8;
+        let mut host = host_in(map, geometry(g), Group::Identities.seed(seed, number));
+        host.identities_story();
+        finish(format!("identify-{}-{}-{}", g.0, g.1, g.2), host, all);
     }
 }
 

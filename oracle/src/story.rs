@@ -269,8 +269,8 @@ impl Host {
         }
     }
 
-    /// 91H, and what it changes: Identify, CHS at the end.
-    pub fn parameters_story(&mut self) {
+    /// 91H, often with a geometry that it takes.
+    fn new_parameters(&mut self) {
         let n = self.card.default.sectors() as usize;
         let count = match self.rng.below(6) {
             0 => 0,
@@ -283,6 +283,11 @@ impl Host {
         self.put(2, count);
         self.put(6, bits | nibble);
         self.put(7, 0x91);
+    }
+
+    /// 91H, and what it changes: Identify, CHS at the end.
+    pub fn parameters_story(&mut self) {
+        self.new_parameters();
         self.look();
         if self.rng.percent(30) {
             self.sense();
@@ -312,10 +317,16 @@ impl Host {
         self.put(2, count);
         self.put(7, opcode);
         self.look();
+        self.one_track();
+        self.look();
+    }
+
+    /// 91H with one track for the whole card, or as long a one as there is.
+    fn one_track(&mut self) {
+        let n = self.card.default.sectors();
         self.put(6, 0);
         self.put(2, n.min(255) as u8);
         self.put(7, 0x91);
-        self.look();
     }
 
     /// What may or may not change the geometry: commands and resets.
@@ -352,6 +363,29 @@ impl Host {
         }
         self.noise = 0;
         self.after();
+    }
+
+    /// Identify to its last word.
+    fn whole_identify(&mut self) {
+        self.put(7, 0xEC);
+        let style = self.rng.pick(&STYLES);
+        self.rest_of_sector(style);
+    }
+
+    /// Identify at one geometry after another; the buffer keeps it as it was when ECH was written.
+    pub fn identities_story(&mut self) {
+        self.whole_identify();
+        self.one_track();
+        self.show_buffer();
+        self.whole_identify();
+        self.hold();
+        while !self.full {
+            self.whole_identify();
+            self.new_parameters();
+            self.show_buffer();
+            self.whole_identify();
+            self.perhaps_another_geometry();
+        }
     }
 
     /// E8H, then E4H.

@@ -21,6 +21,11 @@ const LARGE: [(u16, u16, u16); 10] = [
     (3, 3, 40),
 ];
 
+/// Cylinders of cards with H 1, S 1 whose integrity byte is 0, 1 or 255. At power-on Identify's
+/// other bytes give 2,614 + 4 + 5·(the two bytes of C): for 142 and 397 (1 + 141) a multiple of 256,
+/// for 193 one less, for 91 one more. For 407 they give 2,614 + 970 = 14·256 in one track of 255.
+const FULL_SUMS: [u16; 5] = [142, 397, 407, 193, 91];
+
 pub fn trials(seed: u64) -> Vec<Case> {
     let mut all = Vec::new();
     openings(&mut all);
@@ -29,6 +34,7 @@ pub fn trials(seed: u64) -> Vec<Case> {
     marks(seed, &mut all);
     carries(seed, &mut all);
     lines(seed, &mut all);
+    identities(seed, &mut all);
     wanderings(seed, &mut all);
     field_inputs::breaks(seed, &mut all);
     field_inputs::made_up(seed, &mut all);
@@ -271,6 +277,19 @@ fn one_line(host: &mut Host, opcode: u8, mask: u8, reading: bool) {
     host.put(7, opcode);
     host.get(7);
     host.put(0xE, mask);
+}
+
+// ---------------------------------------------------------------- Identify
+
+/// Identify on large cards, whose numbers take two bytes, and where its integrity byte is near 0.
+fn identities(seed: u64, all: &mut Vec<Case>) {
+    let full = FULL_SUMS.map(|c| (c, 1, 1));
+    for (number, g) in LARGE.into_iter().chain(full).enumerate() {
+        let seed = Group::TrialIdentities.seed(seed, number);
+        let mut host = Host::trial(seed, geometry(g), (number % 2) as u16);
+        host.identities_story();
+        finish(format!("identify-{}-{}-{}", g.0, g.1, g.2), host, all);
+    }
 }
 
 // ---------------------------------------------------------------- wanderings

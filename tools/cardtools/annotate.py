@@ -5,6 +5,7 @@ from . import card
 from .calls import shortened
 from .explain import explained, opening_fault, opening_told
 from .follower import Follower
+from .identify import Identify
 from .records import LONGEST
 
 HEADER = "n op answer value"
@@ -37,7 +38,7 @@ def misfit(access, answer, value, follower):
 
 def access_pairs(records, printed):
     """(printed line, its explanation, whether it is plain data) for each access of a run."""
-    follower = Follower(records[0].mode)
+    follower, identify = Follower(records[0].mode), Identify()
     for count, access in enumerate(records[1:], 1):
         line = printed[count] if count < len(printed) else None
         if line is None:
@@ -47,10 +48,15 @@ def access_pairs(records, printed):
             raise Mismatch(f"printed line {count + 1}: it is '{line}', and the session has {count} {'W' if access.write else 'R'} there")
         if why := misfit(access, answer, value, follower):
             raise Mismatch(f"printed line {count + 1}: it is '{line}', and {why}")
+        words, verdict = explained(access, answer, value, follower), ""
         plain = answer == 0 and not follower.held and access.space != 0 and follower.offset(access) in card.DATA
-        yield line, explained(access, answer, value, follower), (access._replace(value=0), value) if plain else None
         if answer == 0:
+            verdict = identify.follow(access, value, follower)
             follower.follow(access, value)
+        if verdict:
+            yield line, f"{words}. {verdict}", None
+        else:
+            yield line, words, (access._replace(value=0), value) if plain else None
 
 
 def end_pairs(records, broken, printed):

@@ -110,7 +110,7 @@ def crate_faults(crate, lines):
 def edit_faults(lines, there):
     edits, faults = [], []
     for line in lines:
-        found = re.match(r"- (([a-z_]+)/\w+): (?:code|definition)[^:]*: .+?: ((?:`returns|[a-z_]+/proofs/).+)$", line)
+        found = re.match(r"- (([a-z_]+)/\w+): (?:code|definition)[^:]*: .+?: ((?:`returns|`loop|[a-z_]+/proofs/).+)$", line)
         if found:
             edits.append(found[1])
             faults += refused_faults(found[2], found[1], found[3])

@@ -18,6 +18,7 @@ pub mod WriteKeeps
 pub mod Aside
 pub mod Keeps
 pub mod Settled
+pub mod LastWord
 pub mod Identifying
 pub mod Begins
 pub mod Commands
@@ -26,5 +27,6 @@ pub mod Given
 pub mod Accepted
 pub mod Theorem
 pub mod Corollaries
+pub mod Intact
 pub mod Elsewhere
 pub mod OnlyNamed

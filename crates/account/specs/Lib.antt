@@ -5,6 +5,7 @@ pub mod Addressed
 pub mod Course
 pub mod Sweeps
 pub mod Words
+pub mod Intact
 pub mod Table
 pub mod Notes
 pub mod Host

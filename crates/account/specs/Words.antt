@@ -1,7 +1,10 @@
--- Identify's words, in order: 01, the last paragraph of "Commands".
-use Prim.Native.Nat.{ℕ, _/_, _%_}
+-- Identify's words, in order: 01, the last paragraph of "Commands"; word 255: 02, "Fourteen".
+use Prim.Native.Nat.{ℕ, zero, suc, _+_, _*_, _/_, _%_}
+use mathlib.Core.Bool.{Bool}
 use mathlib.Core.List.{List, [], _∷_, _++_}
+use lib.Dec.{eqb}
 use lib.ListN.{replicate}
+use Rattle.ground.specs.Choice.{pick}
 use Rattle.account.specs.Plain.{Plain, sectorsOf}
 
 abbrev pub low : ℕ → ℕ
@@ -15,9 +18,9 @@ unfoldable pub bytesOf : List ℕ → List ℕ
 bytesOf [] = []
 bytesOf (w ∷ l) = w % 256 ∷ w / 256 ∷ bytesOf l
 
--- words 0..9, 10..19, 20..22, 23..46, 47..53, 54..61, 62..255
-unfoldable pub identifyWords : Plain → List ℕ
-identifyWords p =
+-- words 0..9, 10..19, 20..22, 23..46, 47..53, 54..61, 62..254
+unfoldable pub toldWords : Plain → List ℕ
+toldWords p =
     (0x848A ∷ p .made .default .cylinders ∷ 0 ∷ p .made .default .heads ∷ 0 ∷ 0 ∷ p .made .default .sectors ∷ high (sectorsOf (p .made .default)) ∷ low (sectorsOf (p .made .default)) ∷ 0 ∷ [])
     ++ (replicate 10 0x2020
     ++ (replicate 3 0
@@ -25,7 +28,28 @@ identifyWords p =
     ++ ((0 ∷ 0 ∷ 0x0200 ∷ 0 ∷ 0 ∷ 0 ∷ 1 ∷ [])
     ++ ((p .current .cylinders ∷ p .current .heads ∷ p .current .sectors ∷ low (sectorsOf (p .current)) ∷ high (sectorsOf (p .current)) ∷ 0
     ∷ low (sectorsOf (p .made .default)) ∷ high (sectorsOf (p .made .default)) ∷ [])
-    ++ replicate 194 0)))))
+    ++ replicate 193 0)))))
+
+-- "summed with wrap-around in eight bits"
+unfoldable pub summed : List ℕ → ℕ
+summed [] = 0
+summed (b ∷ l) = (b + summed l) % 256
+
+-- the first number that passes, of those from b on, n of them
+unfoldable pub firstFrom : (ℕ → Bool) → ℕ → ℕ → ℕ
+firstFrom passes b zero = b
+firstFrom passes b (suc n) = pick (passes b) b (firstFrom passes (b + 1) n)
+
+-- words, and word 255 after them: "low byte A5H", and a high byte
+abbrev pub ending : ℕ → List ℕ → List ℕ
+ending b words = words ++ ((0xA5 + 256 * b) ∷ [])
+
+-- "the high byte such that all 512 bytes, summed with wrap-around in eight bits, give 0": that of the 256 bytes which does so
+unfoldable pub highByte : List ℕ → ℕ
+highByte words = firstFrom (λ b. eqb (summed (bytesOf (ending b words))) 0) 0 256
+
+unfoldable pub identifyWords : Plain → List ℕ
+identifyWords p = ending (highByte (toldWords p)) (toldWords p)
 
 abbrev pub identifyData : Plain → List ℕ
 identifyData p = bytesOf (identifyWords p)

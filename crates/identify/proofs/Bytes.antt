@@ -1,16 +1,26 @@
 -- The bytes of Identify, for the loop that fills the buffer: how many they are, and which.
-use Prim.Native.Nat.{ℕ, _<_}
-use native.Mathlib.Nat.{zero-add}
+use Prim.Native.Nat.{ℕ, _+_, _<_}
+use native.Mathlib.Nat.{zero-add, add-assoc}
 use mathlib.Core.Path.{_≡_, ap, _∙_}
-use lib.ListN.{length, getD}
+use mathlib.Core.List.{List}
+use lib.ListN.{length, getD, length-append}
 use Rattle.identify.specs.declared.Facts.{Facts}
-use Rattle.identify.specs.Words.{identifyByte, identifyBytes}
+use Rattle.identify.specs.Integrity.{integrityAt, givingZero, withIntegrity}
+use Rattle.identify.specs.Words.{identifyByte, toldBytes, identifyBytes}
 use Rattle.ground.proofs.Lists.{listed-length, listed-at}
+
+pub told-length : (f : Facts) → length (toldBytes f) ≡ integrityAt
+unfolding toldBytes
+told-length f = listed-length (identifyByte f) 0 integrityAt
+
+pub told-at : (f : Facts) (k : ℕ) → k < integrityAt → getD (toldBytes f) k 0 ≡ identifyByte f k
+unfolding toldBytes
+told-at f k h = listed-at (identifyByte f) 0 integrityAt k 0 h ∙ ap (identifyByte f) (zero-add k)
+
+pub integrity-length : (l : List ℕ) → length (withIntegrity l) ≡ length l + 2
+unfolding withIntegrity givingZero
+integrity-length l = rw (length-append, length-append) (add-assoc (length l) 1 1)
 
 pub identify-length : (f : Facts) → length (identifyBytes f) ≡ 512
 unfolding identifyBytes
-identify-length f = listed-length (identifyByte f) 0 512
-
-pub identify-at : (f : Facts) (k : ℕ) → k < 512 → getD (identifyBytes f) k 0 ≡ identifyByte f k
-unfolding identifyBytes
-identify-at f k h = listed-at (identifyByte f) 0 512 k 0 h ∙ ap (identifyByte f) (zero-add k)
+identify-length f = integrity-length (toldBytes f) ∙ ap (λ (n : ℕ). n + 2) (told-length f)

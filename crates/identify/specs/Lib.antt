@@ -1,1 +1,2 @@
+pub mod Integrity
 pub mod Words

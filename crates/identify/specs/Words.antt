@@ -1,14 +1,14 @@
--- 01, "Commands", the last paragraph: Identify's 256 words, low byte first.
+-- 01, "Commands", the last paragraph: Identify's 256 words, low byte first; the last of them is 02's integrity word.
 use Prim.Native.Nat.{ℕ, _/_, _%_}
 use mathlib.Core.List.{List, [], _∷_}
 use lib.Dec.{eqb}
 use lib.ListN.{drop}
 use Rattle.ground.specs.Choice.{pick}
 use Rattle.ground.specs.Lists.{listed}
-use Rattle.ground.specs.Sizes.{sectorBytes}
 use Rattle.ground.specs.Tables.{Numbered, At, Through, lookup}
 use Rattle.geometry.specs.Limits.{totalOf, capacityOf}
 use Rattle.identify.specs.declared.Facts.{Facts}
+use Rattle.identify.specs.Integrity.{integrityAt, withIntegrity}
 
 abbrev pub lowHalf : ℕ → ℕ
 lowHalf n = n % 65536
@@ -47,7 +47,7 @@ fromWord10 f = drop 6 (wordTable f)
 abbrev pub fromWord49 : Facts → List (Numbered ℕ)
 fromWord49 f = drop 9 (wordTable f)
 
--- "the rest 0"
+-- words 0 to 254: "the rest 0"
 unfoldable pub identifyWord : Facts → ℕ → ℕ
 identifyWord f n = lookup (wordTable f) n 0
 
@@ -55,5 +55,9 @@ identifyWord f n = lookup (wordTable f) n 0
 unfoldable pub identifyByte : Facts → ℕ → ℕ
 identifyByte f i = pick (eqb (i % 2) 0) (identifyWord f (i / 2) % 256) (identifyWord f (i / 2) / 256)
 
+-- the bytes of words 0 to 254, and all 512
+unfoldable pub toldBytes : Facts → List ℕ
+toldBytes f = listed (identifyByte f) 0 integrityAt
+
 unfoldable pub identifyBytes : Facts → List ℕ
-identifyBytes f = listed (identifyByte f) 0 sectorBytes
+identifyBytes f = withIntegrity (toldBytes f)

@@ -1,12 +1,14 @@
-// Identify: 256 words from the default and the current geometry.
+// Identify: 256 words, from the default and the current geometry; the last of them is the integrity word.
 use geometry::Geometry;
-use ground::SECTOR_BYTES;
 use ground::Sector;
+use integrity::INTEGRITY_AT;
 ghost use mathlib.Core.Path.{_≡_};
 ghost use Rattle.ground.specs.Choice.{within};
 ghost use Rattle.ground.specs.Tables.{lookup};
 ghost use Rattle.geometry.specs.Limits.{totalOf, capacityOf};
 ghost use Rattle.identify.specs.Words.{lowHalf, highHalf, fromWord10, fromWord49, identifyWord, identifyByte, identifyBytes};
+
+mod integrity;
 
 // What Identify tells.
 pub struct Facts {
@@ -104,7 +106,7 @@ impl Facts {
         self.later_word(n)
     }
 
-    // Word n.
+    // Word n, but for word 255.
     fn word(self, n: usize) -> u16
         ensures { λ r. ⌜ r ≡ identifyWord self n ⌝ }
     {
@@ -133,7 +135,7 @@ impl Facts {
         self.blank_word(n)
     }
 
-    // Byte i of the 512, low half first.
+    // Byte i of words 0 to 254, low half first.
     fn byte(self, i: usize) -> u8
         ensures { λ r. ⌜ r ≡ identifyByte self i ⌝ }
     {
@@ -150,9 +152,10 @@ impl Facts {
     {
         ground::length_known(buffer);
         let mut i = 0;
-        while i < SECTOR_BYTES {
+        while i < INTEGRITY_AT {
             buffer[i] = self.byte(i);
             i += 1;
         }
+        integrity::put_integrity(buffer);
     }
 }

@@ -10,7 +10,8 @@ use Rattle.maps.specs.Places.{registerPlace, attributePlace, mapPlace, placeAt}
 use Rattle.maps.specs.Rows.{misfits, aboveThree}
 use Rattle.sectors.specs.Marks.{readable, writable, marksFit}
 use Rattle.sectors.specs.Sectors.{sectorOf, withSector, bufferRead, stored}
-use Rattle.identify.specs.Words.{identifyWord, identifyByte, identifyBytes}
+use Rattle.identify.specs.Integrity.{sumOf, integrityHigh, givingZero, withIntegrity}
+use Rattle.identify.specs.Words.{identifyWord, identifyByte, toldBytes, identifyBytes}
 use Rattle.registers.specs.WellMade.{indexFits, sresetFits, atRest, statusFits, inReset, holdFits, wordsFit, sectorsFit, loadFits, runFits, wellMade}
 use Rattle.registers.specs.Resets.{turnOf, optionTurned, bufferTurned, controlTurned}
 use Rattle.registers.specs.Values.{valueRead, afterRead, registerSet}
@@ -41,7 +42,7 @@ unfolding every fits totalOf currentFor locate locateChs locateLba byLba seek re
     stored withSector sectorOf bufferRead readable writable marksFit
     readSector nextRead askSector nextAsked sectorDone sectorTest addressTest sectorStored
     countOf commandOf commandGiven verifyFrom eraseFrom allFF
-    identifyBytes identifyByte identifyWord
+    identifyBytes toldBytes identifyByte identifyWord withIntegrity givingZero integrityHigh sumOf
     dataRead dataWritten wordRead wordWritten takeOf
     opened step meaning heldAway perform optionWritten registerWritten plainCore
     reader readOutcome chainFrom

@@ -3,7 +3,7 @@ use mathlib.Core.Bool.{false}
 use mathlib.Core.Path.{_≡_, refl}
 use Rattle.samples.specs.List.{sample2, sample7, sample8, sample9}
 use Rattle.samples.specs.Passes.{reader, holdsOf}
-use Rattle.samples.specs.WrongCommands.{clearsCode, zeroMeansNone, lowHalfFirst, ignores91H, takesHeads}
+use Rattle.samples.specs.WrongCommands.{clearsCode, zeroMeansNone, lowHalfFirst, integrityStays, ignores91H, takesHeads}
 use Rattle.samples.proofs.Computing.{computing}
 
 -- the second 03H says 00H
@@ -20,6 +20,11 @@ zero-means-none-7 = refl
 pub low-half-first-8 : holdsOf lowHalfFirst reader sample8 ≡ false
 unfolding computing lowHalfFirst
 low-half-first-8 = refl
+
+-- word 255 is 56A5H after 91H
+pub integrity-stays-8 : holdsOf integrityStays reader sample8 ≡ false
+unfolding computing integrityStays
+integrity-stays-8 = refl
 
 -- current C is still 4; 91H with Count 33 ends well
 pub ignores-91h-8 : holdsOf ignores91H reader sample8 ≡ false

@@ -3,7 +3,7 @@ use Prim.Native.Nat.{ℕ, _+_, _%_}
 use mathlib.Core.Bool.{_&&_}
 use mathlib.Core.List.{List, _++_}
 use lib.Dec.{eqb}
-use lib.ListN.{take, drop}
+use lib.ListN.{take, drop, set}
 use Rattle.ground.specs.Choice.{pick}
 use Rattle.geometry.specs.Shape.{geometryBy}
 use Rattle.registers.specs.declared.State.{State}
@@ -35,6 +35,10 @@ lowFirst b = take 14 b ++ (take 2 (drop 16 b) ++ (take 2 (drop 14 b) ++ drop 18 
 
 unfoldable pub lowHalfFirst : Machine → Asked → Effect
 lowHalfFirst m a = let s = step m a in pick (gives 0xEC m a) (withNext (withBuffer (lowFirst (s .next .buffer)) (s .next)) s) s
+
+-- 02, of word 255: "It follows every change": here its high byte stays as it is at power-on
+unfoldable pub integrityStays : Machine → Asked → Effect
+integrityStays m a = let s = step m a in pick (gives 0xEC m a) (withNext (withBuffer (set (s .next .buffer) 511 0x56) (s .next)) s) s
 
 -- 91H: here it does nothing, as 1XH
 unfoldable pub ignores91H : Machine → Asked → Effect

@@ -1,19 +1,21 @@
 use borrow.Author.Needs.{needs}
 use native.Mathlib.Omega.{arith}
-use Prim.Native.Nat.{_≤_, _<_, _-_}
-use mathlib.Core.Path.{_≡_}
+use Prim.Native.Nat.{ℕ, _≤_, _<_, _-_}
+use mathlib.Core.Path.{_≡_, sym, ap, _∙_}
 use lib.ListN.{length, take}
-use Rattle.ground.proofs.Lists.{copy-more, copy-all}
-use Rattle.identify.specs.Words.{identifyBytes}
-use Rattle.identify.proofs.Bytes.{identify-length, identify-at}
+use lib.Seq.{take-all}
+use Rattle.ground.proofs.Lists.{copy-more}
+use Rattle.identify.specs.Integrity.{withIntegrity}
+use Rattle.identify.specs.Words.{toldBytes, identifyBytes}
+use Rattle.identify.proofs.Bytes.{told-length, told-at}
 use Rattle.identify.proofs.Facts.identify.Statement.{statement}
 use Rattle.identify.proofs.Facts.identify.Tie as tie
 
 abbrev Inv-loop : tie.InvT-loop
-Inv-loop self buffer₀ i₀ buffer i = (i ≤ 512) × (length buffer ≡ 512) × (take i buffer ≡ take i (identifyBytes self))
+Inv-loop self buffer₀ i₀ buffer i = (i ≤ 510) × (length buffer ≡ 512) × (take i buffer ≡ take i (toldBytes self))
 
 abbrev μ-loop : tie.MeasureT-loop
-μ-loop self buffer₀ i₀ buffer i = 512 - i
+μ-loop self buffer₀ i₀ buffer i = 510 - i
 
 length-known-requires : tie.Need-length-known-requires Inv-loop μ-loop
 length-known-requires c κs = search needs
@@ -37,16 +39,22 @@ loop-again : tie.Need-loop-again Inv-loop μ-loop
 loop-again c =
     let l = c .before .before .loop in
     let f = c .before .before .before .before .before .args .self in
-    let n = identify-length f in
-    let h : l .i < 512 = omega arith in
-    (search needs, search needs, rw (c .byte .ensures, ← identify-at f (l .i) h) (copy-more (l .i) (identifyBytes f) (l .buffer) (omega arith) (omega arith) (l .inv .2)))
+    let n = told-length f in
+    let h : l .i < 510 = omega arith in
+    (search needs, search needs, rw (c .byte .ensures, ← told-at f (l .i) h) (copy-more (l .i) (toldBytes f) (l .buffer) (omega arith) (omega arith) (l .inv .2)))
+
+put-integrity-requires : tie.Need-put-integrity-requires Inv-loop μ-loop
+put-integrity-requires c κs = search needs
 
 returns : tie.Need-returns Inv-loop μ-loop
+unfolding identifyBytes
 returns c =
-    let l = c .before .loop in
-    let f = c .before .before .before .before .args .self in
-    let n = identify-length f in
-    copy-all (l .i) (identifyBytes f) (l .buffer) (omega arith) (omega arith) (l .inv .2)
+    let l = c .before .before .before .loop in
+    let f = c .before .before .before .before .before .before .args .self in
+    let n = told-length f in
+    let e : l .i ≡ 510 = omega arith in
+    let told : take 510 (l .buffer) ≡ toldBytes f = ap (λ (k : ℕ). take k (l .buffer)) (sym e) ∙ l .inv .2 ∙ take-all (l .i) (toldBytes f) (omega arith) in
+    c .put-integrity .ensures ∙ ap withIntegrity told
 
 pub identify-spec : {M : Type 1} → statement M
 identify-spec =
@@ -61,4 +69,5 @@ identify-spec =
     add-i
     loop-less
     loop-again
+    put-integrity-requires
     returns)

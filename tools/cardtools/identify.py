@@ -1,0 +1,53 @@
+"""An Identify as a session reads it: its 512 bytes, and what they give when they are summed (document 02, "Fourteen")."""
+from . import card
+
+COMMAND = "Identify Drive"
+BYTES = 512
+LOW = 0xA5  # the low byte of word 255
+
+
+def verdict(data):
+    """What a whole Identify gives, in words."""
+    given = sum(data) % 256
+    low = "" if data[-2] == LOW else f", and the low byte of word 255 is {data[-2]:02X}H, not {LOW:02X}H"
+    return f"Identify is read whole: its {BYTES} bytes give {'0' if given == 0 else f'{given:02X}H, not 0'}{low}"
+
+
+class Identify:
+    """Collects the bytes of an Identify from access to access, however they are read."""
+
+    def __init__(self):
+        self.data = None  # the whole words so far; None where no Identify is being read
+        self.word = {}  # of the word at hand: its low byte at 0, its high byte at 1
+
+    def follow(self, access, value, follower):
+        """Takes over an accepted access; the verdict, if it read the last byte, else nothing. The follower is as before it."""
+        offset = follower.offset(access)
+        if ends := self.begins_or_ends(access, offset, follower):
+            self.data, self.word = ([] if ends == "begins" else None), {}
+        elif self.data is not None and not access.write and offset in card.DATA:
+            self.take(access, value, offset)
+        if self.data is None or len(self.data) < BYTES:
+            return ""
+        data, self.data = self.data, None
+        return verdict(data)
+
+    @staticmethod
+    def begins_or_ends(access, offset, follower):
+        """What a write does to an Identify that is being read: a command or a reset ends it, and ECH begins another."""
+        if not access.write or follower.held:
+            return ""
+        if (access.space, access.address) == (0, card.OPTION):
+            return "ends" if access.value >= 128 else ""
+        if offset == card.COMMAND:
+            return "begins" if card.command_name(access.value) == COMMAND else "ends"
+        return "ends" if offset == card.CONTROL and access.value & 4 else ""
+
+    def take(self, access, value, offset):
+        if access.width == 2:
+            self.word = {0: value % 256, 1: value // 256}
+        else:
+            self.word[1 if offset in card.ODD or 0 in self.word else 0] = value
+        if len(self.word) == 2:
+            self.data += self.word[0], self.word[1]
+            self.word = {}
