@@ -4,6 +4,7 @@ from . import card
 COMMAND = "Identify Drive"
 BYTES = 512
 LOW = 0xA5  # the low byte of word 255
+BUSY_OR_DATA = 0x88  # BSY and DRQ of Status: with neither, no data is there to be read
 
 
 def verdict(data):
@@ -27,6 +28,8 @@ class Identify:
             self.data, self.word = ([] if ends == "begins" else None), {}
         elif self.data is not None and not access.write and offset in card.DATA:
             self.take(access, value, offset)
+        elif not access.write and offset in (card.COMMAND, card.CONTROL) and not value & BUSY_OR_DATA:
+            self.data = None
         if self.data is None or len(self.data) < BYTES:
             return ""
         data, self.data = self.data, None

@@ -25,7 +25,7 @@ def says_correct(tool, data):
     return CORRECT in done.stdout.splitlines()
 
 
-def test_hdparm_finds_the_identify_of_a_session_correct():
+def test_what_hdparm_says_of_the_identify_of_a_session_where_it_is_installed():
     read = [bytes_read(width) for width in (2, 1)]
     assert [len(data) for data in read] == [512, 512] and read[0] != read[1]
     tool = shutil.which("hdparm") or shutil.which("hdparm", path="/usr/sbin:/sbin")

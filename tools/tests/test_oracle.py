@@ -43,3 +43,11 @@ def test_the_page_names_every_source():
     with open("oracle/README.md", encoding="utf-8") as file:
         named = set(re.findall(r"`src/(\w+\.rs)`", file.read()))
     assert named == set(os.listdir("oracle/src")), named ^ set(os.listdir("oracle/src"))
+
+
+def test_the_decision_has_what_is_compared():
+    with open("docs/DECISIONS.md", encoding="utf-8") as file:
+        told = re.search(r"the ([\d,]+) session files \(([\d,]+) accesses\) and the ([\d,]+) trial inputs \(([\d,]+) accesses\) of seed 1", file.read())
+    status, printed, _ = call("coverage", ORACLE_SEED="1")
+    counts = re.findall(r"^(?:sessions|trials): (\d+), (\d+) accesses$", printed, re.M)
+    assert status == 0 and [f"{int(count):,}" for pair in counts for count in pair] == list(told.groups()), (counts, told.groups())

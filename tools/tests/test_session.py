@@ -251,49 +251,6 @@ def test_broken_and_refused_sessions_explained():
     assert "empty" in lines_of("bytes\n", "n op answer value\nbad 0\n")[1]
 
 
-def identify_lines(text, *values, fold=False):
-    """The explained lines of a session that reads an Identify; the values are those of its data reads, from the first ECH on."""
-    file = file_from(text)
-    reads = iter(values)
-    printed = ["n op answer value"]
-    for number, access in enumerate(records_of(file)[0][1:], 1):
-        data = not access.write and access.address in (0, 8, 9)
-        printed.append(f"{number} {'W' if access.write else 'R'} 0 {access.value if access.write else next(reads) if data else 0x58:04X}")
-    return list(annotated(*records_of(file), printed, fold))
-
-
-WHOLE = "Identify is read whole: its 512 bytes give "
-
-
-def test_an_identify_that_was_read_whole_is_summed():
-    words = [0x848A] + [0] * 254 + [0x4DA5]  # 84H + 8AH + A5H + 4DH is 2 times 256
-    data = [byte for word in words for byte in (word % 256, word // 256)]
-    odd_first = [byte for word in words for byte in (word // 256, word % 256)]
-    for text, values in (("open 4 2 4 1\nwrite ide 7 EC\nread word ide 0 x256\n", words),
-                         ("open 4 2 4 1\nwrite ide 7 EC\nread ide 0 x512\n", data),
-                         ("open 4 2 4 0\nwrite memory 7 EC\n" + "read memory 9\nread memory 8\n" * 256, odd_first),
-                         ("open 4 2 4 0\nwrite memory 7 EC\nread memory 8\nread memory 9\nread memory 7\nwrite memory 2 5\nread word memory 0 x255\n", data[:2] + words[1:])):
-        lines = identify_lines(text, *values)
-        assert [number for number, line in enumerate(lines) if WHOLE in line] == [len(lines) - 1], text
-        assert lines[-1].endswith(f"{WHOLE}0"), lines[-1]
-    assert identify_lines("open 4 2 4 1\nwrite ide 7 EC\nread word ide 0 x256\n", 0x848B, *words[1:])[-1].endswith(f"{WHOLE}01H, not 0")
-    swapped = identify_lines("open 4 2 4 1\nwrite ide 7 EC\nread word ide 0 x256\n", *words[:-1], 0xA54D)[-1]
-    assert swapped.endswith(f"{WHOLE}0, and the low byte of word 255 is 4DH, not A5H"), swapped
-    folded = identify_lines("open 4 2 4 1\nwrite ide 7 EC\nread word ide 0 x256\n", *words, fold=True)
-    assert len(folded) == 4 and "255 times" in folded[2] and folded[3].endswith(f"{WHOLE}0"), folded
-
-
-def test_an_identify_that_was_not_read_whole_is_not_summed():
-    words = [0] * 255
-    for between, rest in (("", 0), ("write ide 7 EC\n", 255), ("write ide 7 E4\n", 256), ("write ide 16 4\nwrite ide 16 0\n", 256)):
-        text = f"open 4 2 4 1\nwrite ide 7 EC\nread word ide 0 x255\n{between}" + (f"read word ide 0 x{rest}\n" if rest else "")
-        assert not any(WHOLE in line for line in identify_lines(text, *words, *[0] * rest)), text
-    text = "open 4 2 4 0\nwrite memory 7 EC\nread word memory 0 x255\nwrite attribute 200 80\nwrite attribute 200 0\nread word memory 0\n"
-    assert not any(WHOLE in line for line in identify_lines(text, *words, 0xFFFF))
-    text = "open 4 2 4 0\nwrite memory 7 EC\nread word memory 0 x255\nwrite attribute 200 1\nread word io 8\n"
-    assert WHOLE in identify_lines(text, *words, 0xA5)[-1]
-
-
 def test_fold_joins_data_only():
     printed = "n op answer value\n" + "".join(f"{n} R 0 FFFF\n" for n in range(1, 7)) + "7 R 0 0050\n8 R 0 0050\n"
     lines = lines_of("open 4 2 4 1\nread word ide 0 x6\nread ide 7 x2\n", printed, fold=True)

@@ -10,7 +10,7 @@ use Rattle.identify.specs.Words.{identifyWord, identifyByte, toldBytes, identif
 use Rattle.registers.specs.declared.State.{State}
 use Rattle.commands.specs.Table.{factsOf}
 use Rattle.account.specs.Plain.{Plain, sectorsOf}
-use Rattle.account.specs.Words.{bytesOf, toldWords, highByte, identifyWords, identifyData}
+use Rattle.account.specs.Words.{bytesOf, toldWords, lowByte, highByte, identifyWords, identifyData}
 use Rattle.account.specs.Host.{plainIn}
 use Rattle.account.specs.Claim.{AllBytes}
 use Rattle.ground.specs.Lists.{listed}
@@ -77,7 +77,7 @@ identify-bytes p a b c d e f =
     let narrow0 = each-narrow w0 (omega arith, (omega arith, (omega arith, (omega arith, (omega arith, (omega arith, (omega arith, (omega arith, (omega arith, (omega arith, tt)))))))))) in
     let narrow47 = each-narrow w47 (omega arith, (omega arith, (omega arith, (omega arith, (omega arith, (omega arith, (omega arith, tt))))))) in
     let narrow54 = each-narrow w54 (omega arith, (omega arith, (omega arith, (omega arith, (omega arith, (omega arith, (omega arith, (omega arith, tt)))))))) in
-    let last : List ℕ = (0xA5 + 256 * highByte (toldWords p)) ∷ [] in
+    let last : List ℕ = (lowByte + 256 * highByte (toldWords p)) ∷ [] in
     let narrow255 = let h = high-byte (toldWords p) in each-narrow last (omega arith, tt) in
     bytes-of (identifyWords p)
     (joined (toldWords p) last

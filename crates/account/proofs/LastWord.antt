@@ -9,7 +9,7 @@ use lib.Seq.{append-snoc}
 use Rattle.ground.proofs.Picks.{pick-elim}
 use Rattle.identify.specs.Integrity.{sumOf, integrityLow, integrityHigh, givingZero, withIntegrity}
 use Rattle.identify.proofs.Sums.{sum-one-more, lacking, only-lacking}
-use Rattle.account.specs.Words.{bytesOf, summed, firstFrom, ending, highByte}
+use Rattle.account.specs.Words.{bytesOf, summed, firstFrom, lowByte, ending, highByte}
 
 -- ---- the search: where one number alone passes, it is found
 
@@ -37,9 +37,9 @@ bytes-append (x ∷ a) w = ap (λ (l : List ℕ). x % 256 ∷ x / 256 ∷ l) (by
 
 two-bytes : (words : List ℕ) (b : ℕ) → bytesOf (ending b words) ≡ bytesOf words ++ (integrityLow ∷ []) ++ (b ∷ [])
 two-bytes words b =
-    let low : (0xA5 + 256 * b) % 256 ≡ 0xA5 = omega arith in
-    let high : (0xA5 + 256 * b) / 256 ≡ b = omega arith in
-    bytes-append words (0xA5 + 256 * b) ∙ rw (low, high) (sym (append-snoc (bytesOf words) integrityLow (b ∷ [])))
+    let low : (lowByte + 256 * b) % 256 ≡ lowByte = omega arith in
+    let high : (lowByte + 256 * b) / 256 ≡ b = omega arith in
+    bytes-append words (lowByte + 256 * b) ∙ rw (low, high) (sym (append-snoc (bytesOf words) integrityLow (b ∷ [])))
 
 -- ---- so both high bytes are one
 

@@ -35,14 +35,18 @@ unfoldable pub summed : List ℕ → ℕ
 summed [] = 0
 summed (b ∷ l) = (b + summed l) % 256
 
--- the first number that passes, of those from b on, n of them
+-- the first number that passes, of those from b on, n of them; b + n where none does
 unfoldable pub firstFrom : (ℕ → Bool) → ℕ → ℕ → ℕ
 firstFrom passes b zero = b
 firstFrom passes b (suc n) = pick (passes b) b (firstFrom passes (b + 1) n)
 
--- words, and word 255 after them: "low byte A5H", and a high byte
+-- "low byte A5H"
+abbrev pub lowByte : ℕ
+lowByte = 0xA5
+
+-- words, and word 255 after them, with a high byte
 abbrev pub ending : ℕ → List ℕ → List ℕ
-ending b words = words ++ ((0xA5 + 256 * b) ∷ [])
+ending b words = words ++ ((lowByte + 256 * b) ∷ [])
 
 -- "the high byte such that all 512 bytes, summed with wrap-around in eight bits, give 0": that of the 256 bytes which does so
 unfoldable pub highByte : List ℕ → ℕ

@@ -1,13 +1,17 @@
 -- The integrity word: what it achieves, whatever the bytes before it are, and so for every Identify.
 use Prim.Native.Nat.{ℕ, zero, suc, _+_, _%_, _<_}
-use mathlib.Core.Path.{_≡_, sym, ap, subst, _∙_}
+use mathlib.Core.Path.{_≡_, refl, sym, ap, subst, _∙_}
 use mathlib.Core.List.{List, [], _∷_, _++_}
 use native.Mathlib.Omega.{arith}
 use lib.ListN.{length, set, getD, length-append, length-set, List·getD-append}
 use lib.Seq.{getD-at, getD-append-seam, set-append-left}
+use Rattle.ground.specs.Choice.{every}
+use Rattle.ground.specs.Lists.{listed}
+use Rattle.geometry.specs.declared.Geometry.{Geometry}
+use Rattle.geometry.specs.Limits.{fits, totalOf}
 use Rattle.identify.specs.declared.Facts.{Facts}
 use Rattle.identify.specs.Integrity.{sumOf, integrityLow, integrityHigh, givingZero, withIntegrity}
-use Rattle.identify.specs.Words.{toldBytes, identifyBytes}
+use Rattle.identify.specs.Words.{identifyWord, identifyByte, toldBytes, identifyBytes}
 use Rattle.identify.proofs.Bytes.{told-length, integrity-length}
 use Rattle.identify.proofs.Sums.{sum-one-more, lacking}
 
@@ -84,3 +88,12 @@ unfolding identifyBytes
 identify-only f =
     subst (λ (n : ℕ). (b : ℕ) → b < 256 → sumOf (set (withIntegrity (toldBytes f)) (n + 1) b) % 256 ≡ 0 → b ≡ getD (withIntegrity (toldBytes f)) (n + 1) 0) (told-length f)
     (only-high (toldBytes f))
+
+-- ---- an Identify by computing: C 4, H 2, S 4 at power-on
+
+abbrev four-two-four : Geometry
+four-two-four = record { cylinders = 4; heads = 2; sectors = 4 }
+
+pub at-power-on : let b = identifyBytes (record { default = four-two-four; current = four-two-four }) in (getD b 511 0 ≡ 0x56) × (getD b 510 0 ≡ 0xA5)
+unfolding listed totalOf fits every identifyWord identifyByte toldBytes identifyBytes sumOf integrityHigh givingZero withIntegrity
+at-power-on = (refl, refl)

@@ -1,0 +1,76 @@
+"""What tools/session --annotate says of an Identify."""
+from cardtools.annotate import annotated
+from cardtools.from_text import file_from
+from cardtools.records import records_of
+
+WHOLE = "Identify is read whole: its 512 bytes give "
+WORDS = [0x848A] + [0] * 254 + [0x4DA5]  # 84H + 8AH + A5H + 4DH is 2 times 256
+BYTES = [byte for word in WORDS for byte in (word % 256, word // 256)]
+BEFORE, LAST = ("read word ide 0 x255", WORDS[:-1]), ("read word ide 0", WORDS[-1:])
+ECH = ("write ide 7 EC",)
+
+
+def lines_of(mode, *steps, fold=False):
+    """The explained lines of a run. A step is a text, after it the values that its reads printed, or the number of their refusal."""
+    opening = f"open 4 2 4 {mode}\n"
+    printed = ["n op answer value"]
+    for text, *rest in steps:
+        given = rest[0] if rest else []
+        answer = given if isinstance(given, int) else 0
+        values = iter([] if answer else given)
+        for access in records_of(file_from(f"{opening}{text}\n"))[0][1:]:
+            value = 0 if answer else access.value if access.write else next(values)
+            printed.append(f"{len(printed)} {'W' if access.write else 'R'} {answer} {value:04X}")
+        assert next(values, None) is None, text
+    return list(annotated(*records_of(file_from(opening + "\n".join(text for text, *_ in steps) + "\n")), printed, fold))
+
+
+def verdicts(mode, *steps):
+    """What is said of whole Identifies, each with the number of its access."""
+    return [(number, line.split(WHOLE)[1]) for number, line in enumerate(lines_of(mode, *steps)) if WHOLE in line]
+
+
+def test_a_whole_identify_is_summed_however_it_was_read():
+    odd_first = [step for i in range(0, 512, 2) for step in (("read memory 9", BYTES[i + 1:i + 2]), ("read memory 8", BYTES[i:i + 1]))]
+    window = [step for i in range(0, 512, 2) for step in (("read memory 400", BYTES[i:i + 1]), ("read memory 7FF", BYTES[i + 1:i + 2]))]
+    assert verdicts(1, ECH, BEFORE, LAST) == [(257, "0")]
+    assert verdicts(1, ECH, ("read ide 0 x512", BYTES)) == [(513, "0")]
+    assert verdicts(0, ("write memory 7 EC",), *odd_first) == verdicts(0, ("write memory 3F7 EC",), *window) == [(513, "0")]
+
+
+def test_a_sum_that_is_not_0_and_a_low_byte_that_is_not_A5H_are_told():
+    assert verdicts(1, ECH, ("read word ide 0 x256", [0x848B] + WORDS[1:])) == [(257, "01H, not 0")]
+    assert verdicts(1, ECH, BEFORE, ("read word ide 0", [0x4CA5])) == [(257, "FFH, not 0")]
+    assert verdicts(1, ECH, BEFORE, ("read word ide 0", [0xA54D])) == [(257, "0, and the low byte of word 255 is 4DH, not A5H")]
+    assert verdicts(1, ECH, ("read word ide 0 x256", [0xFFFF] * 256)) == [(257, "0, and the low byte of word 255 is FFH, not A5H")]
+
+
+def test_what_comes_between_and_ends_nothing():
+    asides = (("read ide 7", [0x58]), ("read ide 16", [0x58]), ("read ide 7 x2", [0x80, 0x58]), ("write ide 2 5",), ("write word ide 0 1234",), ("write ide 0 12",), ("write ide 16 2",), ("read ide 9", 6))
+    for aside in asides:
+        assert [said for _, said in verdicts(1, ECH, aside, BEFORE, aside, LAST)] == ["0"], aside
+    halves = ("read memory 8", BYTES[:1]), ("read word memory 8", 11), ("read memory 9", BYTES[1:2])
+    assert verdicts(0, ("write memory 7 EC",), *halves, ("read word memory 8 x255", WORDS[1:])) == [(259, "0")]
+    for option, place in (("41", "io 8"), ("2", "io 1F0"), ("40", "memory 0"), ("4", "memory 0")):
+        refused = [10] if option == "4" else []
+        assert verdicts(0, ("write memory 7 EC",), ("read word memory 0 x255", WORDS[:-1]), (f"write attribute 200 {option}", *refused), (f"read word {place}", WORDS[-1:])) == [(258, "0")], option
+
+
+def test_what_ends_an_identify():
+    again = ("read word ide 0 x256", [0xFFFF] * 256)
+    for end in (("write ide 7 E4",), ("write ide 7 3",), ("write ide 16 4\nwrite ide 16 0",), ("read ide 7", [0x51]), ("read ide 16", [0x50])):
+        assert not verdicts(1, ECH, BEFORE, end, again), end
+    assert not verdicts(1, ECH, BEFORE)
+    assert not verdicts(1, ("write ide 16 4",), ECH, ("write ide 16 0",), again)
+    assert not verdicts(0, ("write memory 7 EC",), ("read word memory 0 x255", WORDS[:-1]), ("write attribute 200 80\nwrite attribute 200 0",), ("read word memory 0", [0xFFFF]))
+
+
+def test_each_identify_is_summed_once():
+    assert verdicts(1, ECH, BEFORE, LAST, ("read word ide 0 x256", [0xFFFF] * 256)) == [(257, "0")]
+    assert verdicts(1, ECH, ("read ide 0", [0x8A]), ECH, ("read ide 0 x512", BYTES)) == [(515, "0")]
+    assert verdicts(1, ECH, BEFORE, LAST, ECH, BEFORE, ("read word ide 0", [0x4EA5])) == [(257, "0"), (514, "01H, not 0")]
+
+
+def test_fold_leaves_the_verdict_a_line():
+    folded = lines_of(1, ECH, BEFORE, LAST, fold=True)
+    assert len(folded) == 4 and "255 times" in folded[2] and folded[3].endswith(f"{WHOLE}0"), folded
