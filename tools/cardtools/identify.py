@@ -7,11 +7,13 @@ LOW = 0xA5  # the low byte of word 255
 BUSY_OR_DATA = 0x88  # BSY and DRQ of Status: with neither, no data is there to be read
 
 
-def verdict(data):
-    """What a whole Identify gives, in words."""
+def verdict(data, status):
+    """What a whole Identify gives, in words; the Status is one that said that no data was there, or None."""
+    whole = f"Identify is read whole: its {BYTES} bytes give"
+    doubted = f"{BYTES} bytes were read after ECH, though Status was {status:02X}H, without DRQ: they give" if status is not None else ""
     given = sum(data) % 256
     low = "" if data[-2] == LOW else f", and the low byte of word 255 is {data[-2]:02X}H, not {LOW:02X}H"
-    return f"Identify is read whole: its {BYTES} bytes give {'0' if given == 0 else f'{given:02X}H, not 0'}{low}"
+    return f"{doubted or whole} {'0' if given == 0 else f'{given:02X}H, not 0'}{low}"
 
 
 class Identify:
@@ -20,20 +22,21 @@ class Identify:
     def __init__(self):
         self.data = None  # the whole words so far; None where no Identify is being read
         self.word = {}  # of the word at hand: its low byte at 0, its high byte at 1
+        self.status = None  # one that was read since ECH and said that no data was there
 
     def follow(self, access, value, follower):
         """Takes over an accepted access; the verdict, if it read the last byte, else nothing. The follower is as before it."""
         offset = follower.offset(access)
         if ends := self.begins_or_ends(access, offset, follower):
-            self.data, self.word = ([] if ends == "begins" else None), {}
+            self.data, self.word, self.status = ([] if ends == "begins" else None), {}, None
         elif self.data is not None and not access.write and offset in card.DATA:
             self.take(access, value, offset)
         elif not access.write and offset in (card.COMMAND, card.CONTROL) and not value & BUSY_OR_DATA:
-            self.data = None
+            self.status = value
         if self.data is None or len(self.data) < BYTES:
             return ""
         data, self.data = self.data, None
-        return verdict(data)
+        return verdict(data, self.status)
 
     @staticmethod
     def begins_or_ends(access, offset, follower):

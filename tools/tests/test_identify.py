@@ -58,11 +58,18 @@ def test_what_comes_between_and_ends_nothing():
 
 def test_what_ends_an_identify():
     again = ("read word ide 0 x256", [0xFFFF] * 256)
-    for end in (("write ide 7 E4",), ("write ide 7 3",), ("write ide 16 4\nwrite ide 16 0",), ("read ide 7", [0x51]), ("read ide 16", [0x50])):
+    for end in (("write ide 7 E4",), ("write ide 7 3",), ("write ide 16 4\nwrite ide 16 0",)):
         assert not verdicts(1, ECH, BEFORE, end, again), end
     assert not verdicts(1, ECH, BEFORE)
     assert not verdicts(1, ("write ide 16 4",), ECH, ("write ide 16 0",), again)
     assert not verdicts(0, ("write memory 7 EC",), ("read word memory 0 x255", WORDS[:-1]), ("write attribute 200 80\nwrite attribute 200 0",), ("read word memory 0", [0xFFFF]))
+
+
+def test_a_status_without_data_is_told():
+    for place, status in (("7", 0x51), ("16", 0x50), ("7", 0)):
+        last = lines_of(1, ("read ide 7", [0x50]), ECH, (f"read ide {place}", [status]), ("read ide 7", [0x58]), ("read word ide 0 x256", [0xFFFF] * 256))[-1]
+        assert last.endswith(f". 512 bytes were read after ECH, though Status was {status:02X}H, without DRQ: they give 0, and the low byte of word 255 is FFH, not A5H"), last
+    assert len(verdicts(1, ECH, ("read ide 7", [0x50]), ECH, BEFORE, LAST)) == 1
 
 
 def test_each_identify_is_summed_once():

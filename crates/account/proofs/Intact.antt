@@ -24,7 +24,7 @@ use Rattle.account.proofs.Identifying.{identify-is, identify-bytes}
 use Rattle.account.proofs.Accepted.{given, able}
 use Rattle.account.proofs.Theorem.{agreed}
 
--- "taken when ECH is written": the buffer after it, of any card value at all
+-- taken when ECH is written (D184): the buffer that the command leaves, whatever the card value
 pub ech-gives-zero : (m : Machine) → (summed (commandGiven 0xEC m .buffer) ≡ 0) × (getD (commandGiven 0xEC m .buffer) 510 0 ≡ 0xA5)
 unfolding commandGiven commandOf
 ech-gives-zero m =

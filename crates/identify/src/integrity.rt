@@ -1,4 +1,5 @@
 // 02, "Fourteen": the integrity word, word 255 of Identify.
+use super::INTEGRITY_AT;
 use ground::Sector;
 use std::num::wrapping_add_u8;
 use std::num::wrapping_sub_u8;
@@ -7,9 +8,7 @@ ghost use Prim.Native.Nat.{_%_};
 ghost use lib.ListN.{take};
 ghost use Rattle.identify.specs.Integrity.{integrityAt, sumOf, withIntegrity};
 
-// The place of its low byte, and that byte.
-pub(crate) const INTEGRITY_AT: usize = 510;
-
+// Its low byte.
 const INTEGRITY_LOW: u8 = 0xA5;
 
 // Bytes summed with wrap-around in eight bits.

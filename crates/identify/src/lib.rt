@@ -1,7 +1,6 @@
 // Identify: 256 words, from the default and the current geometry; the last of them is the integrity word.
 use geometry::Geometry;
 use ground::Sector;
-use integrity::INTEGRITY_AT;
 ghost use mathlib.Core.Path.{_≡_};
 ghost use Rattle.ground.specs.Choice.{within};
 ghost use Rattle.ground.specs.Tables.{lookup};
@@ -9,6 +8,9 @@ ghost use Rattle.geometry.specs.Limits.{totalOf, capacityOf};
 ghost use Rattle.identify.specs.Words.{lowHalf, highHalf, fromWord10, fromWord49, identifyWord, identifyByte, identifyBytes};
 
 mod integrity;
+
+// 02: the place of the low byte of word 255.
+const INTEGRITY_AT: usize = 510;
 
 // What Identify tells.
 pub struct Facts {
