@@ -3,7 +3,7 @@
 use crate::cover;
 use crate::maps::{self, Mode, Place};
 use crate::mutants::{on, Change};
-use crate::points::BadForm;
+use crate::points::{BadForm, Kept};
 
 #[derive(Clone, Copy, PartialEq, Eq, Debug)]
 pub struct Geometry {
@@ -107,16 +107,30 @@ pub struct Card {
     /// The extended error code.
     pub code: u8,
     pub buffer: [u8; 512],
+    /// The number of marks that are not 0, as the card keeps it.
+    pub bad: u16,
     pub phase: Phase,
     /// The running transfer moves sectors, not the buffer alone.
     pub sectors: bool,
-    /// The buffer on its way to the host is Identify's: for the coverage table alone.
-    pub identity: bool,
-    /// The current geometry when Identify was last read to its end: for the coverage table alone.
-    pub shown: Option<Geometry>,
     pub left: u16,
     pub words: u16,
     pub half: Half,
+    pub trace: Trace,
+}
+
+/// What the coverage table alone asks of a card.
+#[derive(Clone, Default, Debug)]
+pub struct Trace {
+    /// The buffer on its way to the host is Identify's.
+    pub identity: bool,
+    /// The current geometry when Identify was last read to its end.
+    pub shown: Option<Geometry>,
+    /// Word 129 when it was last read.
+    pub told: Option<u16>,
+    /// What has kept the count since it was last lowered or read.
+    pub kept: Option<Kept>,
+    /// How often the present command has lowered the count.
+    pub lowered: u16,
 }
 
 pub const IDLE: u8 = 0x50;
@@ -146,13 +160,13 @@ impl Card {
             head: 0,
             code: 0,
             buffer: [0; 512],
+            bad: 0,
             phase: Phase::Idle,
             sectors: false,
-            identity: false,
-            shown: None,
             left: 0,
             words: 0,
             half: Half::Nothing,
+            trace: Trace::default(),
         }
     }
 
@@ -164,13 +178,15 @@ impl Card {
             card.mode = if mode == 1 { Mode::TrueIde } else { Mode::PcCard };
             card.default = geometry;
             card.power_on(0);
+            card.bad = opening_count(lent.marks);
+            cover::opened(lent.marks);
         } else {
             cover::refusal(number);
         }
         (Answer { number, value: 0, line: false }, card)
     }
 
-    /// Power-on, with the map setting given.
+    /// Power-on, with the map setting given. The count is the opening's alone: "resets keep it".
     pub fn power_on(&mut self, setting: u8) {
         self.power_on_registers();
         self.buffer = [0; 512];
@@ -250,6 +266,26 @@ fn opening_refusal(geometry: Geometry, mode: u16, lent: &Lent) -> u8 {
     0
 }
 
+/// How many of the marks are not 0.
+pub fn bad_marks(marks: &[u8]) -> u16 {
+    marks.iter().filter(|&&mark| mark != 0).count() as u16
+}
+
+/// "the number of marks that are not 0, worked out at opening".
+fn opening_count(marks: &[u8]) -> u16 {
+    let twos = marks.iter().filter(|&&mark| mark == 2).count() as u16;
+    let bad = bad_marks(marks);
+    if on(Change::OpeningOmitsTwo) {
+        bad - twos
+    } else if on(Change::OpeningDoublesTwo) {
+        bad + twos
+    } else if on(Change::OpeningCountsInByte) {
+        bad & 0xFF
+    } else {
+        bad
+    }
+}
+
 /// 2, 3 or 5 if a lent part has the wrong length, else 0.
 fn wrong_length(geometry: Geometry, lent: &Lent) -> u8 {
     let n = geometry.sectors() as usize;
@@ -266,7 +302,7 @@ fn wrong_length(geometry: Geometry, lent: &Lent) -> u8 {
 
 // ---------------------------------------------------------------- well made
 
-/// 01's list of what makes a card well made.
+/// 01's list of what makes a card well made, and what 02 adds to it.
 #[derive(Clone, Copy, PartialEq, Eq, Debug)]
 pub enum Condition {
     /// The geometry fits the limits.
@@ -289,9 +325,11 @@ pub enum Condition {
     Words,
     /// A sector transfer's address and count.
     Sectors,
+    /// The count of the marks that are not 0 is at most N.
+    Count,
 }
 
-const CONDITIONS: [Condition; 10] = [
+const CONDITIONS: [Condition; 11] = [
     Condition::Default,
     Condition::Heads,
     Condition::Track,
@@ -302,6 +340,7 @@ const CONDITIONS: [Condition; 10] = [
     Condition::Held,
     Condition::Words,
     Condition::Sectors,
+    Condition::Count,
 ];
 
 impl Card {
@@ -317,6 +356,7 @@ impl Card {
             Condition::Held => !self.running() || !(self.sreset || self.hold),
             Condition::Words => !self.running() || self.words <= 255,
             Condition::Sectors => self.sectors_agree(),
+            Condition::Count => self.count_fits(),
         }
     }
 
@@ -330,6 +370,7 @@ impl Card {
         }
         broken == [Condition::Status] && on(Change::StatusIgnored)
             || broken == [Condition::Sectors] && on(Change::SectorsIgnored)
+            || broken == [Condition::Count] && on(Change::CountIgnored)
     }
 
     fn current_c_agrees(&self) -> bool {
@@ -353,6 +394,13 @@ impl Card {
             || (self.locate().is_ok()
                 && (1..=256).contains(&self.left)
                 && self.left % 256 == self.count as u16)
+    }
+
+    /// "at most N", whatever the marks and the current geometry are.
+    fn count_fits(&self) -> bool {
+        let of = if on(Change::CountByCurrent) { self.current } else { self.default };
+        let bad = self.bad as u64 + on(Change::CountBelowTotal) as u64;
+        bad <= of.sectors()
     }
 }
 

@@ -1,8 +1,9 @@
 //! The commands of 01's table, and what follows the last byte of a sector.
 
-use crate::card::{Card, Geometry, Lent, Phase, DATA, FAILED, FAULT, IDLE};
+use crate::card::{bad_marks, Card, Geometry, Lent, Phase, DATA, FAILED, FAULT, IDLE};
 use crate::cover;
 use crate::mutants::{on, Change};
+use crate::points::Kept;
 
 pub const ABRT: u8 = 0x04;
 pub const IDNF: u8 = 0x10;
@@ -59,7 +60,12 @@ impl Card {
         if on(Change::DropStores) && self.phase == Phase::Out && self.sectors {
             self.store_buffer(lent);
         }
+        self.keep_dropped(Kept::Dropped, lent);
+        if on(Change::DropLowersCount) && self.would_heal(lent) {
+            self.lower_count();
+        }
         self.mark = false;
+        self.trace.lowered = 0;
         self.stop_transfer();
         if row == Row::Sense {
             return self.sense();
@@ -70,11 +76,11 @@ impl Card {
         self.code = 0;
         match row {
             Row::Read | Row::Write | Row::Verify | Row::Erase => self.sector_command(row, lent),
-            Row::Identify => self.identify(),
+            Row::Identify => self.identify(lent),
             Row::ReadBuffer => self.offer(),
             Row::WriteBuffer => self.ask(),
-            Row::Parameters => self.parameters(),
-            Row::Diagnose => self.diagnose(),
+            Row::Parameters => self.parameters(lent),
+            Row::Diagnose => self.diagnose(lent),
             Row::Seek => self.seek(),
             Row::Recalibrate => self.good(row),
             Row::Other | Row::Sense => self.fail(row, FAILED, ABRT, 0x20),
@@ -98,12 +104,14 @@ impl Card {
 
     fn end(&mut self, row: Row, error: u8, code: u8) {
         cover::end(row, self.lba(), error, code);
+        cover::run(row, self.trace.lowered, error, code);
+        self.trace.lowered = 0;
         self.stop_transfer();
     }
 
     /// The buffer becomes ready for the host to read.
     fn offer(&mut self) {
-        self.identity = false;
+        self.trace.identity = false;
         self.phase = Phase::In;
         self.words = 0;
         self.status = DATA;
@@ -130,7 +138,8 @@ impl Card {
         cover::end(Row::Sense, false, 0, 0);
     }
 
-    fn diagnose(&mut self) {
+    fn diagnose(&mut self, lent: &Lent) {
+        self.keep_count(Kept::Diagnose, lent);
         self.count = 1;
         self.sector = 1;
         self.cyl_low = 0;
@@ -139,17 +148,28 @@ impl Card {
         if on(Change::DiagnoseForgetsGeometry) {
             self.current = self.default;
         }
+        if on(Change::DiagnoseClearsCount) {
+            self.bad = 0;
+        }
+        if on(Change::DiagnoseRecounts) {
+            self.bad = bad_marks(lent.marks);
+        }
         self.good(Row::Diagnose);
         self.error = 1;
     }
 
-    fn parameters(&mut self) {
+    fn parameters(&mut self, lent: &Lent) {
         let s = self.count as u16;
         let h = (self.head & 0x0F) as u16 + 1;
         let track = (h * s) as u64;
         let all = if on(Change::ParametersByCurrent) { self.current } else { self.default };
         if s == 0 || track > all.sectors() {
+            self.keep_count(Kept::ParametersRefused, lent);
             return self.fail(Row::Parameters, FAILED, ABRT, 0x21);
+        }
+        self.keep_count(Kept::Parameters, lent);
+        if on(Change::ParametersRecount) {
+            self.bad = bad_marks(lent.marks);
         }
         let c = (self.default.sectors() / track) as u16;
         self.current = Geometry::new(c, h, s);
@@ -263,7 +283,7 @@ impl Card {
         };
         match row {
             Row::Read => self.read_sector(lent),
-            Row::Write => self.ask_sector(),
+            Row::Write => self.ask_sector(lent),
             _ => while self.quiet_sector(row, lent) {},
         }
     }
@@ -279,12 +299,15 @@ impl Card {
     }
 
     /// Asks for the present sector of a write, if there is such a sector.
-    fn ask_sector(&mut self) {
+    fn ask_sector(&mut self, lent: &Lent) {
         match self.locate() {
             Err(code) => self.fail(Row::Write, FAILED, IDNF, code),
             Ok(_) => {
                 self.sectors = true;
                 self.ask();
+                if on(Change::CountLoweredEarly) && self.would_heal(lent) {
+                    self.lower_count();
+                }
             }
         }
     }
@@ -327,6 +350,7 @@ impl Card {
                 if !bad {
                     return Some(at);
                 }
+                self.keep_count(Kept::Unreadable, lent);
                 self.unreadable(row);
             }
         }
@@ -337,17 +361,26 @@ impl Card {
         if on(Change::FailedReadClears) {
             self.buffer = [0; 512];
         }
+        if on(Change::UnreadableRaisesCount) {
+            self.bad = self.bad.saturating_add(1);
+        }
         self.fail(row, FAILED, UNC, 0x11);
     }
 
     /// Stores one sector and sets its mark to 0, or ends with a write fault.
     fn put_sector(&mut self, row: Row, at: usize, bytes: &[u8; 512], lent: &mut Lent) -> bool {
-        cover::mark(row, lent.marks[at]);
-        if lent.marks[at] == 2 {
+        let mark = lent.marks[at];
+        cover::mark(row, mark);
+        cover::stored(row, mark, self.bad, lent.marks);
+        if mark == 2 {
+            if on(Change::FaultLowersCount) {
+                self.lower_count();
+            }
             self.fail(row, FAULT, ABRT, 0x03);
             return false;
         }
         lent.store[512 * at..512 * at + 512].copy_from_slice(bytes);
+        self.healed(row, mark);
         if !on(Change::WriteLeavesMark) {
             lent.marks[at] = 0;
         }
@@ -395,7 +428,7 @@ impl Card {
         match (self.phase, self.sectors) {
             (Phase::In, true) => self.sector_was_read(lent),
             (Phase::Out, true) => self.sector_was_written(lent),
-            (Phase::In, false) if self.identity => self.identify_was_read(),
+            (Phase::In, false) if self.trace.identity => self.identify_was_read(),
             (Phase::In, false) => self.good_read(Row::ReadBuffer),
             _ => self.good(Row::WriteBuffer),
         }
@@ -409,7 +442,7 @@ impl Card {
 
     fn sector_was_written(&mut self, lent: &mut Lent) {
         if self.store_buffer(lent) && !self.one_done(Row::Write) {
-            self.ask_sector();
+            self.ask_sector(lent);
             // A second or later sector is asked for; an error end sets the mark as well.
             self.mark |= !on(Change::SecondSectorUnmarked);
         }
@@ -424,34 +457,100 @@ impl Card {
     }
 }
 
+// ---------------------------------------------------------------- the count
+
+impl Card {
+    /// A stored sector's mark, not yet 0: "writes and Erase can lower it". The stored mark decides;
+    /// a sound sector's leaves it.
+    fn healed(&mut self, row: Row, mark: u8) {
+        let lowers = match mark {
+            0 => on(Change::SoundLowersCount),
+            3.. => !on(Change::AboveLeavesCount),
+            _ => true,
+        };
+        let left = match row {
+            Row::Erase => on(Change::EraseLeavesCount),
+            _ => on(Change::WriteLeavesCount) || on(Change::CountLoweredEarly),
+        };
+        if lowers && !left {
+            self.lower_count();
+        }
+    }
+
+    /// "never below 0".
+    fn lower_count(&mut self) {
+        self.trace.kept = None;
+        self.trace.lowered += (self.bad > 0) as u16;
+        self.bad = match self.bad {
+            0 if on(Change::CountWraps) => u16::MAX,
+            bad => bad.saturating_sub(1),
+        };
+    }
+
+    /// The last byte of the sector that is being written would turn its mark into 0.
+    fn would_heal(&self, lent: &Lent) -> bool {
+        let writing = self.phase == Phase::Out && self.sectors;
+        writing && self.locate().is_ok_and(|at| !matches!(lent.marks[at], 0 | 2))
+    }
+
+    /// What keeps the count is about to be done; for the coverage table alone.
+    pub fn keep_count(&mut self, what: Kept, lent: &Lent) {
+        cover::kept(what, self.bad, lent.marks);
+        self.trace.kept = Some(what).filter(|what| what.shown());
+    }
+
+    /// The same of a write that is broken off where its last byte would lower the count.
+    pub fn keep_dropped(&mut self, what: Kept, lent: &Lent) {
+        if self.would_heal(lent) {
+            self.keep_count(what, lent);
+        }
+    }
+
+    /// The present word has moved; of Identify's word 129 the coverage table is told.
+    pub fn word_shown(&mut self, lent: &Lent) {
+        if self.phase == Phase::In && self.trace.identity && self.words == 129 {
+            cover::count_shown(self, lent.marks);
+            self.trace.told = Some(u16::from_le_bytes([self.buffer[258], self.buffer[259]]));
+            self.trace.kept = None;
+        }
+    }
+}
+
 // ---------------------------------------------------------------- Identify
 
 impl Card {
-    fn identify(&mut self) {
-        for (i, word) in self.identify_words().into_iter().enumerate() {
+    fn identify(&mut self, lent: &Lent) {
+        let bad = if on(Change::IdentifyRecounts) { bad_marks(lent.marks) } else { self.bad };
+        for (i, word) in self.identify_words(bad).into_iter().enumerate() {
             self.buffer[2 * i..2 * i + 2].copy_from_slice(&word.to_le_bytes());
         }
         self.offer();
-        self.identity = true;
+        self.trace.identity = true;
         cover::identify();
     }
 
     fn identify_was_read(&mut self) {
         cover::identified(self);
-        self.shown = Some(self.current);
+        self.trace.shown = Some(self.current);
         self.good_read(Row::Identify);
     }
 
-    fn identify_words(&self) -> [u16; 256] {
-        let mut w = self.plain_words(self.current);
-        let summed =
-            if on(Change::IntegrityByDefault) { self.plain_words(self.default) } else { w };
+    fn identify_words(&self, bad: u16) -> [u16; 256] {
+        let mut w = self.plain_words(self.current, bad);
+        let summed = if on(Change::IntegrityByDefault) {
+            self.plain_words(self.default, bad)
+        } else if on(Change::IntegrityWithoutCount) {
+            self.plain_words(self.current, 0)
+        } else {
+            w
+        };
         w[255] = integrity(&summed[..255]);
         w
     }
 
-    /// The words of 01 for this current geometry; word 255 is still 0.
-    fn plain_words(&self, now: Geometry) -> [u16; 256] {
+    /// The words of 01 for this current geometry and 02's word 129 for this count; word 255 is
+    /// still 0.
+    fn plain_words(&self, now: Geometry, bad: u16) -> [u16; 256] {
         let mut w = [0u16; 256];
         let all = self.default;
         let n = all.sectors() as u32;
@@ -473,6 +572,11 @@ impl Card {
             (low(capacity), high(capacity))
         };
         (w[60], w[61]) = (low(n), high(n));
+        w[if on(Change::CountInWord128) { 128 } else { 129 }] = match bad {
+            _ if on(Change::CountByLowByte) => bad & 0xFF,
+            _ if on(Change::CountSwapped) => bad.swap_bytes(),
+            _ => bad,
+        };
         w
     }
 }

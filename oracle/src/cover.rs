@@ -3,7 +3,7 @@
 use std::cell::{Cell, RefCell};
 use std::collections::HashMap;
 
-use crate::card::{Access, Card, Condition, Geometry, Half, Phase, Touch};
+use crate::card::{bad_marks, Access, Card, Condition, Geometry, Half, Phase, Touch};
 use crate::commands::Row;
 use crate::maps::{Mode, Place};
 use crate::points::*;
@@ -51,7 +51,11 @@ pub fn command(card: &Card, opcode: u8, row: Row) {
 }
 
 pub fn end(row: Row, lba: bool, error: u8, code: u8) {
-    let ending = match (error, code) {
+    hit(Point::End(row, ending(error, code), lba && row.addressed()));
+}
+
+fn ending(error: u8, code: u8) -> Ending {
+    match (error, code) {
         (0x10, 0x21) => Ending::Idnf21,
         (0x10, _) => Ending::Idnf2F,
         (0x40, _) => Ending::Unc,
@@ -59,8 +63,7 @@ pub fn end(row: Row, lba: bool, error: u8, code: u8) {
         (0x04, 0x20) => Ending::Abrt20,
         (0x04, _) => Ending::Abrt21,
         _ => Ending::Good,
-    };
-    hit(Point::End(row, ending, lba && row.addressed()));
+    }
 }
 
 pub fn sense(code: u8) {
@@ -80,12 +83,10 @@ pub fn identified(card: &Card) {
         false => (Identity::Changed, Identity::ChangedAnew),
     };
     hit(Point::Identify(whole));
-    if card.shown.is_some_and(|before| before != card.current) {
+    if card.trace.shown.is_some_and(|before| before != card.current) {
         hit(Point::Identify(anew));
     }
-    if card.buffer[510..] == [0xA5, 0] {
-        hit(Point::Identify(Identity::ZeroByte));
-    }
+    hit(Point::Integrity(card.buffer[511]));
 }
 
 pub fn mark(row: Row, mark: u8) {
@@ -107,6 +108,102 @@ pub fn lba_carry(next: u32) {
 pub fn cylinder_carry(before: u8, after: u8) {
     if before != after {
         hit(Point::Carry(Carry::CylinderHigh));
+    }
+}
+
+// ---------------------------------------------------------------- the count
+
+/// Those of the points that are met.
+fn hit_all<T, const K: usize>(point: impl Fn(T) -> Point, met: [(T, bool); K]) {
+    for (what, _) in met.into_iter().filter(|(_, met)| *met) {
+        hit(point(what));
+    }
+}
+
+/// A card was opened over these marks.
+pub fn opened(marks: &[u8]) {
+    let (one, two) = (marks.contains(&1), marks.contains(&2));
+    let (n, bad) = (marks.len(), bad_marks(marks) as usize);
+    hit_all(
+        Point::Opened,
+        [
+            (Opened::NoMark, bad == 0),
+            (Opened::Ones, one && !two),
+            (Opened::Twos, two && !one),
+            (Opened::Both, one && two),
+            (Opened::Many, bad > 255),
+            (Opened::All, bad == n && n >= 32),
+        ],
+    );
+}
+
+/// A sector is to be stored; the mark is its own, the count that before.
+pub fn stored(row: Row, mark: u8, bad: u16, marks: &[u8]) {
+    hit(Point::Stored(
+        row,
+        match (mark, bad) {
+            (0, 0) => Stored::SoundAtZero,
+            (0, _) => Stored::Sound,
+            (1, 0) => Stored::OneAtZero,
+            (1, _) => Stored::One,
+            (2, 0) => Stored::TwoAtZero,
+            (2, _) => Stored::Two,
+            (_, 0) => Stored::AboveAtZero,
+            _ => Stored::Above,
+        },
+    ));
+    if matches!(mark, 0 | 2) || bad == 0 {
+        return;
+    }
+    let there = bad_marks(marks);
+    hit_all(
+        |what| Point::Stored(row, what),
+        [
+            (Stored::ToZero, bad == 1),
+            (Stored::Borrow, bad == 256),
+            (Stored::TooLow, bad < there),
+            (Stored::TooHigh, bad > there),
+        ],
+    );
+}
+
+/// A command ends that has lowered the count so often.
+pub fn run(row: Row, lowered: u16, error: u8, code: u8) {
+    if lowered > 0 && matches!(row, Row::Write | Row::Erase) {
+        hit(Point::Run(row, ending(error, code)));
+    }
+}
+
+/// What keeps the count is to be done.
+pub fn kept(what: Kept, bad: u16, marks: &[u8]) {
+    if bad != 0 {
+        hit(Point::Kept(what, bad == bad_marks(marks)));
+    }
+}
+
+/// Identify's word 129 was read.
+pub fn count_shown(card: &Card, marks: &[u8]) {
+    let shown = u16::from_le_bytes([card.buffer[258], card.buffer[259]]);
+    let there = bad_marks(marks);
+    let ide = card.mode == Mode::TrueIde;
+    hit_all(
+        Point::Shown,
+        [
+            (Shown::Zero, shown == 0),
+            (Shown::Byte, (1..=255).contains(&shown)),
+            (Shown::Word, shown > 255),
+            (Shown::All, shown as u64 == card.default.sectors()),
+            (Shown::True, shown != 0 && shown == there),
+            (Shown::TooLow, shown < there),
+            (Shown::TooHigh, shown > there),
+            (Shown::PcCard, shown != 0 && !ide),
+            (Shown::TrueIde, shown != 0 && ide),
+            (Shown::Lower, card.trace.told.is_some_and(|before| shown < before)),
+            (Shown::SetSince, shown != card.bad),
+        ],
+    );
+    if let Some(what) = card.trace.kept.filter(|_| shown != 0) {
+        hit(Point::KeptShown(what));
     }
 }
 
@@ -258,6 +355,8 @@ pub fn condition(only: Condition, card: &Card) {
         Condition::Held => Unmade::TransferInSreset,
         Condition::Words => Unmade::Words,
         Condition::Sectors => bad_sectors(card),
+        Condition::Count if card.bad as u64 == card.default.sectors() + 1 => Unmade::CountOneAbove,
+        Condition::Count => Unmade::CountAbove,
     }));
 }
 

@@ -50,7 +50,20 @@ fn groups() -> Vec<Group> {
         group("Commands that drop a transfer", drops()),
         group("Command ends", ends()),
         group("Codes told by 03H", codes()),
-        group("Identify", identities()),
+        group("Identify", by_sessions(Identity::TABLE, Point::Identify)),
+        group("Identify's integrity byte", integrity_bytes()),
+        group(
+            "Openings, by the marks counted",
+            named(Opened::TABLE, Point::Opened, |what| by(what != Opened::NoMark)),
+        ),
+        group("Sectors to be stored, by mark and count", stored()),
+        group("Ends of commands that lowered the count", runs()),
+        group("A count that is kept", kept()),
+        group("Identify's word 129 after that", kept_and_shown()),
+        group(
+            "Identify's word 129",
+            named(Shown::TABLE, Point::Shown, |what| by(what != Shown::Zero)),
+        ),
         group("Registers by map (r, w: byte read, write; R, W: word)", registers()),
         group("Attribute memory by index", attribute()),
         group("Half words (moved before, then touched)", halves()),
@@ -141,9 +154,51 @@ fn codes() -> Vec<Reached> {
     CODES.into_iter().map(told).collect()
 }
 
-/// Trials alone have cards of more than 32 sectors; on smaller ones the integrity byte is 26H..C1H.
-fn identities() -> Vec<Reached> {
-    named(Identity::TABLE, Point::Identify, |what| by(what == Identity::ZeroByte))
+/// Trials alone have marks and cards of more than 32 sectors; without either the byte is 26H..C1H.
+fn integrity_bytes() -> Vec<Reached> {
+    (0..=255).map(|i| row(Point::Integrity(i), format!("{i:02X}"), By::Trials)).collect()
+}
+
+/// The two commands that store sectors.
+const STORING: [(Row, &str); 2] = [(Row::Write, "write"), (Row::Erase, "erase")];
+
+fn stored() -> Vec<Reached> {
+    let mut rows = Vec::new();
+    for (command, name) in STORING {
+        for &(what, says) in Stored::TABLE {
+            let point = Point::Stored(command, what);
+            rows.push(row(point, format!("{name}: {says}"), by(what != Stored::SoundAtZero)));
+        }
+    }
+    rows
+}
+
+fn runs() -> Vec<Reached> {
+    let mut rows = Vec::new();
+    for (command, name) in STORING {
+        for &(ending, says) in Ending::TABLE {
+            // The sector after a good one has a good head and a good sector number.
+            if can_end(command, ending, true) {
+                rows.push(row(Point::Run(command, ending), format!("{name} {says}"), By::Trials));
+            }
+        }
+    }
+    rows
+}
+
+fn kept() -> Vec<Reached> {
+    let mut rows = Vec::new();
+    for &(what, says) in Kept::TABLE {
+        for (like, there) in [(true, "as many marks"), (false, "other marks")] {
+            rows.push(row(Point::Kept(what, like), format!("{says}, {there}"), By::Trials));
+        }
+    }
+    rows
+}
+
+fn kept_and_shown() -> Vec<Reached> {
+    let shown = Kept::TABLE.iter().filter(|(what, _)| what.shown());
+    shown.map(|&(what, says)| row(Point::KeptShown(what), says, By::Trials)).collect()
 }
 
 fn marks() -> Vec<Reached> {

@@ -4,7 +4,7 @@ use crate::card::{Access, Card};
 use crate::host::{Host, Style};
 use crate::inputs::{bring, geometry, Case, Group, State};
 use crate::maps::Mode;
-use crate::trial_inputs::{finish, probe, small};
+use crate::trial_inputs::{finish, open_over_marks, probe, small};
 use crate::trial_kinds as kinds;
 
 // ---------------------------------------------------------------- one condition broken
@@ -13,7 +13,7 @@ use crate::trial_kinds as kinds;
 type Fields = &'static [(u16, u16)];
 
 /// Cards in a map and a state, and fields that break one condition when all are set.
-const CONDITIONS: [(&str, u8, State, Fields); 33] = [
+const CONDITIONS: [(&str, u8, State, Fields); 38] = [
     ("default-h", 0, State::Idle, &[(2, 17), (4, 34)]),
     ("default-h-65535", 0, State::Idle, &[(2, 65535)]),
     ("default-s", 0, State::Idle, &[(1, 1), (2, 1), (3, 256), (4, 32)]),
@@ -47,6 +47,11 @@ const CONDITIONS: [(&str, u8, State, Fields); 33] = [
     ("out-hold", 4, State::Out, &[(9, 1)]),
     ("words-256", 0, State::InLow, &[(21, 256)]),
     ("words-65535", 4, State::Out, &[(21, 65535)]),
+    ("count-33", 0, State::Idle, &[(26, 33)]),
+    ("count-288", 1, State::InLow, &[(26, 288)]),
+    ("count-65535", 4, State::Out, &[(26, 65535)]),
+    ("count-hold", 4, State::Hold, &[(26, 32), (26, 33)]),
+    ("count-sreset", 2, State::Sreset, &[(26, 32), (26, 34)]),
 ];
 
 /// For each condition: a good card, the fields that break just that, an access.
@@ -100,6 +105,7 @@ fn mend(host: &mut Host, whole: &Card, fields: &[(u16, u16)]) {
             23 => (whole.mode == Mode::TrueIde) as u16,
             24 => whole.phase as u16,
             25 => whole.sectors as u16,
+            26 => whole.bad,
             _ => whole.left,
         };
         host.set_field(field, value);
@@ -143,10 +149,11 @@ pub fn breaks(seed: u64, all: &mut Vec<Case>) {
     for number in 0..120 {
         let g = geometry([(4, 2, 4), (300, 1, 2), (3, 3, 40)][number % 3]);
         let mut host = Host::trial(Group::Breaks.seed(seed, number), g, (number % 2) as u16);
+        open_over_marks(&mut host);
         for _ in 0..60 {
             prepare(&mut host);
             let whole = host.card.clone();
-            let field = 1 + host.rng.below(25) as u16;
+            let field = 1 + host.rng.below(26) as u16;
             let value = some_value(&mut host, field);
             host.set_field(field, value);
             poke(&mut host);
@@ -163,6 +170,7 @@ pub fn made_up(seed: u64, all: &mut Vec<Case>) {
     for number in 0..60 {
         let g = geometry([(4, 2, 4), (300, 1, 2), (3, 3, 40)][number % 3]);
         let mut host = Host::trial(Group::MadeUp.seed(seed, number), g, (number % 2) as u16);
+        open_over_marks(&mut host);
         for _ in 0..12 {
             make_up(&mut host);
             host.look();
@@ -241,10 +249,18 @@ fn some_value(host: &mut Host, field: u16) -> u16 {
         20 | 23 | 24 | 25 => near % 4,
         21 => host.rng.pick(&[0, 1, 254, 255, 256, any]),
         22 => host.rng.pick(&[0, 1, 2, 255, 256, 257, any]),
+        26 => some_count(host),
         1 | 4 => host.rng.pick(&[near, any, 4, 300]),
         2 | 3 | 5 | 6 => host.rng.pick(&[near, near, 16, 17, 255, 256, any]),
         _ => host.rng.pick(&[near, any]),
     }
+}
+
+/// A count of marks: small, about N, above it.
+pub fn some_count(host: &mut Host) -> u16 {
+    let (n, any) = (host.marks.len() as u16, host.rng.next() as u16);
+    let (few, some) = (host.rng.below(4) as u16, host.rng.below(n as usize) as u16);
+    host.rng.pick(&[0, few, some, n - 1, n, n + 1, any, 65535])
 }
 
 /// A few accesses of every sort.
@@ -262,7 +278,7 @@ fn poke(host: &mut Host) {
 
 /// Gives every settable field its former value.
 fn set_back(host: &mut Host, whole: &Card) {
-    let fields = [1, 2, 3, 4, 5, 6, 7, 8, 9, 12, 14, 15, 16, 17, 18, 23, 24, 25, 20, 21, 22];
+    let fields = [1, 2, 3, 4, 5, 6, 7, 8, 9, 12, 14, 15, 16, 17, 18, 23, 24, 25, 20, 21, 22, 26];
     let fields: Vec<(u16, u16)> = fields.iter().map(|&f| (f, 0)).collect();
     mend(host, whole, &fields);
 }

@@ -44,6 +44,8 @@ pub struct Host {
     pub store: Vec<u8>,
     pub tuples: Vec<u8>,
     pub form: Form,
+    /// The geometry and mode of the opening.
+    opened: (Geometry, u16),
     pub limit: usize,
     /// No record more fits.
     pub full: bool,
@@ -72,6 +74,7 @@ impl Host {
             store: vec![0; 512 * n],
             tuples: vec![0xFF; 256],
             form,
+            opened: (g, mode),
             limit,
             full: false,
             accesses: 0,
@@ -100,9 +103,20 @@ impl Host {
             self.lend_right(g);
             self.record(&[kinds::OPEN, g.c, g.h, g.s, mode]);
         }
+        self.open_own(g, mode);
+        self.stride = self.rng.next() as u16 | 1;
+    }
+
+    fn open_own(&mut self, g: Geometry, mode: u16) {
         let lent = Lent { store: &mut self.store, marks: &mut self.marks, tuples: &self.tuples };
         self.card = Card::open(g, mode, &lent).1;
-        self.stride = self.rng.next() as u16 | 1;
+    }
+
+    /// The same opening once more, over the marks as they are (trials only).
+    pub fn reopen(&mut self) {
+        let (g, mode) = self.opened;
+        self.record(&[kinds::OPEN, g.c, g.h, g.s, mode]);
+        self.open_own(g, mode);
     }
 
     /// Lends what the geometry wants.

@@ -43,6 +43,15 @@ pub enum Group {
     Lists = 29,
     MadeUp = 30,
     TrialIdentities = 31,
+    CountOpenings = 32,
+    CountRuns = 33,
+    CountOutside = 34,
+    CountLarge = 35,
+    CountLimits = 36,
+    CountKept = 37,
+    CountDrops = 38,
+    CountShown = 39,
+    CountWanderings = 40,
 }
 
 impl Group {

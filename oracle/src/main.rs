@@ -5,6 +5,7 @@ mod broken_inputs;
 mod card;
 mod commands;
 mod compare;
+mod count_inputs;
 mod cover;
 mod cover_table;
 mod field_inputs;

@@ -16,6 +16,20 @@ pub enum Point {
     /// This code told by 03H.
     Sense(u8),
     Identify(Identity),
+    /// The high byte of word 255, as it was read.
+    Integrity(u8),
+    /// An opening, by the marks that it counts.
+    Opened(Opened),
+    /// A sector to be stored, by its mark and the card's count.
+    Stored(Row, Stored),
+    /// The end of a command that has lowered the count.
+    Run(Row, Ending),
+    /// A count that is not 0 and is kept; true, if the lent marks are so many.
+    Kept(Kept, bool),
+    /// Word 129 read after that.
+    KeptShown(Kept),
+    /// Word 129 as it was read.
+    Shown(Shown),
     /// A register reached, by its offset.
     Register {
         map: Map,
@@ -120,7 +134,79 @@ named! {
         Changed: "whole, changed by 91H",
         ChangedAnew: "whole anew, 91H between",
         DefaultAnew: "whole anew, default again",
-        ZeroByte: "integrity byte 0",
+    }
+}
+
+named! {
+    /// The marks that an opening counts.
+    Opened {
+        NoMark: "no mark",
+        Ones: "marks of 1",
+        Twos: "marks of 2",
+        Both: "marks of 1 and 2",
+        Many: "more than 255",
+        All: "all of 32 or more",
+    }
+}
+
+named! {
+    /// The mark of a sector to be stored, and the count before: 0, or not.
+    Stored {
+        Sound: "mark 0",
+        One: "mark 1",
+        Two: "mark 2",
+        Above: "mark above 2",
+        SoundAtZero: "mark 0, count 0",
+        OneAtZero: "mark 1, count 0",
+        TwoAtZero: "mark 2, count 0",
+        AboveAtZero: "mark above 2, count 0",
+        ToZero: "count from 1 to 0",
+        Borrow: "count from 256 to 255",
+        TooLow: "a count too low for the marks",
+        TooHigh: "a count too high for the marks",
+    }
+}
+
+named! {
+    /// What keeps a count.
+    Kept {
+        SresetEntered: "SRESET entered",
+        SresetLeft: "SRESET left",
+        HoldEntered: "hold entered",
+        HoldLeft: "hold left",
+        Diagnose: "90H",
+        Parameters: "91H",
+        ParametersRefused: "91H with ABRT",
+        Dropped: "write dropped",
+        DroppedBySreset: "write dropped by SRESET",
+        DroppedByHold: "write dropped by a hold",
+        Unreadable: "UNC",
+    }
+}
+
+impl Kept {
+    /// Can an Identify come next? In a reset it can't.
+    pub fn shown(self) -> bool {
+        let reset = [Kept::SresetEntered, Kept::HoldEntered];
+        let dropped = [Kept::DroppedBySreset, Kept::DroppedByHold];
+        !reset.contains(&self) && !dropped.contains(&self)
+    }
+}
+
+named! {
+    /// Word 129 as it is read: its value, the lent marks, the mode, the last time, the count now.
+    Shown {
+        Zero: "0",
+        Byte: "1..255",
+        Word: "above 255",
+        All: "N",
+        True: "as many as there are marks",
+        TooLow: "fewer than there are marks",
+        TooHigh: "more than there are marks",
+        PcCard: "not 0 in PC Card mode",
+        TrueIde: "not 0 in True IDE mode",
+        Lower: "lower than the last time",
+        SetSince: "set since ECH",
     }
 }
 
@@ -257,6 +343,8 @@ named! {
         NoneLeft: "0 sectors left",
         ManyLeft: "257 or more left",
         LeftUnlikeCount: "left unlike Count",
+        CountOneAbove: "count N + 1",
+        CountAbove: "count above N + 1",
     }
 }
 

@@ -1,9 +1,10 @@
 //! The register file: reads and writes, the two resets, and the data register.
 
-use crate::card::{moves, touch, Access, Card, Half, Lent, Moves, Phase, Touch, IDLE};
+use crate::card::{bad_marks, moves, touch, Access, Card, Half, Lent, Moves, Phase, Touch, IDLE};
 use crate::cover;
 use crate::maps::Place;
 use crate::mutants::{on, Change};
+use crate::points::Kept;
 
 impl Card {
     pub fn read(&mut self, place: Place, a: &Access, lent: &mut Lent) -> u16 {
@@ -17,7 +18,7 @@ impl Card {
     pub fn write(&mut self, place: Place, a: &Access, lent: &mut Lent) {
         match place {
             Place::Tuple(_) => {}
-            Place::Option => self.write_option(a.value as u8),
+            Place::Option => self.write_option(a.value as u8, lent),
             Place::Register(offset) => self.write_register(offset, a, lent),
         }
     }
@@ -67,7 +68,7 @@ impl Card {
         cover::register(self, offset, a);
         let value = a.value as u8;
         if offset == 0xE {
-            return self.write_control(value);
+            return self.write_control(value, lent);
         }
         if self.hold {
             return;
@@ -98,25 +99,30 @@ impl Card {
 // ---------------------------------------------------------------- resets
 
 impl Card {
-    /// Entering a reset: the transfer ends with Status 50H, the mark is cleared.
+    /// Entering a reset: the transfer ends with Status 50H, the mark is cleared. The count stays.
     fn enter_reset(&mut self) {
         if self.running() {
             self.status = IDLE;
         }
         self.stop_transfer();
         self.mark = false;
+        if on(Change::ResetClearsCount) {
+            self.bad = 0;
+        }
     }
 
-    fn write_option(&mut self, value: u8) {
+    fn write_option(&mut self, value: u8, lent: &Lent) {
         let setting = value & 0x7F;
         cover::option_write(self, value);
         match (self.sreset, value & 0x80 != 0) {
             (false, true) => {
+                self.keep_count(Kept::SresetEntered, lent);
+                self.keep_dropped(Kept::DroppedBySreset, lent);
                 self.enter_reset();
                 self.sreset = true;
                 self.setting = setting;
             }
-            (true, false) => self.leave_sreset(setting),
+            (true, false) => self.leave_sreset(setting, lent),
             _ => self.setting = setting,
         }
         if on(Change::MapEndsTransfer) && self.running() {
@@ -124,29 +130,39 @@ impl Card {
         }
     }
 
-    fn leave_sreset(&mut self, setting: u8) {
+    fn leave_sreset(&mut self, setting: u8, lent: &Lent) {
+        self.keep_count(Kept::SresetLeft, lent);
         let (hold, buffer) = (self.hold, self.buffer);
         self.power_on(if on(Change::SresetForgetsIndex) { 0 } else { setting });
         self.hold = hold && on(Change::SresetLeavesHold);
         if on(Change::SresetLeavesBuffer) {
             self.buffer = buffer;
         }
+        if on(Change::SresetClearsCount) {
+            self.bad = 0;
+        }
+        if on(Change::SresetRecounts) {
+            self.bad = bad_marks(lent.marks);
+        }
     }
 
-    fn write_control(&mut self, value: u8) {
+    fn write_control(&mut self, value: u8, lent: &Lent) {
         cover::control_write(self, value);
         match (self.hold, value & 4 != 0) {
             (false, true) => {
+                self.keep_count(Kept::HoldEntered, lent);
+                self.keep_dropped(Kept::DroppedByHold, lent);
                 self.enter_reset();
                 self.hold = true;
             }
-            (true, false) => self.leave_hold(),
+            (true, false) => self.leave_hold(lent),
             _ => {}
         }
         self.mask = value & 2 != 0;
     }
 
-    fn leave_hold(&mut self) {
+    fn leave_hold(&mut self, lent: &Lent) {
+        self.keep_count(Kept::HoldLeft, lent);
         let (code, current) = (self.code, self.current);
         self.power_on_registers();
         self.hold = false;
@@ -158,6 +174,12 @@ impl Card {
         }
         if on(Change::HoldClearsBuffer) {
             self.buffer = [0; 512];
+        }
+        if on(Change::HoldClearsCount) {
+            self.bad = 0;
+        }
+        if on(Change::HoldRecounts) {
+            self.bad = bad_marks(lent.marks);
         }
     }
 }
@@ -208,6 +230,7 @@ impl Card {
             return;
         }
         self.half = Half::Nothing;
+        self.word_shown(lent);
         self.words += 1;
         if self.words == 256 {
             self.words = 0;

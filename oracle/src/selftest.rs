@@ -1,8 +1,8 @@
-//! 01's sample session, its thirteen samples, the old model's errors and Identify's integrity word,
-//! checked on this program.
+//! 01's sample session, its thirteen samples, the old model's errors, Identify's integrity word and
+//! the count of the marks that are not 0, checked on this program.
 
 use crate::card::{Access, Geometry};
-use crate::host::{push_access, push_opening, Host};
+use crate::host::{push_access, push_opening, Host, Style};
 use crate::session_player;
 use crate::trial_player;
 use crate::tuples::{self, Entry};
@@ -101,6 +101,9 @@ pub fn run() -> bool {
         identify_halves(),
         integrity_words(),
         integrity_sums(),
+        count_shown(),
+        count_to_zero(),
+        count_limit(),
         sense_twice(),
         alternate_status(),
     ];
@@ -318,6 +321,74 @@ fn integrity_sums() -> bool {
         changes.into_iter().all(|change| zero(identified(Geometry::new(c, h, s), change)))
     });
     told("Identify, 512 bytes that give 0", good)
+}
+
+/// A host at C 4, H 2, S 4 in True IDE mode, opened over these marks.
+fn marked(marks: &[(usize, u8)]) -> Host {
+    let mut host = Host::trial(1, Geometry::new(4, 2, 4), 1);
+    for &(at, mark) in marks {
+        host.set_mark(at, mark);
+    }
+    host.reopen();
+    host
+}
+
+/// Words 129 and 255 of Identify.
+fn count_words(host: &mut Host) -> [u16; 2] {
+    host.put(7, 0xEC);
+    let words: Vec<u16> = (0..256).map(|_| host.get_word(0)).collect();
+    [words[129], words[255]]
+}
+
+/// A command at one sector by LBA, with its data if it wants any.
+fn at_sector(host: &mut Host, opcode: u8, lba: u32) {
+    host.set_lba(lba);
+    host.put(2, 1);
+    host.put(7, opcode);
+    host.rest_of_sector(Style::Words);
+}
+
+/// Three marks make 3 of word 129, and 53H of 56H in word 255; one written leaves 2 and 54H, a sound
+/// and a faulty sector leave that, and Erase leaves 1 and 55H, which a hold and 90H leave.
+fn count_shown() -> bool {
+    let mut host = marked(&[(3, 1), (9, 2), (30, 1)]);
+    let mut words = vec![count_words(&mut host)];
+    for (opcode, lba) in [(0x30, 3), (0x30, 0), (0x30, 9), (0xC0, 30), (0xC0, 9)] {
+        at_sector(&mut host, opcode, lba);
+        words.push(count_words(&mut host));
+    }
+    host.put(0xE, 4);
+    host.put(0xE, 0);
+    host.put(7, 0x90);
+    words.push(count_words(&mut host));
+    let (two, one) = ([2, 0x54A5], [1, 0x55A5]);
+    let good = words == [[3, 0x53A5], two, two, two, one, one, one];
+    told("Identify, the count of marks", good && count_words(&mut marked(&[])) == [0, 0x56A5])
+}
+
+/// Marks from outside take off what the count never had of them, to 0 and no further; a mark healed
+/// from outside is not missed.
+fn count_to_zero() -> bool {
+    let mut host = marked(&[(3, 1), (4, 1), (5, 2)]);
+    host.set_mark(5, 0);
+    let mut counts = vec![host.card.bad];
+    for (opcode, mark) in [(0x30, 200), (0xC0, 3), (0x30, 0), (0xC0, 1), (0x30, 255)] {
+        host.set_mark(12, mark);
+        at_sector(&mut host, opcode, 12);
+        counts.push(host.card.bad);
+    }
+    told("the count falls to 0 and no further", counts == [3, 2, 1, 1, 0, 0])
+}
+
+/// At most N, which is 32.
+fn count_limit() -> bool {
+    let mut host = marked(&[]);
+    let mut number = |count| {
+        host.set_field(26, count);
+        host.access(Access { space: 3, width: 1, write: false, address: 7, value: 0 }).number
+    };
+    let numbers = [0, 1, 31, 32, 33, 65535, 32].map(&mut number);
+    told("a count above N is refusal 12", numbers == [0, 0, 0, 0, 12, 12, 0])
 }
 
 fn sense_twice() -> bool {

@@ -366,7 +366,7 @@ impl Host {
     }
 
     /// Identify to its last word.
-    fn whole_identify(&mut self) {
+    pub fn whole_identify(&mut self) {
         self.put(7, 0xEC);
         let style = self.rng.pick(&STYLES);
         self.rest_of_sector(style);

@@ -1,6 +1,7 @@
 //! The trial inputs of the comparison, from a seed.
 
 use crate::card::{Access, Geometry};
+use crate::count_inputs;
 use crate::field_inputs;
 use crate::host::{Host, Style};
 use crate::inputs::{geometry, Case, Group};
@@ -21,9 +22,10 @@ const LARGE: [(u16, u16, u16); 10] = [
     (3, 3, 40),
 ];
 
-/// Cylinders of cards with H 1, S 1 whose integrity byte is 0, 1 or 255. At power-on Identify's
-/// other bytes give 2,614 + 4 + 5·(the two bytes of C): for 142 and 397 (1 + 141) a multiple of 256,
-/// for 193 one less, for 91 one more. For 407 they give 2,614 + 970 = 14·256 in one track of 255.
+/// Cylinders of cards with H 1, S 1 and no marks whose integrity byte is 0, 1 or 255. At power-on
+/// Identify's other bytes give 2,614 + 4 + 5·(the two bytes of C): for 142 and 397 (1 + 141) a
+/// multiple of 256, for 193 one less, for 91 one more. For 407 they give 2,614 + 970 = 14·256 in one
+/// track of 255. With marks every byte comes up (`count_inputs`).
 const FULL_SUMS: [u16; 5] = [142, 397, 407, 193, 91];
 
 pub fn trials(seed: u64) -> Vec<Case> {
@@ -35,6 +37,7 @@ pub fn trials(seed: u64) -> Vec<Case> {
     carries(seed, &mut all);
     lines(seed, &mut all);
     identities(seed, &mut all);
+    count_inputs::counts(seed, &mut all);
     wanderings(seed, &mut all);
     field_inputs::breaks(seed, &mut all);
     field_inputs::made_up(seed, &mut all);
@@ -301,6 +304,9 @@ fn wanderings(seed: u64, all: &mut Vec<Case>) {
         let mut host =
             Host::trial(Group::TrialWanderings.seed(seed, number), g, (number % 3 == 2) as u16);
         host.steady = number % 4 != 0;
+        if number % 5 != 0 {
+            open_over_marks(&mut host);
+        }
         while !host.full {
             sprinkle(&mut host);
             for _ in 0..1 + host.rng.below(8) {
@@ -309,6 +315,15 @@ fn wanderings(seed: u64, all: &mut Vec<Case>) {
         }
         finish(format!("wander-{number}"), host, all);
     }
+}
+
+/// Sets up to 24 marks of 1 and 2, and opens the card over them.
+pub fn open_over_marks(host: &mut Host) {
+    for _ in 0..host.rng.below(25) {
+        let (at, mark) = (host.rng.below(host.marks.len()), host.rng.pick(&[1, 1, 2]));
+        host.set_mark(at, mark);
+    }
+    host.reopen();
 }
 
 /// Sets some marks, near the end and anywhere, and fills a sector.

@@ -214,7 +214,7 @@ impl Bench {
         let now = k.current;
         let _ = write!(text, " {} {:04X} {:04X} {:04X}", k.mark as u8, now.c, now.h, now.s);
         let (phase, half) = (k.phase as u8, k.half as u8);
-        let _ = writeln!(text, " {phase} {half} {:04X} {:04X}", k.words, k.left);
+        let _ = writeln!(text, " {phase} {half} {:04X} {:04X} {:04X}", k.words, k.left, k.bad);
     }
 }
 
@@ -269,6 +269,7 @@ pub fn set_field(k: &mut Card, field: u16, value: u16) {
         19 => k.code = byte,
         23 => set_mode(k, value),
         24 => set_phase(k, value),
+        26 => k.bad = value,
         20..=25 if k.phase != Phase::Idle => set_transfer_field(k, field, value),
         _ => {}
     }

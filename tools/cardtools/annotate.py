@@ -48,13 +48,13 @@ def access_pairs(records, printed):
             raise Mismatch(f"printed line {count + 1}: it is '{line}', and the session has {count} {'W' if access.write else 'R'} there")
         if why := misfit(access, answer, value, follower):
             raise Mismatch(f"printed line {count + 1}: it is '{line}', and {why}")
-        words, verdict = explained(access, answer, value, follower), ""
+        words, said = explained(access, answer, value, follower), ""
         plain = answer == 0 and not follower.held and access.space != 0 and follower.offset(access) in card.DATA
         if answer == 0:
-            verdict = identify.follow(access, value, follower)
+            said = identify.follow(access, value, follower)
             follower.follow(access, value)
-        if verdict:
-            yield line, f"{words}. {verdict}", None
+        if said:
+            yield line, f"{words}. {said}", None
         else:
             yield line, words, (access._replace(value=0), value) if plain else None
 

@@ -1,9 +1,10 @@
-"""An Identify as a session reads it: its 512 bytes, and what they give when they are summed (document 02, "Fourteen")."""
+"""An Identify as a session reads it: its 512 bytes, what they give when they are summed, and the number of bad sectors (document 02, "Fourteen" and "Eight")."""
 from . import card
 
-COMMAND = "Identify Drive"
+NAME = "Identify Drive"
 BYTES = 512
 LOW = 0xA5  # the low byte of word 255
+BAD_SECTORS = 129  # the word that says how many marks are not 0
 BUSY_OR_DATA = 0x88  # BSY and DRQ of Status: with neither, no data is there to be read
 
 
@@ -25,35 +26,44 @@ class Identify:
         self.status = None  # one that was read since ECH and said that no data was there
 
     def follow(self, access, value, follower):
-        """Takes over an accepted access; the verdict, if it read the last byte, else nothing. The follower is as before it."""
+        """Takes over an accepted access; what is to be said of it, or nothing. The follower is as before it."""
         offset = follower.offset(access)
-        if ends := self.begins_or_ends(access, offset, follower):
-            self.data, self.word, self.status = ([] if ends == "begins" else None), {}, None
+        if turn := self.turn(access, offset, follower):
+            self.data, self.word, self.status = ([] if turn == "begins" else None), {}, None
         elif self.data is not None and not access.write and offset in card.DATA:
-            self.take(access, value, offset)
+            return self.said() if self.take(access, value, offset) else ""
         elif not access.write and offset in (card.COMMAND, card.CONTROL) and not value & BUSY_OR_DATA:
             self.status = value
-        if self.data is None or len(self.data) < BYTES:
+        return ""
+
+    def said(self):
+        """Of the word that is whole now: the number of bad sectors by its name, if data was there; of the last one the verdict on all."""
+        if len(self.data) == 2 * (BAD_SECTORS + 1) and self.status is None:
+            return f"Word {BAD_SECTORS} of Identify, bad sectors: {self.data[-2] + 256 * self.data[-1]}"
+        if len(self.data) < BYTES:
             return ""
         data, self.data = self.data, None
         return verdict(data, self.status)
 
     @staticmethod
-    def begins_or_ends(access, offset, follower):
+    def turn(access, offset, follower):
         """What a write does to an Identify that is being read: a command or a reset ends it, and ECH begins another."""
         if not access.write or follower.held:
             return ""
         if (access.space, access.address) == (0, card.OPTION):
             return "ends" if access.value >= 128 else ""
         if offset == card.COMMAND:
-            return "begins" if card.command_name(access.value) == COMMAND else "ends"
+            return "begins" if card.command_name(access.value) == NAME else "ends"
         return "ends" if offset == card.CONTROL and access.value & 4 else ""
 
     def take(self, access, value, offset):
+        """Whether a word is whole with what was read."""
         if access.width == 2:
             self.word = {0: value % 256, 1: value // 256}
         else:
             self.word[1 if offset in card.ODD or 0 in self.word else 0] = value
-        if len(self.word) == 2:
-            self.data += self.word[0], self.word[1]
-            self.word = {}
+        if len(self.word) < 2:
+            return False
+        self.data += self.word[0], self.word[1]
+        self.word = {}
+        return True

@@ -6,6 +6,7 @@ from cardtools.records import records_of
 WHOLE = "Identify is read whole: its 512 bytes give "
 WORDS = [0x848A] + [0] * 254 + [0x4DA5]  # 84H + 8AH + A5H + 4DH is 2 times 256
 BYTES = [byte for word in WORDS for byte in (word % 256, word // 256)]
+BAD = "Word 129 of Identify, bad sectors: "
 BEFORE, LAST = ("read word ide 0 x255", WORDS[:-1]), ("read word ide 0", WORDS[-1:])
 ECH = ("write ide 7 EC",)
 
@@ -72,12 +73,32 @@ def test_a_status_without_data_is_told():
     assert len(verdicts(1, ECH, ("read ide 7", [0x50]), ECH, BEFORE, LAST)) == 1
 
 
+def named(mode, *steps):
+    """What is said of word 129, each time with the number of the access."""
+    return [(number, line.split(BAD)[1]) for number, line in enumerate(lines_of(mode, *steps)) if BAD in line]
+
+
+def test_the_number_of_bad_sectors_is_named():
+    words = WORDS[:129] + [0x0103] + WORDS[130:-1] + [0x49A5]  # 1 and 3 more: 4 less in the high byte
+    data = [byte for word in words for byte in (word % 256, word // 256)]
+    assert named(1, ECH, ("read word ide 0 x256", words)) == [(131, "259")]
+    assert verdicts(1, ECH, ("read word ide 0 x256", words)) == [(257, "0")]
+    assert named(1, ECH, ("read ide 0 x512", data)) == [(261, "259")]
+    halves = ("read memory 9", data[259:260]), ("read memory 8", data[258:259])
+    assert named(0, ("write memory 7 EC",), ("read word memory 8 x129", words[:129]), *halves, ("read memory 7", [0x58])) == [(132, "259")]
+    assert named(1, ECH, ("read word ide 0 x130", words[:130]), ("read ide 7", [0x58]), ECH, ("read word ide 0 x130", WORDS[:130])) == [(131, "259"), (263, "0")]
+    assert not named(1, ECH, ("read word ide 0 x129", words[:129]), ("read ide 7", [0x58]))
+    assert not named(1, ECH, ("read ide 7", [0x50]), ("read word ide 0 x256", [0xFFFF] * 256))
+    assert not named(1, ("write ide 7 E4",), ("read word ide 0 x256", words))
+
+
 def test_each_identify_is_summed_once():
     assert verdicts(1, ECH, BEFORE, LAST, ("read word ide 0 x256", [0xFFFF] * 256)) == [(257, "0")]
     assert verdicts(1, ECH, ("read ide 0", [0x8A]), ECH, ("read ide 0 x512", BYTES)) == [(515, "0")]
     assert verdicts(1, ECH, BEFORE, LAST, ECH, BEFORE, ("read word ide 0", [0x4EA5])) == [(257, "0"), (514, "01H, not 0")]
 
 
-def test_fold_leaves_the_verdict_a_line():
+def test_fold_leaves_what_is_said_a_line():
     folded = lines_of(1, ECH, BEFORE, LAST, fold=True)
-    assert len(folded) == 4 and "255 times" in folded[2] and folded[3].endswith(f"{WHOLE}0"), folded
+    assert len(folded) == 6 and "129 times" in folded[2] and folded[3].endswith(f"{BAD}0"), folded
+    assert "125 times" in folded[4] and folded[5].endswith(f"{WHOLE}0"), folded

@@ -47,6 +47,7 @@ Given m =
     × AllBytes (m .buffer)
     × (m .state .made .default .cylinders ≤ 65535) × (m .state .made .default .heads ≤ 65535) × (m .state .made .default .sectors ≤ 65535)
     × (m .state .current .cylinders ≤ 65535) × (m .state .current .heads ≤ 65535) × (m .state .current .sectors ≤ 65535)
+    × (m .state .bad ≤ 65535)
 
 abbrev pub outward : (m : Machine) → Ground In m → Ground Out m
 outward m g = (g .0, g .1, tt, g .3, g .4)

@@ -63,7 +63,7 @@ begins Identify m h =
           ap (λ (l : List ℕ). moving l (silent (ends Well (withBuffer l (starts (plainOf m)))))) (sym e)
           ∙ buffer-read (m .state) (identifyBytes (factsOf (started (m .state)))) (m .store) (m .marks) d;
       ground = h .0;
-      waits = (omega arith, identify-length (factsOf (started (m .state))), rw e (identify-bytes (plainOf m) (h .4) (h .5) (h .6) (h .7) (h .8) (h .9)), tt, tt);
+      waits = (omega arith, identify-length (factsOf (started (m .state))), rw e (identify-bytes (plainOf m) (h .4) (h .5) (h .6) (h .7) (h .8) (h .9) (h .10)), tt, tt);
     }
 begins ReadBuffer m h = record { account = buffer-read (m .state) (m .buffer) (m .store) (m .marks); ground = h .0; waits = (omega arith, h .2, h .3, tt, tt) }
 begins WriteBuffer m h = record { account = buffer-written (m .state) (m .buffer) (m .store) (m .marks); ground = outward m (h .0); waits = (omega arith, h .2, tt, tt, tt) }

@@ -60,15 +60,17 @@ same (suc n) w h = more w (replicate n w) h (same n w h)
 
 -- a list of words, each below 65536
 pub identify-bytes : (p : Plain) → p .made .default .cylinders ≤ 65535 → p .made .default .heads ≤ 65535 → p .made .default .sectors ≤ 65535 →
-    p .current .cylinders ≤ 65535 → p .current .heads ≤ 65535 → p .current .sectors ≤ 65535 → AllBytes (identifyData p)
+    p .current .cylinders ≤ 65535 → p .current .heads ≤ 65535 → p .current .sectors ≤ 65535 → p .bad ≤ 65535 → AllBytes (identifyData p)
 unfolding identifyWords toldWords
-identify-bytes p a b c d e f =
+identify-bytes p a b c d e f g =
     let n = sectorsOf (p .made .default) in
     let k = sectorsOf (p .current) in
     let w0 : List ℕ = 0x848A ∷ p .made .default .cylinders ∷ 0 ∷ p .made .default .heads ∷ 0 ∷ 0 ∷ p .made .default .sectors ∷ n / 65536 % 65536 ∷ n % 65536 ∷ 0 ∷ [] in
     let w47 : List ℕ = 0 ∷ 0 ∷ 0x0200 ∷ 0 ∷ 0 ∷ 0 ∷ 1 ∷ [] in
     let w54 : List ℕ = p .current .cylinders ∷ p .current .heads ∷ p .current .sectors ∷ k % 65536 ∷ k / 65536 % 65536 ∷ 0 ∷ n % 65536 ∷ n / 65536 % 65536 ∷ [] in
-    let t6 : List ℕ = replicate 193 0 in
+    let w129 : List ℕ = p .bad ∷ [] in
+    let t7 : List ℕ = w129 ++ replicate 125 0 in
+    let t6 : List ℕ = replicate 67 0 ++ t7 in
     let t5 : List ℕ = w54 ++ t6 in
     let t4 : List ℕ = w47 ++ t5 in
     let t3 : List ℕ = replicate 24 0x2020 ++ t4 in
@@ -77,6 +79,7 @@ identify-bytes p a b c d e f =
     let narrow0 = each-narrow w0 (omega arith, (omega arith, (omega arith, (omega arith, (omega arith, (omega arith, (omega arith, (omega arith, (omega arith, (omega arith, tt)))))))))) in
     let narrow47 = each-narrow w47 (omega arith, (omega arith, (omega arith, (omega arith, (omega arith, (omega arith, (omega arith, tt))))))) in
     let narrow54 = each-narrow w54 (omega arith, (omega arith, (omega arith, (omega arith, (omega arith, (omega arith, (omega arith, (omega arith, tt)))))))) in
+    let narrow129 = each-narrow w129 (omega arith, tt) in
     let last : List ℕ = (lowByte + 256 * highByte (toldWords p)) ∷ [] in
     let narrow255 = let h = high-byte (toldWords p) in each-narrow last (omega arith, tt) in
     bytes-of (identifyWords p)
@@ -86,5 +89,7 @@ identify-bytes p a b c d e f =
     (joined (replicate 3 0) t3 (same 3 0 (omega arith))
     (joined (replicate 24 0x2020) t4 (same 24 0x2020 (omega arith))
     (joined w47 t5 narrow47
-    (joined w54 t6 narrow54 (same 193 0 (omega arith))))))))
+    (joined w54 t6 narrow54
+    (joined (replicate 67 0) t7 (same 67 0 (omega arith))
+    (joined w129 (replicate 125 0) narrow129 (same 125 0 (omega arith))))))))))
     narrow255)

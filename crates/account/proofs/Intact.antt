@@ -1,11 +1,11 @@
 -- Identify as a host reads it gives 0, whatever the card and however it is read.
-use Prim.Native.Nat.{ℕ}
+use Prim.Native.Nat.{ℕ, _/_, _%_}
 use mathlib.Core.Path.{_≡_, sym, ap, subst, _∙_}
 use mathlib.Core.List.{List, [], _++_, append-nil}
 use lib.ListN.{set, getD}
 use Rattle.identify.specs.declared.Facts.{Facts}
 use Rattle.identify.specs.Words.{identifyBytes}
-use Rattle.identify.proofs.Bytes.{identify-length}
+use Rattle.identify.proofs.Bytes.{identify-length, word-129}
 use Rattle.identify.proofs.GivesZero.{one-wrong-byte, identify-gives-zero, identify-low}
 use Rattle.registers.specs.Machine.{Machine}
 use Rattle.commands.specs.Table.{commandOf, started, factsOf, dropped, commandGiven}
@@ -31,6 +31,11 @@ ech-gives-zero m =
     let f = factsOf (started (dropped m .state)) in
     (summed-is (identifyBytes f) ∙ identify-gives-zero f, identify-low f)
 
+-- 02, "Eight": and word 129 is the number of marks that are not 0, as the card keeps it then
+pub ech-tells-bad : (m : Machine) → (getD (commandGiven 0xEC m .buffer) 258 0 ≡ m .state .bad % 256) × (getD (commandGiven 0xEC m .buffer) 259 0 ≡ m .state .bad / 256)
+unfolding commandGiven commandOf
+ech-tells-bad m = word-129 (factsOf (started (dropped m .state)))
+
 intact-bytes : (f : Facts) → AllBytes (identifyBytes f) → Intact (identifyBytes f)
 intact-bytes f a =
     let d = identifyBytes f in
@@ -47,7 +52,7 @@ pub account-intact : (m : Machine) → Able m → Intact (identifyData (plainOf 
 account-intact m k =
     let h = given m k in
     let e = identify-is (m .state) (m .buffer) (m .store) (m .marks) (h .0 .0 .1) in
-    subst Intact e (intact-bytes (factsOf (m .state)) (subst AllBytes (sym e) (identify-bytes (plainOf m) (h .4) (h .5) (h .6) (h .7) (h .8) (h .9))))
+    subst Intact e (intact-bytes (factsOf (m .state)) (subst AllBytes (sym e) (identify-bytes (plainOf m) (h .4) (h .5) (h .6) (h .7) (h .8) (h .9) (h .10))))
 
 -- so those that a host has read, however it read them
 pub agrees-intact : (m : Machine) (v : ℕ) (h : Hosted) → Able m → rowOf v ≡ Identifies → Agrees (account (rowOf v) (plainOf m)) h → Intact (h .notes .done)

@@ -21,7 +21,7 @@ use Rattle.transfers.specs.declared.Way.{Way}
 use Rattle.transfers.specs.declared.Way.the-variants.{In, Out}
 use Rattle.account.specs.Plain.{Plain, withBuffer, withStore, withStatus, Finish, Well, NotFound, Unreadable, WriteFault, Aborted, ends, Account, silent, moving}
 use Rattle.account.specs.Course.{Course, courseOf, named}
-use Rattle.account.specs.Sweeps.{Sweep, stopped, sweepEnds, unwritable, putSector, readSectors, writeSectors}
+use Rattle.account.specs.Sweeps.{Sweep, stopped, sweepEnds, unwritable, putSector, badAt, readSectors, writeSectors}
 use Rattle.account.specs.Host.{plainOf, plainIn}
 use Rattle.account.specs.Notes.{Waiting, None, LowByte, HighByte, Notes}
 use Rattle.account.specs.Claim.{AllBytes}
@@ -43,7 +43,7 @@ doneIn (Sectors left) p = readSectors (courseOf p) (indexOf (located p) + 1) (le
 -- the bytes of sector i have come: its mark is tested, then it is stored
 unfoldable pub storedThen : Bool → ℕ → ℕ → Course → Plain → List ℕ → List ℕ → Account
 storedThen true left i c p b d = silent (sweepEnds c (stopped WriteFault left i) (withBuffer b p))
-storedThen false left i c p b d = writeSectors c (i + 1) (left - 1) (withBuffer b (withStore (putSector i b (p .store)) (set (p .marks) i 0) p)) d
+storedThen false left i c p b d = writeSectors c (i + 1) (left - 1) (withBuffer b (withStore (putSector i b (p .store)) (set (p .marks) i 0) (p .bad - badAt i (p .marks)) p)) d
 
 -- b has been written, d is to come
 unfoldable pub doneOut : Load → Plain → List ℕ → List ℕ → Account
@@ -82,9 +82,9 @@ Pending Half.High None w b = ⊥
 Pending Half.High (LowByte v) w b = ⊥
 Pending Half.High (HighByte v) w b = v ≡ getD b (2 * w + 1) 0
 
--- without buffer, store and marks
+-- without buffer, store, marks and their number
 abbrev pub bare : Plain → Plain
-bare p = withBuffer [] (withStore [] [] p)
+bare p = withBuffer [] (withStore [] [] 0 p)
 
 -- a running sector transfer: a valid address, and Count agrees
 abbrev pub Loaded : Load → Plain → Type 0

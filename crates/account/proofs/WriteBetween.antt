@@ -1,5 +1,5 @@
 -- Writing: what holds between two accesses is kept from sector to sector.
-use Prim.Native.Nat.{ℕ, zero, suc, _+_, _<_}
+use Prim.Native.Nat.{ℕ, zero, suc, _+_, _-_, _<_}
 use mathlib.Core.Bool.{Bool, true, false}
 use mathlib.Core.Path.{_≡_, refl, sym, subst}
 use mathlib.Core.List.{List}
@@ -18,7 +18,7 @@ use Rattle.registers.specs.declared.Load.the-variants.{Sectors, Buffer}
 use Rattle.registers.specs.declared.Transfer.{Transfer}
 use Rattle.registers.specs.declared.Phase.the-variants.{DataOut}
 use Rattle.registers.specs.declared.State.{State}
-use Rattle.registers.specs.State.{locatedIn}
+use Rattle.registers.specs.State.{withBad, locatedIn}
 use Rattle.registers.specs.Machine.{Machine, machine, withBuffer}
 use Rattle.transfers.specs.declared.Order.{Order}
 use Rattle.transfers.specs.declared.Order.the-variants.{Later}
@@ -30,7 +30,8 @@ use Rattle.port.specs.Halves.{nextWord}
 use Rattle.port.specs.Data.{withPhase}
 use Rattle.transfers.specs.declared.Way.the-variants.{Out}
 use Rattle.account.specs.Course.{Course}
-use Rattle.account.specs.Sweeps.{putSector}
+use Rattle.kept.specs.Lent.{storeMarksIn}
+use Rattle.account.specs.Sweeps.{putSector, badAt}
 use Rattle.account.specs.Host.{plainOf}
 use Rattle.account.specs.Notes.{None, Waiting}
 use Rattle.account.proofs.Seats.{Seated, Where, pastEnd, courseIn, onward, done-on, seat-next}
@@ -65,10 +66,10 @@ asked-between (suc n) c i s b t k f g q e =
 
 marked-between : (u : Bool) (n : ℕ) (c : Course) (i : ℕ) (m : Machine) → i < totalOf (m .state .made .default) → length (m .buffer) ≡ 512 → Ground Out m → Seated c i (suc n) (m .state) →
     locatedIn (m .state) ≡ goodAt i →
-    Between Out (writtenBy (storedBy (pick u (Passes (spotAt i)) (Fails End.WriteFault)) (m .buffer) (m .store) (m .marks)) n m) None
+    Between Out (writtenBy (storedBy (pick u (Passes (spotAt i)) (Fails End.WriteFault)) (m .buffer) (storeMarksIn m)) n m) None
 marked-between true n c i m h f g q e =
-    rw (stored-is (totalOf (m .state .made .default)) i (m .store) (m .marks) (m .buffer) h (g .1))
-    (asked-between n c i (m .state) (m .buffer) (putSector i (m .buffer) (m .store)) (set (m .marks) i 0) f
+    rw (stored-is (totalOf (m .state .made .default)) i (m .state .bad) (m .store) (m .marks) (m .buffer) h (g .1))
+    (asked-between n c i (withBad (m .state .bad - badAt i (m .marks)) (m .state)) (m .buffer) (putSector i (m .buffer) (m .store)) (set (m .marks) i 0) f
     (g .0, stored-lent (totalOf (m .state .made .default)) i (m .store) (m .marks) (m .buffer) h (g .1) f, tt, g .3, g .4) q e)
 marked-between false n c i m h f g q e = (g, refl)
 

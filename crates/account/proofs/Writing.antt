@@ -16,7 +16,7 @@ use Rattle.registers.specs.declared.Load.{Load}
 use Rattle.registers.specs.declared.Load.the-variants.{Sectors, Buffer}
 use Rattle.registers.specs.declared.State.{State}
 use Rattle.registers.specs.Status.{dataStatus}
-use Rattle.registers.specs.State.{locatedIn}
+use Rattle.registers.specs.State.{withBad, locatedIn}
 use Rattle.registers.specs.Machine.{Machine, machine}
 use Rattle.transfers.specs.declared.Order.{Order}
 use Rattle.transfers.specs.declared.Order.the-variants.{Later}
@@ -24,14 +24,15 @@ use Rattle.transfers.specs.declared.End.{End}
 use Rattle.transfers.specs.declared.Tested.the-variants.{Passes, Fails}
 use Rattle.transfers.specs.Before.{addressTest, testedOf, storedBy}
 use Rattle.transfers.specs.Steps.{sectorDone, askTested, askSector, nextAsked, writtenBy}
+use Rattle.kept.specs.Lent.{storeMarksIn}
 use Rattle.account.specs.Numbers.{codeCylinderOrLba}
 use Rattle.account.specs.Plain.{Plain, withBuffer, Finish, Well, NotFound, Unreadable, WriteFault, Aborted, withStatus, withStore, moving}
 use Rattle.account.specs.Course.{Course}
-use Rattle.account.specs.Sweeps.{tried, sweepFrom, tests, unwritable, firstSectors, lastSectors, replaced, cleared, movedBy, putSector, writeDone, writeSectors}
+use Rattle.account.specs.Sweeps.{tried, sweepFrom, tests, unwritable, firstSectors, lastSectors, replaced, cleared, movedBy, putSector, badAt, badFrom, writeDone, writeSectors}
 use Rattle.account.specs.Host.{plainOf, plainIn}
 use Rattle.account.proofs.Seats.{Shaped, Seated, Where, pastEnd, onward, done-on, seat-next}
 use Rattle.account.proofs.Tried.{stops-ends}
-use Rattle.account.proofs.Stored.{LentFor, stored-is, sweep-later}
+use Rattle.account.proofs.Stored.{LentFor, stored-is, sweep-later, bad-on, bad-none}
 use Rattle.account.proofs.Verifying.{seated-last}
 use Rattle.account.proofs.Rest.{doneOut, storedThen, restAt, rest, sweep-status}
 
@@ -48,10 +49,10 @@ write-marked : (u : Bool) (n : ℕ) (c : Course) (i : ℕ) (p : Plain) (d : List
     writeDone c i (tried (pick u WriteFault Well) (suc n) i (sweepFrom (tests unwritable WriteFault c (p .marks)) (i + 1) n)) p d
     ≡ moving (take 512 d) (storedThen u (suc n) i c p (take 512 d) (drop 512 d))
 unfolding storedThen writeSectors firstSectors lastSectors replaced cleared
-write-marked true n c i p d = refl
+write-marked true n c i p d = rw (bad-none (p .bad) i (p .marks))
 write-marked false n c i p d =
     let r = sweepFrom (tests unwritable WriteFault c (p .marks)) (i + 1) n in
-    rw (moved-more (r .finish) (r .done), sub-one (suc n), sweep-later unwritable WriteFault c (p .marks) i (i + 1) n (omega arith))
+    rw (moved-more (r .finish) (r .done), sub-one (suc n), sweep-later unwritable WriteFault c (p .marks) i (i + 1) n (omega arith), bad-on (p .bad) i (r .done) (p .marks))
 
 write-sound : (n : ℕ) (c : Course) (i : ℕ) (p : Plain) (d : List ℕ) → i < c .room →
     writeSectors c i (suc n) p d ≡ moving (take 512 d) (storedThen (unwritable (getD (p .marks) i 0)) (suc n) i c p (take 512 d) (drop 512 d))
@@ -66,7 +67,8 @@ stored-status false n i c p b d v =
     ap (λ (x : Plain). record { moved = firstSectors (movedBy (r .finish) (r .done)) d; left = x })
     (sweep-status c r v
     (withBuffer (lastSectors (movedBy (r .finish) (r .done)) d b)
-    (withStore (replaced (i + 1) (r .done) d (putSector i b (p .store))) (cleared (i + 1) (r .done) (set (p .marks) i 0)) p)))
+    (withStore (replaced (i + 1) (r .done) d (putSector i b (p .store))) (cleared (i + 1) (r .done) (set (p .marks) i 0))
+    (p .bad - badAt i (p .marks) - badFrom (i + 1) (r .done) (set (p .marks) i 0)) p)))
 
 stored-over : (u : Bool) (n i : ℕ) (c : Course) (p : Plain) (x b d : List ℕ) → storedThen u n i c (withBuffer x p) b d ≡ storedThen u n i c p b d
 unfolding storedThen writeSectors
@@ -84,8 +86,8 @@ past-rest : (l : Bool) (n : ℕ) (order : Order) (c : Course) (i : ℕ) (s : Sta
     rest (machine (askTested (testedOf (pick l Located.BadLba Located.BadCylinder)) (suc n) order s) b t k) d
     ≡ writeDone c i (tried (NotFound codeCylinderOrLba) (suc n) i (sweepFrom (tests unwritable WriteFault c k) (i + 1) n)) (plainIn s b t k) d
 unfolding restAt firstSectors lastSectors replaced cleared
-past-rest true n order c i s b t k d q = rw (stops-ends End.BadLba refl c (suc n) i s b t k q)
-past-rest false n order c i s b t k d q = rw (stops-ends End.BadCylinder refl c (suc n) i s b t k q)
+past-rest true n order c i s b t k d q = rw (bad-none (s .bad) i k, stops-ends End.BadLba refl c (suc n) i s b t k q)
+past-rest false n order c i s b t k d q = rw (bad-none (s .bad) i k, stops-ends End.BadCylinder refl c (suc n) i s b t k q)
 
 ask-by : (v : Bool) (n : ℕ) (order : Order) (c : Course) (i : ℕ) (s : State) (b t k d : List ℕ) → ltb i (c .room) ≡ v → Seated c i (suc n) s →
     locatedIn s ≡ pick v (goodAt i) (pastEnd c) →
@@ -108,7 +110,7 @@ ask-rest n order c i s b t k d q w =
 asked-rest : (n : ℕ) (c : Course) (i : ℕ) (s : State) (b t k d : List ℕ) → Shaped (s .made) (s .current) → Seated c i (suc n) s → locatedIn s ≡ goodAt i →
     rest (machine (nextAsked n s) b t k) d ≡ writeSectors c (i + 1) n (plainIn s b t k) d
 unfolding nextAsked
-asked-rest zero c i s b t k d h q e = unfold sectorDone restAt writeSectors sweepFrom firstSectors lastSectors replaced cleared in rw (seated-last c i 1 s q)
+asked-rest zero c i s b t k d h q e = unfold sectorDone restAt writeSectors sweepFrom firstSectors lastSectors replaced cleared in rw (seated-last c i 1 s q, bad-none (s .bad) (i + 1) k)
 asked-rest (suc n) c i s b t k d h q e =
     let z = seat-next c (suc n) i s h e (q .2) in
     rw (done-on n s, ne-eqb (suc n) 0 (omega arith)) (ask-rest n Later c (i + 1) (onward (suc n) s) b t k d (z .0) (z .1) ∙ (unfold writeSectors in refl))
@@ -116,12 +118,13 @@ asked-rest (suc n) c i s b t k d h q e =
 -- its mark first
 pub marked-rest : (u v : Bool) (n : ℕ) (c : Course) (i : ℕ) (m : Machine) (d : List ℕ) → v ≡ not u → i < totalOf (m .state .made .default) → Shaped (m .state .made) (m .state .current) →
     LentFor (totalOf (m .state .made .default)) (m .store) (m .marks) → Seated c i (suc n) (m .state) → locatedIn (m .state) ≡ goodAt i →
-    rest (writtenBy (storedBy (pick u (Passes (spotAt i)) (Fails End.WriteFault)) (m .buffer) (m .store) (m .marks)) n m) d
+    rest (writtenBy (storedBy (pick u (Passes (spotAt i)) (Fails End.WriteFault)) (m .buffer) (storeMarksIn m)) n m) d
     ≡ storedThen v (suc n) i c (plainOf m) (m .buffer) d
 unfolding storedThen
 marked-rest true true n c i m d e h g l q w = absurd (true≢false e)
 marked-rest true false n c i m d e h g l q w =
-    rw (stored-is (totalOf (m .state .made .default)) i (m .store) (m .marks) (m .buffer) h l, sub-one (suc n))
-    (asked-rest n c i (m .state) (m .buffer) (putSector i (m .buffer) (m .store)) (set (m .marks) i 0) d g q w)
+    let b = m .state .bad - badAt i (m .marks) in
+    rw (stored-is (totalOf (m .state .made .default)) i (m .state .bad) (m .store) (m .marks) (m .buffer) h l, sub-one (suc n))
+    (asked-rest n c i (withBad b (m .state)) (m .buffer) (putSector i (m .buffer) (m .store)) (set (m .marks) i 0) d g q w)
 marked-rest false true n c i m d e h g l q w = unfold restAt in rw (stops-ends End.WriteFault refl c (suc n) i (m .state) (m .buffer) (m .store) (m .marks) q)
 marked-rest false false n c i m d e h g l q w = absurd (false≢true e)

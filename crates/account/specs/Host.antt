@@ -24,6 +24,7 @@ plainIn s buffer store marks = record {
   current = s .current;
   registers = s .registers;
   code = s .code;
+  bad = s .bad;
   buffer = buffer;
   store = store;
   marks = marks;

@@ -107,6 +107,17 @@ unfoldable pub cleared : ℕ → ℕ → List ℕ → List ℕ
 cleared i zero marks = marks
 cleared i (suc k) marks = cleared (i + 1) k (set marks i 0)
 
+-- 02, "Eight": how many of k marks from index i are not 0; and the number that the card keeps, once these sectors are stored: "never below 0"
+abbrev pub badAt : ℕ → List ℕ → ℕ
+badAt i marks = pick (eqb (getD marks i 0) 0) 0 1
+
+unfoldable pub badFrom : ℕ → ℕ → List ℕ → ℕ
+badFrom i zero marks = 0
+badFrom i (suc k) marks = badAt i marks + badFrom (i + 1) k marks
+
+abbrev pub badLeft : ℕ → ℕ → Plain → ℕ
+badLeft i k p = p .bad - badFrom i k (p .marks)
+
 -- ---- n sectors from index i
 
 -- 20H 21H: read sectors
@@ -131,7 +142,7 @@ abbrev pub writeDone : Course → ℕ → Sweep → Plain → List ℕ → Accou
 writeDone c i r p bytes = record {
   moved = firstSectors (movedBy (r .finish) (r .done)) bytes;
   left = sweepEnds c r (withBuffer (lastSectors (movedBy (r .finish) (r .done)) bytes (p .buffer))
-      (withStore (replaced i (r .done) bytes (p .store)) (cleared i (r .done) (p .marks)) p));
+      (withStore (replaced i (r .done) bytes (p .store)) (cleared i (r .done) (p .marks)) (badLeft i (r .done) p) p));
 }
 
 unfoldable pub writeSectors : Course → ℕ → ℕ → Plain → List ℕ → Account
@@ -143,7 +154,7 @@ verifySectors c i n p = sweepEnds c (readSweep c (p .marks) i n) p
 
 -- C0H: as write, storing FFH, no data
 abbrev pub eraseDone : Course → ℕ → Sweep → Plain → Plain
-eraseDone c i r p = sweepEnds c r (withStore (blanked i (r .done) (p .store)) (cleared i (r .done) (p .marks)) p)
+eraseDone c i r p = sweepEnds c r (withStore (blanked i (r .done) (p .store)) (cleared i (r .done) (p .marks)) (badLeft i (r .done) p) p)
 
 unfoldable pub eraseSectors : Course → ℕ → ℕ → Plain → Plain
 eraseSectors c i n p = eraseDone c i (writeSweep c (p .marks) i n) p

@@ -18,7 +18,7 @@ unfoldable pub bytesOf : List ℕ → List ℕ
 bytesOf [] = []
 bytesOf (w ∷ l) = w % 256 ∷ w / 256 ∷ bytesOf l
 
--- words 0..9, 10..19, 20..22, 23..46, 47..53, 54..61, 62..254
+-- words 0..9, 10..19, 20..22, 23..46, 47..53, 54..61, 62..128, 129 (02, "Eight"), 130..254
 unfoldable pub toldWords : Plain → List ℕ
 toldWords p =
     (0x848A ∷ p .made .default .cylinders ∷ 0 ∷ p .made .default .heads ∷ 0 ∷ 0 ∷ p .made .default .sectors ∷ high (sectorsOf (p .made .default)) ∷ low (sectorsOf (p .made .default)) ∷ 0 ∷ [])
@@ -28,7 +28,9 @@ toldWords p =
     ++ ((0 ∷ 0 ∷ 0x0200 ∷ 0 ∷ 0 ∷ 0 ∷ 1 ∷ [])
     ++ ((p .current .cylinders ∷ p .current .heads ∷ p .current .sectors ∷ low (sectorsOf (p .current)) ∷ high (sectorsOf (p .current)) ∷ 0
     ∷ low (sectorsOf (p .made .default)) ∷ high (sectorsOf (p .made .default)) ∷ [])
-    ++ replicate 193 0)))))
+    ++ (replicate 67 0
+    ++ ((p .bad ∷ [])
+    ++ replicate 125 0)))))))
 
 -- "summed with wrap-around in eight bits"
 unfoldable pub summed : List ℕ → ℕ

@@ -1,4 +1,4 @@
--- The opening: refusals 1, 2, 3, 5, 4 in this order; else power-on.
+-- The opening: refusals 1, 2, 3, 5, 4 in this order; else power-on, with the marks counted.
 use Prim.Native.Nat.{ℕ, _*_}
 use mathlib.Core.Bool.{false, _&&_}
 use mathlib.Core.List.{List, [], _∷_}
@@ -14,7 +14,7 @@ use Rattle.geometry.specs.declared.Geometry.{Geometry}
 use Rattle.geometry.specs.Limits.{fits, totalOf}
 use Rattle.maps.specs.declared.Mode.{Mode}
 use Rattle.maps.specs.declared.Mode.the-variants.{PcCard, TrueIde}
-use Rattle.sectors.specs.Marks.{marksFit}
+use Rattle.sectors.specs.Marks.{marksFit, badIn}
 use Rattle.registers.specs.declared.Phase.the-variants.{Idle}
 use Rattle.registers.specs.declared.State.{State}
 use Rattle.registers.specs.PowerOn.{powerOn, zeros}
@@ -39,6 +39,7 @@ zeroState = record {
   control = record { held = false; masked = false };
   interrupt = false;
   code = 0;
+  bad = 0;
 }
 
 abbrev pub zeroCard : Card
@@ -47,9 +48,9 @@ zeroCard = record { phase = Idle; state = zeroState; buffer = zeros }
 abbrev pub openRefused : Refusal → Answer
 openRefused r = refusedBy zeroCard r
 
--- power-on: index 0, buffer zeros
-abbrev pub powered : Geometry → Mode → Card
-powered g mode = record { phase = Idle; state = powerOn (record { mode = mode; default = g }) 0; buffer = zeros }
+-- power-on: index 0, buffer zeros; 02, "Eight": with the number of marks that are not 0
+abbrev pub powered : Geometry → Mode → ℕ → Card
+powered g mode bad = record { phase = Idle; state = powerOn (record { mode = mode; default = g }) bad 0; buffer = zeros }
 
 -- rows 1, 2, 3, 5, 4
 abbrev pub openingTable : Geometry → ℕ → List ℕ → List ℕ → List ℕ → List (Row Refusal)
@@ -64,4 +65,4 @@ openingTable g mode store marks tuples =
 unfoldable pub opened : Geometry → ℕ → List ℕ → List ℕ → List ℕ → Answer
 opened g mode store marks tuples =
     firstOf (openingTable g mode store marks tuples) openRefused
-    (answer (Outcome.Accepted 0) (powered g (modeOf mode)))
+    (answer (Outcome.Accepted 0) (powered g (modeOf mode) (badIn marks)))

@@ -61,6 +61,7 @@ fn zero_state() -> State
         },
         interrupt: false,
         code: 0,
+        bad: 0,
     }
 }
 
@@ -76,14 +77,14 @@ fn open_refused(refusal: Refusal) -> Answer
     super::doors::answer(port::refused(core, refusal), [0u8; SECTOR_BYTES])
 }
 
-fn powered(geometry: Geometry, mode: Mode) -> Core
-    ensures { λ r. ⌜ cardOf r zeros ≡ powered geometry mode ⌝ }
+fn powered(geometry: Geometry, mode: Mode, bad: u16) -> Core
+    ensures { λ r. ⌜ cardOf r zeros ≡ powered geometry mode bad ⌝ }
 {
     let made = Made {
         mode: mode,
         default: geometry,
     };
-    let state = made.power_on(0);
+    let state = made.power_on(bad, 0);
     Core {
         phase: Phase::Idle,
         state: state,
@@ -125,10 +126,11 @@ impl Card {
         if tuples.len() != TUPLE_BUFFER_BYTES {
             return open_refused(Refusal::TupleBufferLength);
         }
-        if !sectors::marks::marks_fit(marks) {
+        let counted = sectors::marks::count(marks);
+        if !counted.fit {
             return open_refused(Refusal::MarkAboveTwo);
         }
-        let core = powered(geometry, mode_of(mode));
+        let core = powered(geometry, mode_of(mode), counted.bad as u16);
         super::doors::answer(port::accepted(core, 0), [0u8; SECTOR_BYTES])
     }
 }

@@ -8,6 +8,7 @@ use Rattle.ground.specs.Left.{leaving}
 use Rattle.geometry.specs.declared.Spot.{Spot}
 use Rattle.sectors.specs.Sectors.{storeMarks}
 use Rattle.registers.specs.declared.State.{State}
+use Rattle.registers.specs.State.{withBad}
 use Rattle.transfers.specs.declared.End.{End}
 use Rattle.transfers.specs.declared.Tested.the-variants.{Passes, Fails}
 use Rattle.transfers.specs.Ends.{ended}
@@ -31,20 +32,22 @@ unfolding verifyFrom
 verify-step zero s marks spot h t = absurd (not-suc-le-zero h)
 verify-step (suc n) s marks spot h t = simp (t, sub-one)
 
-pub erase-end : (n : ℕ) (s : State) (store marks : List ℕ) → n ≤ 0 → eraseFrom n s store marks ≡ leaving (ended End.Good s) (storeMarks store marks)
+pub erase-end : (n : ℕ) (s : State) (store marks : List ℕ) → n ≤ 0 → eraseFrom n s store marks ≡ leaving (ended End.Good s) (storeMarks store marks (s .bad))
 unfolding eraseFrom
 erase-end zero s store marks h = refl
 erase-end (suc n) s store marks h = absurd (not-suc-le-zero h)
 
--- the store and the marks after a sector's test are given by what the test and the storing promise
-pub erase-fails : (n : ℕ) (s : State) (store marks store′ marks′ : List ℕ) (e : End) → 0 < n → leaving (Fails e) (storeMarks store′ marks′) ≡ sectorStored s allFF store marks
-    → eraseFrom n s store marks ≡ leaving (ended e s) (storeMarks store′ marks′)
+-- the store, the marks and their number after a sector's test are given by what the test and the storing promise
+pub erase-fails : (n : ℕ) (s : State) (store marks store′ marks′ : List ℕ) (b : ℕ) (e : End) → 0 < n →
+    leaving (Fails e) (storeMarks store′ marks′ b) ≡ sectorStored s allFF store marks →
+    eraseFrom n s store marks ≡ leaving (ended e (withBad b s)) (storeMarks store′ marks′ b)
 unfolding eraseFrom
-erase-fails zero s store marks store′ marks′ e h k = absurd (not-suc-le-zero h)
-erase-fails (suc n) s store marks store′ marks′ e h k = simp (sym k)
+erase-fails zero s store marks store′ marks′ b e h k = absurd (not-suc-le-zero h)
+erase-fails (suc n) s store marks store′ marks′ b e h k = simp (sym k)
 
-pub erase-step : (n : ℕ) (s : State) (store marks store′ marks′ : List ℕ) (spot : Spot) → 0 < n → leaving (Passes spot) (storeMarks store′ marks′) ≡ sectorStored s allFF store marks
-    → eraseFrom n s store marks ≡ eraseFrom (n - 1) (sectorDone (n - 1) s) store′ marks′
+pub erase-step : (n : ℕ) (s : State) (store marks store′ marks′ : List ℕ) (b : ℕ) (spot : Spot) → 0 < n →
+    leaving (Passes spot) (storeMarks store′ marks′ b) ≡ sectorStored s allFF store marks →
+    eraseFrom n s store marks ≡ eraseFrom (n - 1) (sectorDone (n - 1) (withBad b s)) store′ marks′
 unfolding eraseFrom
-erase-step zero s store marks store′ marks′ spot h k = absurd (not-suc-le-zero h)
-erase-step (suc n) s store marks store′ marks′ spot h k = simp (sym k, sub-one)
+erase-step zero s store marks store′ marks′ b spot h k = absurd (not-suc-le-zero h)
+erase-step (suc n) s store marks store′ marks′ b spot h k = simp (sym k, sub-one)

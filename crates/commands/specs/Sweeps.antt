@@ -7,6 +7,7 @@ use Rattle.ground.specs.Sizes.{sectorBytes}
 use Rattle.sectors.specs.Sectors.{StoreMarks, storeMarks}
 use Rattle.registers.specs.declared.State.{State}
 use Rattle.registers.specs.declared.Core.{Core}
+use Rattle.registers.specs.State.{withBad}
 use Rattle.transfers.specs.declared.End.the-variants.{Good}
 use Rattle.transfers.specs.declared.Tested.{Tested}
 use Rattle.transfers.specs.declared.Tested.the-variants.{Passes, Fails}
@@ -28,7 +29,8 @@ unfoldable pub allFF : List ℕ
 allFF = replicate sectorBytes 0xFF
 
 unfoldable pub eraseFrom : ℕ → State → List ℕ → List ℕ → Left Core StoreMarks
-eraseFrom zero s store marks = leaving (ended Good s) (storeMarks store marks)
+eraseFrom zero s store marks = leaving (ended Good s) (storeMarks store marks (s .bad))
 eraseFrom (suc n) s store marks =
     let k = sectorStored s allFF store marks in
-    unlessFailed (k .outcome) (λ c. leaving c (k .next)) s (eraseFrom n (sectorDone n s) (k .next .store) (k .next .marks))
+    let t = withBad (k .next .bad) s in
+    unlessFailed (k .outcome) (λ c. leaving c (k .next)) t (eraseFrom n (sectorDone n t) (k .next .store) (k .next .marks))

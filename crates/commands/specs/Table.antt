@@ -61,7 +61,7 @@ unfoldable pub countOf : State → ℕ
 countOf s = pick (eqb (s .registers .count) 0) mostCount (s .registers .count)
 
 abbrev pub factsOf : State → Facts
-factsOf s = record { default = s .made .default; current = s .current }
+factsOf s = record { default = s .made .default; current = s .current; bad = s .bad }
 
 -- 91H: "S := Count, H := low nibble+1; if S is 0 or H·S>N: ABRT, 21H, old geometry stays"
 abbrev pub reshapedEnded : Reshaped → State → Core

@@ -32,13 +32,16 @@ pub(crate) fn verify(state: State, count: u16, marks: &[u8]) -> Core
 
 // C0H.
 pub(crate) fn erase(state: State, count: u16, store: &mut [u8], marks: &mut [u8]) -> Core
-    ensures { λ r. ⌜ leaving r (storeMarks (now (store .exit)) (now (marks .exit))) ≡ eraseFrom count state (now (store .entry)) (now (marks .entry)) ⌝ }
+    ensures { λ r. ⌜ leaving r (storeMarks (now (store .exit)) (now (marks .exit)) (r .state .bad)) ≡ eraseFrom count state (now (store .entry)) (now (marks .entry)) ⌝ }
 {
     let bytes = [0xFFu8; SECTOR_BYTES];
     let mut s = state;
     let mut n = count;
     while 0 < n {
-        match transfers::before::sector_stored(s, &bytes, store, marks) {
+        let stored = transfers::before::sector_stored(s, &bytes, store, marks);
+        let tested = stored.tested;
+        s.bad = stored.bad;
+        match tested {
             Tested::Passes(_) => {
                 n -= 1;
                 s = transfers::steps::sector_done(s, n);

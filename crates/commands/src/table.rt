@@ -47,6 +47,7 @@ fn identify(state: State, buffer: &mut Sector)
     let facts = Facts {
         default: default,
         current: current,
+        bad: state.bad,
     };
     facts.identify(buffer);
 }

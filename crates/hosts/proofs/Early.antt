@@ -11,6 +11,8 @@ use Rattle.card.specs.declared.Meaning.{Meaning}
 use Rattle.card.specs.Access.{Asked}
 use Rattle.card.specs.Step.{step}
 use Rattle.kept.specs.Lent.{storeMarksIn}
+use Rattle.sectors.specs.Sectors.{storeMarks}
+use Rattle.account.proofs.Stored.{bad-none}
 use Rattle.account.specs.Plain.{Plain}
 use Rattle.account.specs.Addressed.{Addressed, At, Bad}
 use Rattle.account.specs.CommandRows.{CommandRow, Reads, Writes, Verifies, Erases, Identifies, ReadsBuffer, WritesBuffer, SetsGeometry, Diagnoses, Recalibrates, Seeks, Senses, Others, rowOf}
@@ -28,7 +30,7 @@ none-yet (At i) p d h =
     let x = min-le-left (wholeOf d) (writeSweep (courseOf p) (p .marks) i (asked (p .registers .count)) .done) in
     let y = min-le-right (wholeOf d) (writeSweep (courseOf p) (p .marks) i (asked (p .registers .count)) .done) in
     let e : storedOf i p d ≡ 0 = omega arith in
-    ap (λ (k : ℕ). storedFrom i k p d) e
+    ap (λ (k : ℕ). storedFrom i k p d) e ∙ ap (storeMarks (p .store) (p .marks)) (bad-none (p .bad) i (p .marks))
 none-yet (Bad code) p d h = refl
 
 row-none-yet : (row : CommandRow) (p : Plain) (d : List ℕ) → dataless row ≡ false → length d < 512 → soFar row p d ≡ storeMarksOf p

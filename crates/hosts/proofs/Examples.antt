@@ -15,9 +15,9 @@ use Rattle.maps.specs.Spaces.{cardAnswers, answersAt}
 use Rattle.maps.specs.Offsets.{memoryAt, contiguousAt, windowAt, ioAt, offsetAt}
 use Rattle.maps.specs.Places.{registerPlace, attributePlace, mapPlace, placeAt}
 use Rattle.maps.specs.Rows.{misfits, aboveThree}
-use Rattle.sectors.specs.Marks.{readable, writable, marksFit}
+use Rattle.sectors.specs.Marks.{readable, writable, marksFit, badIn, lowered}
 use Rattle.sectors.specs.Sectors.{sectorOf, withSector, bufferRead, stored}
-use Rattle.registers.specs.WellMade.{indexFits, sresetFits, atRest, statusFits, inReset, holdFits, wordsFit, sectorsFit, loadFits, runFits, wellMade}
+use Rattle.registers.specs.WellMade.{indexFits, sresetFits, atRest, statusFits, inReset, holdFits, wordsFit, sectorsFit, loadFits, runFits, badFits, wellMade}
 use Rattle.registers.specs.Resets.{turnOf, optionTurned, bufferTurned, controlTurned}
 use Rattle.registers.specs.Values.{valueRead, afterRead, registerSet}
 use Rattle.transfers.specs.Before.{addressTest, sectorTest, sectorStored}
@@ -59,8 +59,8 @@ times (suc n) l = l ++ times n l
 unfoldable computing : Unit {0}
 unfolding every fits totalOf currentFor locate locateChs locateLba byLba nextOf nextChs
     answersAt cardAnswers placeAt mapPlace attributePlace registerPlace misfits aboveThree offsetAt memoryAt ioAt contiguousAt windowAt
-    stored withSector sectorOf bufferRead readable writable marksFit
-    wellMade runFits loadFits sectorsFit wordsFit holdFits inReset statusFits atRest sresetFits indexFits
+    stored withSector sectorOf bufferRead readable writable marksFit badIn lowered
+    wellMade runFits loadFits sectorsFit wordsFit holdFits inReset statusFits atRest sresetFits indexFits badFits
     valueRead afterRead registerSet turnOf optionTurned bufferTurned controlTurned zeros
     readSector nextRead askSector nextAsked sectorDone sectorTest addressTest sectorStored
     countOf commandOf commandGiven

@@ -89,6 +89,7 @@ stored-first i k n p d h e l = record {
   marked = cleared-holds k i (p .marks) (let z = l .1 in omega arith);
   others = replaced-same k i n d (p .store) h e (l .0);
   otherMarks = cleared-same k i (p .marks);
+  counted = refl;
 }
 
 -- ---- at every moment

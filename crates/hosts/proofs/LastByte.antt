@@ -13,6 +13,7 @@ use Rattle.card.specs.Access.{Asked, meaning}
 use Rattle.card.specs.Perform.{perform}
 use Rattle.card.specs.Step.{step}
 use Rattle.kept.specs.Lent.{storeMarksIn}
+use Rattle.sectors.specs.Sectors.{storeMarks}
 use Rattle.account.specs.Plain.{Plain}
 use Rattle.account.specs.Addressed.{Addressed, At, Bad}
 use Rattle.account.specs.CommandRows.{CommandRow, Reads, Writes, Verifies, Erases, Identifies, ReadsBuffer, WritesBuffer, SetsGeometry, Diagnoses, Recalibrates, Seeks, Senses, Others, rowOf}
@@ -54,7 +55,7 @@ front-written (At i) p l d e =
     let x = min-le-left (wholeOf l) n in
     let y = min-le-right (wholeOf l) n in
     ap (λ (k : ℕ). storedFrom i (min k n) p (l ++ d)) e
-    ∙ ap (λ (s : List ℕ). record { store = s; marks = storedFrom i (min (wholeOf l) n) p l .marks }) (replaced-front (min (wholeOf l) n) i l d (p .store) (omega arith))
+    ∙ ap (λ (s : List ℕ). let k = storedFrom i (min (wholeOf l) n) p l in storeMarks s (k .marks) (k .bad)) (replaced-front (min (wholeOf l) n) i l d (p .store) (omega arith))
 front-written (Bad code) p l d e = refl
 
 front-same : (row : CommandRow) (p : Plain) (l d : List ℕ) → wholeOf (l ++ d) ≡ wholeOf l → soFar row p (l ++ d) ≡ soFar row p l

@@ -25,6 +25,7 @@ use Rattle.account.specs.Host.{plainOf, asks, GoesBy, MovesBy, Hosted, hostedBy
 use Rattle.account.specs.Notes.{Notes, noNotes, note, noteData, wayOf}
 use Rattle.account.specs.Claim.{Agrees}
 use Rattle.account.specs.Follows.{commanded, afterBy, AcceptedCommand, after}
+use Rattle.sectors.specs.Sectors.{storeMarks}
 use Rattle.hosts.specs.Hosts.{Round, onward, Going, rounds, Willing, Chosen}
 use Rattle.hosts.specs.Running.{Promised, Call, Own, callMeaning, callMeanings, ReadyCall, Called}
 use Rattle.hosts.specs.Live.{noted, moved, due}
@@ -85,8 +86,8 @@ module _ (c : Card) (store marks : List ℕ) (a : Asked) (v : ℕ) (l : List Cal
       let o : r .outcome ≡ step (now .machine) (accessOf way x) .outcome = ap (λ (u : Effect). u .outcome) p in
       (t .answer, o ∙ t .accepted, ap (λ (u : Outcome). note way (meaning (now .machine) (accessOf way x)) u q) o ∙ t .part)
 
-  -- and the caller's own arrays hold the sectors whose last byte has moved, and no other.
-  pub code-at-every-moment : CalmBy (commanded v before) meant → record { store = store′; marks = marks′ } ≡ soFar (rowOf v) (plainOf before) (q .done)
+  -- and the caller's own arrays hold the sectors whose last byte has moved, and no other; the card's number of marks that are not 0 is that of them.
+  pub code-at-every-moment : CalmBy (commanded v before) meant → storeMarks store′ marks′ (d .state .bad) ≡ soFar (rowOf v) (plainOf before) (q .done)
   code-at-every-moment g =
       subst (λ (h : Hosted). storeMarksIn (h .machine) ≡ soFar (rowOf v) (plainOf before) (h .notes .done)) there (means-at-every-moment before v meant (able before a v w) g)
 

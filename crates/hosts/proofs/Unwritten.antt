@@ -12,6 +12,7 @@ use Rattle.registers.specs.declared.Phase.{Phase}
 use Rattle.registers.specs.declared.Phase.the-variants.{Idle, DataIn, DataOut}
 use Rattle.registers.specs.Machine.{Machine}
 use Rattle.transfers.specs.declared.Way.{Way}
+use Rattle.sectors.specs.Sectors.{StoreMarks}
 use Rattle.kept.specs.Lent.{storeMarksIn}
 use Rattle.account.specs.Numbers.{codeGeometry}
 use Rattle.account.specs.Plain.{Plain, withBuffer, withPlace, withCurrent, starts, Finish, Well, NotFound, Unreadable, WriteFault, Aborted, ends, Account, silent}
@@ -46,16 +47,16 @@ unfolding doneIn
 read-left-alone Buffer p = refl
 read-left-alone (Sectors n) p = reads-left-alone (courseOf p) (indexOf (located p) + 1) (n - 1) p
 
-out-left-alone : (a : Load) (o p : Plain) (h w : ℕ) (b s k l c d : List ℕ) → LoadLies Nowhere a o h w b s k l → storeMarksOf (doneOut a p c d .left) ≡ storeMarksOf p
+out-left-alone : (a : Load) (o p : Plain) (h w : ℕ) (b : List ℕ) (s : StoreMarks) (l c d : List ℕ) → LoadLies Nowhere a o h w b s l → storeMarksOf (doneOut a p c d .left) ≡ storeMarksOf p
 unfolding doneOut
-out-left-alone Buffer o p h w b s k l c d z = refl
-out-left-alone (Sectors n) o p h w b s k l c d z = absurd z
+out-left-alone Buffer o p h w b s l c d z = refl
+out-left-alone (Sectors n) o p h w b s l c d z = absurd z
 
-rest-left-alone : (f : Phase) (o p : Plain) (h : ℕ) (b s k l d : List ℕ) → LiesAt Nowhere f o h b s k l → storeMarksOf (restAt f p d .left) ≡ storeMarksOf p
+rest-left-alone : (f : Phase) (o p : Plain) (h : ℕ) (b : List ℕ) (s : StoreMarks) (l d : List ℕ) → LiesAt Nowhere f o h b s l → storeMarksOf (restAt f p d .left) ≡ storeMarksOf p
 unfolding restAt
-rest-left-alone Idle o p h b s k l d z = refl
-rest-left-alone (DataIn t) o p h b s k l d z = read-left-alone (t .load) p
-rest-left-alone (DataOut t) o p h b s k l d z = out-left-alone (t .load) o p h (t .words) b s k l _ _ z
+rest-left-alone Idle o p h b s l d z = refl
+rest-left-alone (DataIn t) o p h b s l d z = read-left-alone (t .load) p
+rest-left-alone (DataOut t) o p h b s l d z = out-left-alone (t .load) o p h (t .words) b s l _ _ z
 
 -- the account's store and marks, of a command that writes none
 from-left-alone : (l : Addressed) (p : Plain) (f : ℕ → Account) → ((i : ℕ) → storeMarksOf (f i .left) ≡ storeMarksOf p) → storeMarksOf (fromFirst l silent f p .left) ≡ storeMarksOf p
@@ -103,6 +104,6 @@ row-left-alone Others p d e t = refl
 pub nowhere : (row : CommandRow) (p : Plain) (way : Way) (m : Machine) (q : Notes) (g : Target) → g ≡ Nowhere → targetOf row p ≡ g → Rel way (account row p) m q → Lies g (starts p) m (q .done) →
     (d : List ℕ) → storeMarksIn m ≡ soFar row p d
 nowhere row p way m q g e t y z d =
-    sym (rest-left-alone (m .phase) (starts p) (plainOf m) (here (m .state)) (m .buffer) (m .store) (m .marks) (q .done) [] (subst (λ (x : Target). Lies x (starts p) m (q .done)) e z))
+    sym (rest-left-alone (m .phase) (starts p) (plainOf m) (here (m .state)) (m .buffer) (storeMarksIn m) (q .done) [] (subst (λ (x : Target). Lies x (starts p) m (q .done)) e z))
     ∙ sym (ap (λ (x : Account). storeMarksOf (x .left)) (y .account []))
     ∙ row-left-alone row p (q .done ++ []) d (t ∙ e)

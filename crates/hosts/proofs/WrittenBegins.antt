@@ -1,5 +1,5 @@
 -- A command begins: what it has stored is nothing.
-use Prim.Native.Nat.{ℕ, suc, _<_}
+use Prim.Native.Nat.{ℕ, suc, _-_, _<_}
 use mathlib.Core.Path.{_≡_, refl, ap, _∙_}
 use mathlib.Core.List.{List, []}
 use native.Mathlib.Nat.{zero-add}
@@ -17,7 +17,7 @@ use Rattle.transfers.specs.declared.Way.the-variants.{In}
 use Rattle.account.specs.Plain.{Plain, starts, Account}
 use Rattle.account.specs.Addressed.{Addressed, At, Bad}
 use Rattle.account.specs.CommandRows.{CommandRow, Reads, Writes, Verifies, Erases, Identifies, ReadsBuffer, WritesBuffer, SetsGeometry, Diagnoses, Recalibrates, Seeks, Senses, Others}
-use Rattle.account.specs.Sweeps.{replaced, cleared}
+use Rattle.account.specs.Sweeps.{replaced, cleared, badFrom}
 use Rattle.account.specs.Table.{asked, first}
 use Rattle.account.specs.Host.{plainOf}
 use Rattle.account.specs.Notes.{Notes, noNotes}
@@ -52,17 +52,23 @@ targetOf Seeks p = Nowhere
 targetOf Senses p = Nowhere
 targetOf Others p = Nowhere
 
-write-begins : (n : ℕ) (m : Machine) (p : Plain) (l : Located) → p .store ≡ m .store → p .marks ≡ m .marks → Shaped (m .state .made) (m .state .current) → locatedIn (m .state) ≡ l →
+write-begins : (n : ℕ) (m : Machine) (p : Plain) (l : Located) → p .store ≡ m .store → p .marks ≡ m .marks → p .bad ≡ m .state .bad → Shaped (m .state .made) (m .state .current) → locatedIn (m .state) ≡ l →
     Lies (targetAt (asAddressed l)) p (withCore (askSector (suc n) First (m .state)) m) []
 unfolding askSector addressTest
-write-begins n m p (Located.Good spot) s k h e =
+write-begins n m p (Located.Good spot) s k b h e =
     unfold askSector addressTest in
     ask-lies (spot .index) p n First (courseIn (m .state)) (spot .index) (m .state) (m .buffer) (m .store) (m .marks) []
-    (unfold replaced cleared in record { k = 0; size = refl; stored = λ j d. simp zero-add (ap (replaced (spot .index) j d) s); marked = λ j. simp zero-add (ap (cleared (spot .index) j) k) })
+    (unfold replaced cleared in record {
+      k = 0;
+      size = refl;
+      stored = λ j d. simp zero-add (ap (replaced (spot .index) j d) s);
+      marked = λ j. simp zero-add (ap (cleared (spot .index) j) k);
+      counted = λ j. simp zero-add (ap (λ (n : ℕ). n - badFrom (spot .index) j (p .marks)) b ∙ ap (λ (l : List ℕ). m .state .bad - badFrom (spot .index) j l) k);
+    })
     (e ∙ (rw (lt-ltb (spot .index) (courseIn (m .state) .room) (seat-room (m .state) (spot .index) h e))))
-write-begins n m p Located.BadHeadOrSector s k h e = rw e tt
-write-begins n m p Located.BadCylinder s k h e = rw e tt
-write-begins n m p Located.BadLba s k h e = rw e tt
+write-begins n m p Located.BadHeadOrSector s k b h e = rw e tt
+write-begins n m p Located.BadCylinder s k b h e = rw e tt
+write-begins n m p Located.BadLba s k b h e = rw e tt
 
 count-is : (c : ℕ) → c < 256 → (m : Machine) → m .state .registers .count ≡ c → (P : ℕ → Type 0) → ((n : ℕ) → P (suc n)) → P (countOf (m .state))
 unfolding countOf asked
@@ -76,7 +82,7 @@ begins-lies Read m h = read-lies (starts (plainOf m)) _ (obeyed Read (started (m
 begins-lies Write m h =
     let x = idleWith (started (m .state)) m in
     count-is _ (h .1 .0) x refl (λ (n : ℕ). Lies (targetAt (first (plainOf m))) (starts (plainOf m)) (withCore (askSector n First (x .state)) x) [])
-    (λ n. rw (first-is x (h .0 .0)) (write-begins n x (starts (plainOf m)) (locatedIn (x .state)) refl refl (h .0 .0) refl))
+    (λ n. rw (first-is x (h .0 .0)) (write-begins n x (starts (plainOf m)) (locatedIn (x .state)) refl refl refl (h .0 .0) refl))
 begins-lies Verify m h = read-lies (starts (plainOf m)) _ (obeyed Verify (started (m .state)) m) noNotes (begins Verify m h)
 begins-lies Erase m h = rw (erase-idle (countOf (started (m .state))) (started (m .state)) (m .store) (m .marks)) tt
 begins-lies Identify m h = tt

@@ -13,7 +13,9 @@ use Rattle.registers.specs.declared.Transfer.{Transfer}
 use Rattle.registers.specs.declared.Phase.{Phase}
 use Rattle.registers.specs.declared.Phase.the-variants.{Idle, DataIn, DataOut}
 use Rattle.registers.specs.declared.State.{State}
+use Rattle.sectors.specs.Sectors.{StoreMarks}
 use Rattle.registers.specs.State.{runs}
+use Rattle.kept.specs.Lent.{storeMarksIn}
 use Rattle.registers.specs.Machine.{Machine, withBuffer}
 use Rattle.port.specs.declared.Part.{Part}
 use Rattle.port.specs.Halves.{takeOf, halved}
@@ -35,24 +37,24 @@ use Rattle.hosts.proofs.Written.{Target, Nowhere, From, LoadLies, LiesA
 use Rattle.hosts.proofs.WrittenWord.{word-lies}
 
 -- reading moves nothing to the store
-pub in-lies : (g : Target) (f : Phase) (p : Plain) (m : Machine) (q : Waiting) (l : List ℕ) → Waits In f (plainOf m) q → LiesAt g f p (here (m .state)) (m .buffer) (m .store) (m .marks) l
+pub in-lies : (g : Target) (f : Phase) (p : Plain) (m : Machine) (q : Waiting) (l : List ℕ) → Waits In f (plainOf m) q → LiesAt g f p (here (m .state)) (m .buffer) (storeMarksIn m) l
 in-lies g Idle p m q l h = tt
 in-lies g (DataIn t) p m q l h = tt
 in-lies g (DataOut t) p m q l h = absurd h
 
 module _ (g : Target) (p : Plain) where
   -- a half word that stands in the buffer changes nothing
-  same-front : (a : Load) (h w : ℕ) (b o store marks l : List ℕ) → take (2 * w) b ≡ take (2 * w) o → LoadLies g a p h w o store marks l → LoadLies g a p h w b store marks l
-  same-front a h w b o store marks l e z = go g a z
+  same-front : (a : Load) (h w : ℕ) (b o : List ℕ) (q : StoreMarks) (l : List ℕ) → take (2 * w) b ≡ take (2 * w) o → LoadLies g a p h w o q l → LoadLies g a p h w b q l
+  same-front a h w b o q l e z = go g a z
     where
-      go : (x : Target) (y : Load) → LoadLies x y p h w o store marks l → LoadLies x y p h w b store marks l
+      go : (x : Target) (y : Load) → LoadLies x y p h w o q l → LoadLies x y p h w b q l
       go Nowhere Buffer u = tt
       go Nowhere (Sectors n) u = absurd u
       go (From i) Buffer u = absurd u
-      go (From i) (Sectors n) u = record { k = u .k; size = u .size; stored = λ j d. rw e (u .stored j d); marked = u .marked }
+      go (From i) (Sectors n) u = record { k = u .k; size = u .size; stored = λ j d. rw e (u .stored j d); marked = u .marked; counted = u .counted }
 
   module _ (t : Transfer) (m : Machine) (l : List ℕ) (w : Waiting) (o : Ground Out m) (r : Running Out t (plainOf m) w)
-      (z : LoadLies g (t .load) p (here (m .state)) (t .words) (m .buffer) (m .store) (m .marks) l) where
+      (z : LoadLies g (t .load) p (here (m .state)) (t .words) (m .buffer) (storeMarksIn m) l) where
     inside : 2 * t .words + 1 < length (m .buffer)
     inside = let x = r .0 in let y = r .1 in omega arith
 
@@ -62,10 +64,10 @@ module _ (g : Target) (p : Plain) where
     whole-written b x y e q = word-lies _ g p t m b l x y refl (r .0) e q o (r .4) z
 
     low-written : (v : ℕ) → Lies g p (withPhase (DataOut (halved Part.Low t)) (withBuffer (set (m .buffer) (2 * t .words) v) m)) l
-    low-written v = same-front (t .load) (here (m .state)) (t .words) _ (m .buffer) (m .store) (m .marks) l (low-kept (m .buffer) (t .words) inside v) z
+    low-written v = same-front (t .load) (here (m .state)) (t .words) _ (m .buffer) (storeMarksIn m) l (low-kept (m .buffer) (t .words) inside v) z
 
     high-written : (v : ℕ) → Lies g p (withPhase (DataOut (halved Part.High t)) (withBuffer (set (m .buffer) (2 * t .words + 1) v) m)) l
-    high-written v = same-front (t .load) (here (m .state)) (t .words) _ (m .buffer) (m .store) (m .marks) l (high-kept (m .buffer) (t .words) inside v) z
+    high-written v = same-front (t .load) (here (m .state)) (t .words) _ (m .buffer) (storeMarksIn m) l (high-kept (m .buffer) (t .words) inside v) z
 
     high-last : (x v : ℕ) → x ≡ getD (m .buffer) (2 * t .words) 0 → Lies g p (wordWritten t (withBuffer (set (m .buffer) (2 * t .words + 1) v) m)) (l ++ (x ∷ v ∷ []))
     high-last x v e = whole-written (set (m .buffer) (2 * t .words + 1) v) x v (length-set (m .buffer) (2 * t .words + 1) v ∙ r .1) (rw e (set-high (m .buffer) (t .words) inside v))
@@ -80,7 +82,7 @@ module _ (g : Target) (p : Plain) where
         (set-whole (m .buffer) (t .words) inside x y)
 
   taken-lies : (h : Half) (w : Waiting) (port : Port) (v : ℕ) (t : Transfer) (m : Machine) (l : List ℕ) → Pending h w (t .words) (m .buffer) → Ground Out m → Running Out t (plainOf m) w →
-      LoadLies g (t .load) p (here (m .state)) (t .words) (m .buffer) (m .store) (m .marks) l → Lies g p m l →
+      LoadLies g (t .load) p (here (m .state)) (t .words) (m .buffer) (storeMarksIn m) l → Lies g p m l →
       Lies g p (takenWritten (takeOf h port) v t m .next) (noteWritten (takenWritten (takeOf h port) v t m .outcome) port v (notes l w) .done)
   unfolding takeOf
   taken-lies Half.Nothing None Port.Even v t m l e o r z y = low-written t m l None o r z (v % 256)
@@ -100,7 +102,7 @@ module _ (g : Target) (p : Plain) where
   taken-lies Half.High (HighByte b) Port.Word v t m l e o r z y = y
 
   write-out : (f : Phase) (port : Port) (v : ℕ) (m : Machine) (q : Notes) → runs f ≡ true → Waits Out f (plainOf m) (q .waiting) → Ground Out m →
-      LiesAt g f p (here (m .state)) (m .buffer) (m .store) (m .marks) (q .done) → Lies g p m (q .done) →
+      LiesAt g f p (here (m .state)) (m .buffer) (storeMarksIn m) (q .done) → Lies g p m (q .done) →
       Lies g p (phaseWritten f port v m .next) (noteWritten (phaseWritten f port v m .outcome) port v q .done)
   write-out Idle port v m q e h o z y = absurd (false≢true e)
   write-out (DataIn t) port v m q e h o z y = absurd h

@@ -15,12 +15,14 @@ use Rattle.registers.specs.declared.Phase.the-variants.{Idle, DataIn, DataOut}
 use Rattle.registers.specs.State.{runs}
 use Rattle.registers.specs.Machine.{Machine}
 use Rattle.transfers.specs.declared.Way.the-variants.{In, Out}
+use Rattle.sectors.specs.Sectors.{storeMarks}
 use Rattle.kept.specs.Lent.{storeMarksIn}
 use Rattle.account.specs.Plain.{Plain, withBuffer, withStore, starts, Finish, Well, NotFound, Unreadable, WriteFault, Aborted, Account, silent, moving}
 use Rattle.account.specs.Addressed.{Addressed, At, Bad}
 use Rattle.account.specs.CommandRows.{CommandRow, Reads, Writes, Verifies, Erases, Identifies, ReadsBuffer, WritesBuffer, SetsGeometry, Diagnoses, Recalibrates, Seeks, Senses, Others}
 use Rattle.account.specs.Course.{Course, courseOf}
-use Rattle.account.specs.Sweeps.{Sweep, writeSweep, writeSectors, writeDone, firstSectors, lastSectors, movedBy, replaced, cleared}
+use Rattle.account.specs.Sweeps.{Sweep, writeSweep, writeSectors, writeDone, firstSectors, lastSectors, movedBy, replaced, cleared, badLeft}
+use Rattle.account.proofs.Stored.{bad-none}
 use Rattle.account.specs.Table.{asked, first, fromFirst, account}
 use Rattle.account.specs.Host.{plainOf, asks}
 use Rattle.account.specs.Notes.{Waiting, Notes, wayOf}
@@ -60,7 +62,7 @@ module _ (c : Course) (i : ℕ) (r : Sweep) (p : Plain) (m : Machine) (l : List 
       let z = length-append l d in
       let k : min (wholeOf (l ++ d)) (r .done) ≡ r .done = min-eq-right (omega arith) in
       sym (ap (λ (u : Account). storeMarksOf (u .left)) (a d))
-      ∙ sweep-left-alone c r (withBuffer (lastSectors K (l ++ d) (p .buffer)) (withStore (replaced i (r .done) (l ++ d) (p .store)) (cleared i (r .done) (p .marks)) p))
+      ∙ sweep-left-alone c r (withBuffer (lastSectors K (l ++ d) (p .buffer)) (withStore (replaced i (r .done) (l ++ d) (p .store)) (cleared i (r .done) (p .marks)) (badLeft i (r .done) p) p))
       ∙ ap (λ (n : ℕ). storedFrom i n p (l ++ d)) (sym k)
 
   -- in mid-transfer
@@ -77,21 +79,24 @@ module _ (c : Course) (i : ℕ) (r : Sweep) (p : Plain) (m : Machine) (l : List 
       let w : length (take n d) ≡ n = length-take-le n d (omega arith) in
       omega arith
 
-  a-sector : (a : Load) (w : ℕ) → LoadLies (From i) a p (here (m .state)) w (m .buffer) (m .store) (m .marks) l → Written i p (here (m .state)) w (m .buffer) (m .store) (m .marks) l
+  a-sector : (a : Load) (w : ℕ) → LoadLies (From i) a p (here (m .state)) w (m .buffer) (storeMarksIn m) l → Written i p (here (m .state)) w (m .buffer) (storeMarksIn m) l
   a-sector Buffer w z = absurd z
   a-sector (Sectors n) w z = z
 
-  stored-whole : (h w : ℕ) (z : Written i p h w (m .buffer) (m .store) (m .marks) l) → storedFrom i (z .k) p l ≡ storeMarksIn m
+  stored-whole : (h w : ℕ) (z : Written i p h w (m .buffer) (storeMarksIn m) l) → storedFrom i (z .k) p l ≡ storeMarksIn m
   unfolding replaced cleared
   stored-whole h w z =
       let n : z .k ≡ z .k + 0 = omega arith in
       let u : replaced i (z .k) l (p .store) ≡ m .store =
       ap (λ (k : ℕ). replaced i k l (p .store)) n ∙ ap (λ (x : List ℕ). replaced i (z .k + 0) x (p .store)) (sym (append-nil l)) ∙ z .stored 0 [] in
       let v : cleared i (z .k) (p .marks) ≡ m .marks = ap (λ (k : ℕ). cleared i k (p .marks)) n ∙ z .marked 0 in
-      ap (λ (x : List ℕ). record { store = x; marks = cleared i (z .k) (p .marks) }) u ∙ ap (λ (x : List ℕ). record { store = m .store; marks = x }) v
+      let b : badLeft i (z .k) p ≡ m .state .bad = ap (λ (k : ℕ). badLeft i k p) n ∙ z .counted 0 ∙ bad-none (m .state .bad) h (m .marks) in
+      ap (λ (x : List ℕ). storeMarks x (cleared i (z .k) (p .marks)) (badLeft i (z .k) p)) u
+      ∙ ap (λ (x : List ℕ). storeMarks (m .store) x (badLeft i (z .k) p)) v
+      ∙ ap (storeMarks (m .store) (m .marks)) b
 
   running : (t : Transfer) (w : Waiting) → Running Out t (plainOf m) w → ((d : List ℕ) → writeDone c i r p (l ++ d) ≡ moving l (restAt (DataOut t) (plainOf m) d)) →
-      LoadLies (From i) (t .load) p (here (m .state)) (t .words) (m .buffer) (m .store) (m .marks) l → storeMarksIn m ≡ storedFrom i (min (wholeOf l) (r .done)) p l
+      LoadLies (From i) (t .load) p (here (m .state)) (t .words) (m .buffer) (storeMarksIn m) l → storeMarksIn m ≡ storedFrom i (min (wholeOf l) (r .done)) p l
   running t w h a q =
       let z = a-sector (t .load) (t .words) q in
       let s = z .size in
@@ -103,7 +108,7 @@ module _ (c : Course) (i : ℕ) (r : Sweep) (p : Plain) (m : Machine) (l : List 
       sym (stored-whole (here (m .state)) (t .words) z) ∙ ap (λ (n : ℕ). storedFrom i n p l) (sym k)
 
   write-moment : (f : Phase) (w : Waiting) → Waits Out f (plainOf m) w → ((d : List ℕ) → writeDone c i r p (l ++ d) ≡ moving l (restAt f (plainOf m) d)) →
-      LiesAt (From i) f p (here (m .state)) (m .buffer) (m .store) (m .marks) l → (d : List ℕ) → (runs f ≡ true → d ≡ []) →
+      LiesAt (From i) f p (here (m .state)) (m .buffer) (storeMarksIn m) l → (d : List ℕ) → (runs f ≡ true → d ≡ []) →
       storeMarksIn m ≡ storedFrom i (min (wholeOf (l ++ d)) (r .done)) p (l ++ d)
   write-moment Idle w h a z d n = ended a d
   write-moment (DataIn t) w h a z d n = absurd h

@@ -1,5 +1,5 @@
 -- A word that is written keeps this, the last one of a sector too.
-use Prim.Native.Nat.{ℕ, zero, suc, _+_, _*_, _<_}
+use Prim.Native.Nat.{ℕ, zero, suc, _+_, _-_, _*_, _<_}
 use mathlib.Core.Bool.{Bool, true, false}
 use mathlib.Core.Path.{_≡_, refl, sym, subst}
 use mathlib.Core.List.{List, [], _∷_, _++_}
@@ -18,7 +18,7 @@ use Rattle.registers.specs.declared.Load.the-variants.{Sectors, Buffer}
 use Rattle.registers.specs.declared.Transfer.{Transfer}
 use Rattle.registers.specs.declared.Phase.the-variants.{DataOut}
 use Rattle.registers.specs.declared.State.{State}
-use Rattle.registers.specs.State.{locatedIn}
+use Rattle.registers.specs.State.{withBad, locatedIn}
 use Rattle.registers.specs.Machine.{Machine, machine, withBuffer}
 use Rattle.transfers.specs.declared.Order.{Order}
 use Rattle.transfers.specs.declared.Order.the-variants.{Later}
@@ -31,7 +31,9 @@ use Rattle.port.specs.Halves.{nextWord}
 use Rattle.port.specs.Data.{withPhase}
 use Rattle.account.specs.Plain.{Plain}
 use Rattle.account.specs.Course.{Course}
-use Rattle.account.specs.Sweeps.{putSector}
+use Rattle.sectors.specs.Sectors.{StoreMarks, storeMarks}
+use Rattle.kept.specs.Lent.{storeMarksIn}
+use Rattle.account.specs.Sweeps.{putSector, badAt}
 use Rattle.account.specs.Host.{plainOf}
 use Rattle.account.proofs.Seats.{Shaped, Where, pastEnd, courseIn, onward, done-on, seat-next}
 use Rattle.account.proofs.Stored.{stored-is}
@@ -44,21 +46,21 @@ module _ (i : ℕ) (p : Plain) where
   past-lies true n order s b t k q = tt
   past-lies false n order s b t k q = tt
 
-  ask-by : (v : Bool) (n : ℕ) (order : Order) (c : Course) (h : ℕ) (s : State) (b t k q : List ℕ) → Written i p h 0 b t k q →
+  ask-by : (v : Bool) (n : ℕ) (order : Order) (c : Course) (h : ℕ) (s : State) (b t k q : List ℕ) → Written i p h 0 b (storeMarks t k (s .bad)) q →
       locatedIn s ≡ pick v (goodAt h) (pastEnd c) →
       Lies (From i) p (machine (askTested (testedOf (pick v (goodAt h) (pastEnd c))) (suc n) order s) b t k) q
-  ask-by true n order c h s b t k q z e = subst (λ (x : Located). Written i p (indexOf x) 0 b t k q) (sym e) z
+  ask-by true n order c h s b t k q z e = subst (λ (x : Located). Written i p (indexOf x) 0 b (storeMarks t k (s .bad)) q) (sym e) z
   ask-by false n order c h s b t k q z e = past-lies (c .lba) (suc n) order s b t k q
 
   -- a sector is asked for
-  pub ask-lies : (n : ℕ) (order : Order) (c : Course) (h : ℕ) (s : State) (b t k q : List ℕ) → Written i p h 0 b t k q → Where c h s →
+  pub ask-lies : (n : ℕ) (order : Order) (c : Course) (h : ℕ) (s : State) (b t k q : List ℕ) → Written i p h 0 b (storeMarks t k (s .bad)) q → Where c h s →
       Lies (From i) p (machine (askSector (suc n) order s) b t k) q
   unfolding askSector addressTest
   ask-lies n order c h s b t k q z w =
       subst (λ (l : Located). Lies (From i) p (machine (askTested (testedOf l) (suc n) order s) b t k) q) (sym w) (ask-by (ltb h (c .room)) n order c h s b t k q z w)
 
   asked-lies : (n : ℕ) (c : Course) (h : ℕ) (s : State) (b t k q : List ℕ) → Shaped (s .made) (s .current) → courseIn s ≡ c → locatedIn s ≡ goodAt h →
-      Written i p (h + 1) 0 b t k q → Lies (From i) p (machine (nextAsked n s) b t k) q
+      Written i p (h + 1) 0 b (storeMarks t k (s .bad)) q → Lies (From i) p (machine (nextAsked n s) b t k) q
   unfolding nextAsked
   asked-lies zero c h s b t k q g x e z = tt
   asked-lies (suc n) c h s b t k q g x e z =
@@ -66,17 +68,17 @@ module _ (i : ℕ) (p : Plain) where
       rw (done-on n s, ne-eqb (suc n) 0 (omega arith)) (ask-lies n Later c (h + 1) (onward (suc n) s) b t k q z (y .1))
 
   marked-lies : (u : Bool) (n h : ℕ) (m : Machine) (l : List ℕ) → h < totalOf (m .state .made .default) → length (m .buffer) ≡ 512 → Ground Out m →
-      locatedIn (m .state) ≡ goodAt h → Written i p h 256 (m .buffer) (m .store) (m .marks) l →
-      Lies (From i) p (writtenBy (storedBy (pick u (Passes (spotAt h)) (Fails End.WriteFault)) (m .buffer) (m .store) (m .marks)) n m) l
+      locatedIn (m .state) ≡ goodAt h → Written i p h 256 (m .buffer) (storeMarksIn m) l →
+      Lies (From i) p (writtenBy (storedBy (pick u (Passes (spotAt h)) (Fails End.WriteFault)) (m .buffer) (storeMarksIn m)) n m) l
   marked-lies true n h m l x f g e z =
-      rw (stored-is (totalOf (m .state .made .default)) h (m .store) (m .marks) (m .buffer) x (g .1))
-      (asked-lies n (courseIn (m .state)) h (m .state) (m .buffer) (putSector h (m .buffer) (m .store)) (set (m .marks) h 0) l (g .0) refl e
-      (sector-more i p h (m .buffer) (m .store) (m .marks) l f z))
+      rw (stored-is (totalOf (m .state .made .default)) h (m .state .bad) (m .store) (m .marks) (m .buffer) x (g .1))
+      (asked-lies n (courseIn (m .state)) h (withBad (m .state .bad - badAt h (m .marks)) (m .state)) (m .buffer) (putSector h (m .buffer) (m .store)) (set (m .marks) h 0) l (g .0) refl e
+      (sector-more i p h (m .buffer) (storeMarksIn m) l f z))
   marked-lies false n h m l x f g e z = tt
 
 -- the last byte of a sector or of the buffer has come
 load-lies : (g : Target) (p : Plain) (a : Load) (m : Machine) (l : List ℕ) → length (m .buffer) ≡ 512 → Ground Out m → Loaded a (bare (plainOf m)) →
-    LoadLies g a p (here (m .state)) 256 (m .buffer) (m .store) (m .marks) l → Lies g p (loadWritten a m) l
+    LoadLies g a p (here (m .state)) 256 (m .buffer) (storeMarksIn m) l → Lies g p (loadWritten a m) l
 unfolding sectorStored
 load-lies Nowhere p Buffer m l f g k z = tt
 load-lies Nowhere p (Sectors n) m l f g k z = absurd z
@@ -86,21 +88,21 @@ load-lies (From i) p (Sectors (suc n)) m l f g k z =
     rw (sector-test (here (m .state)) (m .state) (m .marks) (k .0), sub-one (suc n))
     (marked-lies i p (writable (getD (m .marks) (here (m .state)) 0)) n (here (m .state)) m l (here-inside (m .state) (g .0) (k .0)) f g (k .0) z)
 
-load-more : (g : Target) (p : Plain) (a : Load) (h w : ℕ) (b o store marks l : List ℕ) (x y : ℕ) → take (2 * (w + 1)) b ≡ take (2 * w) o ++ (x ∷ y ∷ []) →
-    LoadLies g a p h w o store marks l → LoadLies g a p h (w + 1) b store marks (l ++ (x ∷ y ∷ []))
-load-more Nowhere p Buffer h w b o store marks l x y e z = tt
-load-more Nowhere p (Sectors n) h w b o store marks l x y e z = absurd z
-load-more (From i) p Buffer h w b o store marks l x y e z = absurd z
-load-more (From i) p (Sectors n) h w b o store marks l x y e z = word-more i p h w b o store marks l x y e z
+load-more : (g : Target) (p : Plain) (a : Load) (h w : ℕ) (b o : List ℕ) (q : StoreMarks) (l : List ℕ) (x y : ℕ) → take (2 * (w + 1)) b ≡ take (2 * w) o ++ (x ∷ y ∷ []) →
+    LoadLies g a p h w o q l → LoadLies g a p h (w + 1) b q (l ++ (x ∷ y ∷ []))
+load-more Nowhere p Buffer h w b o q l x y e z = tt
+load-more Nowhere p (Sectors n) h w b o q l x y e z = absurd z
+load-more (From i) p Buffer h w b o q l x y e z = absurd z
+load-more (From i) p (Sectors n) h w b o q l x y e z = word-more i p h w b o q l x y e z
 
 -- a word has come
 pub word-lies : (v : Bool) (g : Target) (p : Plain) (t : Transfer) (m : Machine) (b l : List ℕ) (x y : ℕ) → ltb (t .words) 255 ≡ v → t .words < 256 → length b ≡ 512 →
     take (2 * (t .words + 1)) b ≡ take (2 * t .words) (m .buffer) ++ (x ∷ y ∷ []) → Ground Out m → Loaded (t .load) (bare (plainOf m)) →
-    LoadLies g (t .load) p (here (m .state)) (t .words) (m .buffer) (m .store) (m .marks) l →
+    LoadLies g (t .load) p (here (m .state)) (t .words) (m .buffer) (storeMarksIn m) l →
     Lies g p (pick v (withPhase (DataOut (nextWord t)) (withBuffer b m)) (loadWritten (t .load) (allMoved (withBuffer b m)))) (l ++ (x ∷ y ∷ []))
-word-lies true g p t m b l x y e w f o u k z = load-more g p (t .load) (here (m .state)) (t .words) b (m .buffer) (m .store) (m .marks) l x y o z
+word-lies true g p t m b l x y e w f o u k z = load-more g p (t .load) (here (m .state)) (t .words) b (m .buffer) (storeMarksIn m) l x y o z
 word-lies false g p t m b l x y e w f o u k z =
     let q : t .words + 1 ≡ 256 = omega (arith, ltb-false) in
     load-lies g p (t .load) (allMoved (withBuffer b m)) (l ++ (x ∷ y ∷ [])) f u k
-    (subst (λ (n : ℕ). LoadLies g (t .load) p (here (m .state)) n b (m .store) (m .marks) (l ++ (x ∷ y ∷ []))) q
-    (load-more g p (t .load) (here (m .state)) (t .words) b (m .buffer) (m .store) (m .marks) l x y o z))
+    (subst (λ (n : ℕ). LoadLies g (t .load) p (here (m .state)) n b (storeMarksIn m) (l ++ (x ∷ y ∷ []))) q
+    (load-more g p (t .load) (here (m .state)) (t .words) b (m .buffer) (storeMarksIn m) l x y o z))

@@ -1,4 +1,5 @@
--- The store and the marks at any moment of a command, by the data that has moved: what a card keeps that is pulled there.
+-- The store and the marks at any moment of a command, by the data that has moved: what a card keeps that is pulled there; and the number of marks that
+-- are not 0, as the card keeps it.
 use Prim.Native.Nat.{ℕ, min, _+_, _*_, _/_, _<_}
 use mathlib.Core.Bool.{true}
 use mathlib.Core.List.{List, [], _∷_}
@@ -13,7 +14,7 @@ use Rattle.account.specs.Plain.{Plain, bytesPerSector}
 use Rattle.account.specs.Addressed.{Addressed, At, Bad}
 use Rattle.account.specs.CommandRows.{CommandRow, Reads, Writes, Verifies, Erases, Identifies, ReadsBuffer, WritesBuffer, SetsGeometry, Diagnoses, Recalibrates, Seeks, Senses, Others}
 use Rattle.account.specs.Course.{courseOf}
-use Rattle.account.specs.Sweeps.{writeSweep, replaced, cleared}
+use Rattle.account.specs.Sweeps.{writeSweep, replaced, cleared, badLeft}
 use Rattle.account.specs.Table.{asked, first, account}
 use Rattle.account.specs.Host.{calm, meanings}
 use Rattle.account.specs.Follows.{SameOutside}
@@ -27,7 +28,7 @@ abbrev pub Calm : Machine → List Asked → Type 0
 Calm m l = CalmBy m (meanings m l)
 
 abbrev pub storeMarksOf : Plain → StoreMarks
-storeMarksOf p = record { store = p .store; marks = p .marks }
+storeMarksOf p = record { store = p .store; marks = p .marks; bad = p .bad }
 
 -- "a sector is stored, and its mark set to 0, at its last byte only": as many as have moved whole, but none from the one on where the sweep stops
 abbrev pub wholeOf : List ℕ → ℕ
@@ -39,7 +40,7 @@ storedOf i p moved = min (wholeOf moved) (writeSweep (courseOf p) (p .marks) i (
 
 -- k sectors from index i, in the order of the sweep, each with the host's bytes for it
 abbrev pub storedFrom : ℕ → ℕ → Plain → List ℕ → StoreMarks
-storedFrom i k p moved = record { store = replaced i k moved (p .store); marks = cleared i k (p .marks) }
+storedFrom i k p moved = record { store = replaced i k moved (p .store); marks = cleared i k (p .marks); bad = badLeft i k p }
 
 unfoldable pub writtenSoFar : Addressed → Plain → List ℕ → StoreMarks
 writtenSoFar (At i) p moved = storedFrom i (storedOf i p moved) p moved
@@ -61,9 +62,11 @@ soFar Seeks p moved = storeMarksOf p
 soFar Senses p moved = storeMarksOf p
 soFar Others p moved = storeMarksOf p
 
--- the k sectors from index i hold the first 512 * k bytes that moved, in order, and have mark 0; every other byte and mark is as it was
+-- the k sectors from index i hold the first 512 * k bytes that moved, in order, and have mark 0; every other byte and mark is as it was; the number of
+-- marks that are not 0 is down by those of these sectors
 pub record FirstStored (i k : ℕ) (p : Plain) (moved : List ℕ) (x : StoreMarks) : Type 0 where
   pub stored : (n : ℕ) → n < bytesPerSector * k → getD (x .store) (bytesPerSector * i + n) 0 ≡ getD moved n 0
   pub marked : (j : ℕ) → j < k → getD (x .marks) (i + j) 0 ≡ 0
   pub others : SameOutside (bytesPerSector * i) (bytesPerSector * (i + k)) (p .store) (x .store)
   pub otherMarks : SameOutside i (i + k) (p .marks) (x .marks)
+  pub counted : x .bad ≡ badLeft i k p

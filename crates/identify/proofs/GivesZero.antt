@@ -72,7 +72,7 @@ follows l i b h =
     rw (new, high-at l, ← old)
     (both-zero (sumOf m) (sumOf (set m i b)) (getD m i 0) b _ _ (byte-changed m i b (rw (with-low l) (omega arith))) (lacking (sumOf (set m i b))) (lacking (sumOf m)))
 
--- ---- every Identify: any default and any current geometry
+-- ---- every Identify: any default and any current geometry, any number of marks that are not 0
 
 pub identify-gives-zero : (f : Facts) → sumOf (identifyBytes f) % 256 ≡ 0
 unfolding identifyBytes
@@ -89,11 +89,15 @@ identify-only f =
     subst (λ (n : ℕ). (b : ℕ) → b < 256 → sumOf (set (withIntegrity (toldBytes f)) (n + 1) b) % 256 ≡ 0 → b ≡ getD (withIntegrity (toldBytes f)) (n + 1) 0) (told-length f)
     (only-high (toldBytes f))
 
--- ---- an Identify by computing: C 4, H 2, S 4 at power-on
+-- ---- an Identify by computing: C 4, H 2, S 4 at power-on, with no mark that is not 0 and with three
 
-abbrev four-two-four : Geometry
-four-two-four = record { cylinders = 4; heads = 2; sectors = 4 }
+abbrev four-two-four : ℕ → Facts
+four-two-four bad = let g : Geometry = record { cylinders = 4; heads = 2; sectors = 4 } in record { default = g; current = g; bad = bad }
 
-pub at-power-on : let b = identifyBytes (record { default = four-two-four; current = four-two-four }) in (getD b 511 0 ≡ 0x56) × (getD b 510 0 ≡ 0xA5)
+pub at-power-on : let b = identifyBytes (four-two-four 0) in (getD b 511 0 ≡ 0x56) × (getD b 510 0 ≡ 0xA5)
 unfolding listed totalOf fits every identifyWord identifyByte toldBytes identifyBytes sumOf integrityHigh givingZero withIntegrity
 at-power-on = (refl, refl)
+
+pub with-three : let b = identifyBytes (four-two-four 3) in (getD b 258 0 ≡ 3) × (getD b 259 0 ≡ 0) × (getD b 511 0 ≡ 0x53) × (getD b 510 0 ≡ 0xA5)
+unfolding listed totalOf fits every identifyWord identifyByte toldBytes identifyBytes sumOf integrityHigh givingZero withIntegrity
+with-three = (refl, refl, refl, refl)

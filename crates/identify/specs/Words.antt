@@ -17,7 +17,7 @@ abbrev pub highHalf : ℕ → ℕ
 highHalf n = n / 65536 % 65536
 
 -- "word 0 848AH; 1, 3, 6 default C, H, S; 7 high and 8 low half of N; 10..19, 23..26, 27..46 are 2020H; 49 is 0200H; 53 is 1; 54..56 current C, H, S;
--- 57 low and 58 high half of current C·H·S; 60 low, 61 high of N"
+-- 57 low and 58 high half of current C·H·S; 60 low, 61 high of N"; 02, "Eight": the number of marks that are not 0 "is shown in Identify word 129"
 abbrev pub wordTable : Facts → List (Numbered ℕ)
 wordTable f =
     At 0 0x848A
@@ -38,14 +38,18 @@ wordTable f =
     ∷ At 58 (highHalf (capacityOf (f .current)))
     ∷ At 60 (lowHalf (totalOf (f .default)))
     ∷ At 61 (highHalf (totalOf (f .default)))
+    ∷ At 129 (f .bad)
     ∷ []
 
--- the table from word 10 on, and from word 49 on, as the code looks it up
+-- the table from word 10 on, from word 49 on and from word 129 on, as the code looks it up
 abbrev pub fromWord10 : Facts → List (Numbered ℕ)
 fromWord10 f = drop 6 (wordTable f)
 
 abbrev pub fromWord49 : Facts → List (Numbered ℕ)
 fromWord49 f = drop 9 (wordTable f)
+
+abbrev pub fromWord129 : Facts → List (Numbered ℕ)
+fromWord129 f = drop 18 (wordTable f)
 
 -- words 0 to 254: "the rest 0"
 unfoldable pub identifyWord : Facts → ℕ → ℕ

@@ -1,11 +1,11 @@
-// Identify: 256 words, from the default and the current geometry; the last of them is the integrity word.
+// Identify: 256 words, from the default and the current geometry and the number of marks that are not 0; the last of them is the integrity word.
 use geometry::Geometry;
 use ground::Sector;
 ghost use mathlib.Core.Path.{_≡_};
 ghost use Rattle.ground.specs.Choice.{within};
 ghost use Rattle.ground.specs.Tables.{lookup};
 ghost use Rattle.geometry.specs.Limits.{totalOf, capacityOf};
-ghost use Rattle.identify.specs.Words.{lowHalf, highHalf, fromWord10, fromWord49, identifyWord, identifyByte, identifyBytes};
+ghost use Rattle.identify.specs.Words.{lowHalf, highHalf, fromWord10, fromWord49, fromWord129, identifyWord, identifyByte, identifyBytes};
 
 mod integrity;
 
@@ -16,6 +16,7 @@ const INTEGRITY_AT: usize = 510;
 pub struct Facts {
     pub default: Geometry,
     pub current: Geometry,
+    pub bad: u16, // the number of marks that are not 0
 }
 
 fn low_half(n: usize) -> u16
@@ -57,6 +58,16 @@ impl Facts {
         current.capacity()
     }
 
+    // The table's rows from word 129 on.
+    fn last_word(self, n: usize) -> u16
+        ensures { λ r. ⌜ r ≡ lookup (fromWord129 self) n 0 ⌝ }
+    {
+        if n == 129 {
+            return self.bad;
+        }
+        0
+    }
+
     // The table's rows from word 49 on.
     fn later_word(self, n: usize) -> u16
         ensures { λ r. ⌜ r ≡ lookup (fromWord49 self) n 0 ⌝ }
@@ -89,7 +100,7 @@ impl Facts {
         if n == 61 {
             return high_half(self.total());
         }
-        0
+        self.last_word(n)
     }
 
     // The table's rows from word 10 on.
@@ -114,7 +125,7 @@ impl Facts {
     {
         let default = self.default;
         if 61 < n {
-            return 0;
+            return self.last_word(n);
         }
         if n == 0 {
             return 0x848A;

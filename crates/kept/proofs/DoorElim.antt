@@ -13,7 +13,7 @@ use Rattle.answers.specs.declared.Refusal.{Refusal}
 use Rattle.answers.specs.declared.Refusal.the-variants.{GeometryOrMode, StoreLength, MarksLength, TupleBufferLength, MarkAboveTwo}
 use Rattle.geometry.specs.declared.Geometry.{Geometry}
 use Rattle.geometry.specs.Limits.{fits, totalOf}
-use Rattle.sectors.specs.Marks.{marksFit}
+use Rattle.sectors.specs.Marks.{marksFit, badIn}
 use Rattle.maps.specs.declared.Mode.{Mode}
 use Rattle.maps.specs.declared.Mode.the-variants.{PcCard, TrueIde}
 use Rattle.maps.specs.Spaces.{answersAt}
@@ -28,7 +28,7 @@ use Rattle.card.specs.Doors.{cardOf, answer, refusedBy, optionAnswered, control
 -- refusals 1, 2, 3, 5 and 4, then power-on
 pub opened-elim : (P : Answer → Type 0) (g : Geometry) (mode : ℕ) (store marks tuples : List ℕ) →
     P (openRefused GeometryOrMode) → P (openRefused StoreLength) → P (openRefused MarksLength) → P (openRefused TupleBufferLength) → P (openRefused MarkAboveTwo) →
-    (fits g ≡ true → length store ≡ 512 * totalOf g → length marks ≡ totalOf g → P (answer (Outcome.Accepted 0) (powered g (modeOf mode)))) →
+    (fits g ≡ true → length store ≡ 512 * totalOf g → length marks ≡ totalOf g → P (answer (Outcome.Accepted 0) (powered g (modeOf mode) (badIn marks)))) →
     P (opened g mode store marks tuples)
 unfolding opened
 opened-elim P g mode store marks tuples x y z u v a =

@@ -1,13 +1,15 @@
--- What is lent keeps its length: a sector read, a sector stored, a part of a word written.
+-- What is lent keeps its length: a sector read, a sector stored, a part of a word written; and the number of marks that are not 0 does not rise.
 use Prim.Native.Nat.{ℕ, _+_, _*_, _/_, _%_, _<_, _≤_}
 use mathlib.Core.Path.{_≡_, refl, _∙_}
 use mathlib.Core.List.{List, _++_}
 use native.Mathlib.Omega.{arith}
+use native.Mathlib.Nat.{le-refl}
 use lib.Dec.{ltb}
 use lib.ListN.{length, set, take, drop, length-set, length-append, length-drop}
 use lib.Seq.{length-take-le}
 use borrow.Author.Tests.{ltb-true}
 use Rattle.ground.proofs.Picks.{pick-elim}
+use Rattle.sectors.specs.Marks.{lowered}
 use Rattle.sectors.specs.Sectors.{sectorOf, withSector, bufferRead, StoreMarks, stored}
 use Rattle.registers.specs.Machine.{Machine}
 use Rattle.port.specs.declared.Part.{Part}
@@ -50,15 +52,23 @@ buffer-read store i b e =
     (λ h. sector-length store i (ltb-true _ _ h))
     (λ h. e)
 
-pub stored-lengths : (store marks : List ℕ) (i : ℕ) (bytes : List ℕ) → length bytes ≡ 512 →
-    (length (stored store marks i bytes .store) ≡ length store) × (length (stored store marks i bytes .marks) ≡ length marks)
+pub stored-lengths : (k : StoreMarks) (i : ℕ) (bytes : List ℕ) → length bytes ≡ 512 →
+    (length (stored k i bytes .store) ≡ length (k .store)) × (length (stored k i bytes .marks) ≡ length (k .marks))
 unfolding stored
-stored-lengths store marks i bytes e =
-    pick-elim (λ (k : StoreMarks). (length (k .store) ≡ length store) × (length (k .marks) ≡ length marks)) (ltb i (length store / 512)) _ _
-    (λ h. pick-elim (λ (k : StoreMarks). (length (k .store) ≡ length store) × (length (k .marks) ≡ length marks)) (ltb i (length marks)) _ _
-    (λ g. (replaced-length store i bytes e (ltb-true _ _ h), length-set marks i 0))
+stored-lengths k i bytes e =
+    pick-elim (λ (n : StoreMarks). (length (n .store) ≡ length (k .store)) × (length (n .marks) ≡ length (k .marks))) (ltb i (length (k .store) / 512)) _ _
+    (λ h. pick-elim (λ (n : StoreMarks). (length (n .store) ≡ length (k .store)) × (length (n .marks) ≡ length (k .marks))) (ltb i (length (k .marks))) _ _
+    (λ g. (replaced-length (k .store) i bytes e (ltb-true _ _ h), length-set (k .marks) i 0))
     (λ g. (refl, refl)))
     (λ h. (refl, refl))
+
+-- the number of marks that are not 0 does not rise
+pub stored-less : (k : StoreMarks) (i : ℕ) (bytes : List ℕ) → stored k i bytes .bad ≤ k .bad
+unfolding stored lowered
+stored-less k i bytes =
+    pick-elim (λ (n : StoreMarks). n .bad ≤ k .bad) (ltb i (length (k .store) / 512)) _ _
+    (λ h. pick-elim (λ (n : StoreMarks). n .bad ≤ k .bad) (ltb i (length (k .marks))) _ _ (λ g. omega arith) (λ g. le-refl (k .bad)))
+    (λ h. le-refl (k .bad))
 
 pub part-length : (part : Part) (words value : ℕ) (b : List ℕ) → length (withPart part words value b) ≡ length b
 part-length Low words value b = length-set b (lowAt words) (value % 256)

@@ -5,6 +5,7 @@ use mathlib.Core.Path.{_≡_, refl, sym, ap}
 use mathlib.Core.List.{List}
 use native.Mathlib.Omega.{arith}
 use lib.ListN.{length}
+use borrow.Author.Tests.{le-leb}
 use Rattle.answers.specs.declared.Outcome.{Outcome}
 use Rattle.answers.specs.declared.Refusal.{Refusal}
 use Rattle.answers.specs.declared.Refusal.the-variants.{NotWellMade}
@@ -14,8 +15,10 @@ use Rattle.ground.specs.Choice.{every}
 use Rattle.geometry.specs.Limits.{fits, totalOf}
 use Rattle.maps.specs.declared.Mode.{Mode}
 use Rattle.maps.specs.declared.Mode.the-variants.{PcCard, TrueIde}
+use Rattle.sectors.specs.Marks.{badIn}
+use Rattle.sectors.proofs.Counting.{bad-at-most}
 use Rattle.registers.specs.declared.Phase.the-variants.{Idle}
-use Rattle.registers.specs.WellMade.{wellMade, indexFits, sresetFits}
+use Rattle.registers.specs.WellMade.{wellMade, indexFits, sresetFits, badFits}
 use Rattle.registers.specs.declared.Made.{Made}
 use Rattle.registers.specs.PowerOn.{powerOn}
 use Rattle.port.specs.Data.{Effect}
@@ -40,12 +43,18 @@ index-0 : indexFits 0 ≡ true
 unfolding indexFits
 index-0 = refl
 
+-- no more marks are not 0 than there are
+bad-fits : (marks : List ℕ) (n : ℕ) → length marks ≡ n → badFits (badIn marks) n ≡ true
+unfolding badFits
+bad-fits marks n e = let l = bad-at-most marks in le-leb (badIn marks) n (omega arith)
+
 -- the card that the opening makes
-pub powered-sound : (g : Geometry) (mode : Mode) (store marks : List ℕ) → fits g ≡ true → length store ≡ 512 * totalOf g → length marks ≡ totalOf g → Sound (machineOf (powered g mode) store marks)
+pub powered-sound : (g : Geometry) (mode : Mode) (store marks : List ℕ) → fits g ≡ true → length store ≡ 512 * totalOf g → length marks ≡ totalOf g → Sound (machineOf (powered g mode (badIn marks)) store marks)
 powered-sound g mode store marks f s k =
     let d : Made = record { mode = mode; default = g } in
     record {
-      made = together d Idle (powerOn d 0) (power-stands d 0 f index-0 (mode-fits mode)) (at-rest (powerOn d 0) power-status);
+      made = together d Idle (powerOn d (badIn marks) 0) (power-stands d (badIn marks) 0 f index-0 (mode-fits mode) (bad-fits marks (totalOf g) k))
+          (at-rest (powerOn d (badIn marks) 0) power-status);
       store = s;
       marks = k;
       buffer = zeros-length;

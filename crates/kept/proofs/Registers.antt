@@ -15,7 +15,7 @@ use Rattle.registers.specs.declared.State.{State}
 use Rattle.registers.specs.declared.Core.{Core}
 use Rattle.registers.specs.State.{runs, withInterrupt, totalIn, locatedIn}
 use Rattle.registers.specs.Machine.{core}
-use Rattle.registers.specs.WellMade.{wellMade, indexFits, sresetFits, statusFits, inReset, holdFits, wordsFit, sectorsFit, loadFits, runFits}
+use Rattle.registers.specs.WellMade.{wellMade, indexFits, sresetFits, statusFits, inReset, holdFits, wordsFit, sectorsFit, loadFits, runFits, badFits}
 use Rattle.registers.specs.Values.{afterRead, registerSet}
 use Rattle.kept.specs.Sound.{CountFits}
 use Rattle.kept.proofs.RegisterElim.{read-elim, set-elim}
@@ -28,6 +28,7 @@ StateFits d s =
     × (currentFor (s .current) (totalIn s) ≡ true)
     × (indexFits (s .option) ≡ true)
     × (sresetFits (s .made .mode) (s .option) ≡ true)
+    × (badFits (s .bad) (totalIn s) ≡ true)
 
 -- the conditions on a phase
 abbrev pub PhaseFits : Phase → State → Type 0
@@ -43,11 +44,11 @@ CoreFits d k = StateFits d (k .state) × PhaseFits (k .phase) (k .state) × Coun
 
 pub apart : (p : Phase) (s : State) → wellMade p s ≡ true → StateFits (s .made) s × PhaseFits p s
 unfolding wellMade
-apart p s e = let t = each _ e in ((refl, t 0, t 1, t 2, t 3), (t 4, t 5, t 6, t 7))
+apart p s e = let t = each _ e in ((refl, t 0, t 1, t 2, t 3, t 8), (t 4, t 5, t 6, t 7))
 
 pub together : (d : Made) (p : Phase) (s : State) → StateFits d s → PhaseFits p s → wellMade p s ≡ true
 unfolding wellMade every
-together d p s f r = rw (f .1, f .2, f .3, f .4, r .0, r .1, r .2, r .3)
+together d p s f r = rw (f .1, f .2, f .3, f .4, r .0, r .1, r .2, r .3, f .5)
 
 -- what a running transfer is tested by: where its address points, and Sector Count
 pub load-same : (l : Load) (s t : State) → locatedIn t ≡ locatedIn s → t .registers .count ≡ s .registers .count → loadFits l s ≡ true → loadFits l t ≡ true

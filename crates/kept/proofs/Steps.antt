@@ -4,19 +4,21 @@ use mathlib.Core.Bool.{true}
 use mathlib.Core.Path.{_≡_, refl}
 use mathlib.Core.List.{List}
 use native.Mathlib.Omega.{arith}
+use native.Mathlib.Nat.{le-refl}
 use lib.Dec.{eqb}
 use lib.ListN.{length}
-use borrow.Author.Tests.{leb-true}
+use borrow.Author.Tests.{leb-true, le-leb}
 use Rattle.ground.proofs.Picks.{pick-elim}
 use Rattle.ground.proofs.Every.{each}
+use Rattle.sectors.specs.Sectors.{StoreMarks, storeMarks}
 use Rattle.registers.specs.declared.Load.{Load}
 use Rattle.registers.specs.declared.Load.the-variants.{Sectors, Buffer}
 use Rattle.registers.specs.declared.Made.{Made}
 use Rattle.registers.specs.declared.State.{State}
 use Rattle.registers.specs.declared.Core.{Core}
-use Rattle.registers.specs.State.{locatedIn}
+use Rattle.registers.specs.State.{withBad, totalIn, locatedIn}
 use Rattle.registers.specs.Machine.{Machine}
-use Rattle.registers.specs.WellMade.{sectorsFit, loadFits}
+use Rattle.registers.specs.WellMade.{inReset, sectorsFit, loadFits, badFits}
 use Rattle.transfers.specs.declared.End.{End}
 use Rattle.transfers.specs.declared.Tested.{Tested}
 use Rattle.transfers.specs.declared.Tested.the-variants.{Passes, Fails}
@@ -26,8 +28,8 @@ use Rattle.transfers.specs.declared.Order.the-variants.{Later}
 use Rattle.transfers.specs.Before.{addressTest, sectorTest, storedBy, sectorStored}
 use Rattle.transfers.specs.Steps.{idleWith, sectorDone, readTested, readSector, nextRead, loadRead, askTested, askSector, nextAsked, coreWritten, loadWritten}
 use Rattle.kept.proofs.Registers.{CoreFits}
-use Rattle.kept.proofs.Lent.{lent-same, buffer-read, stored-lengths}
-use Rattle.kept.proofs.Ends.{Ready, CountAgrees, Next, ended-left, reading-left, ready-left, asked-left, sectors-fit, address-elim, mark-elim, done-ready, done-agrees}
+use Rattle.kept.proofs.Lent.{lent-same, buffer-read, stored-lengths, stored-less}
+use Rattle.kept.proofs.Ends.{Fine, Ready, CountAgrees, Next, ended-left, reading-left, ready-left, asked-left, sectors-fit, address-elim, mark-elim, done-ready, done-agrees}
 
 -- ---- reading
 
@@ -76,19 +78,37 @@ written-left : (t : Tested) (left : ℕ) (d : Made) (s : State) → left ≤ 255
 written-left (Passes spot) left d s l r = on-asked left d s l r
 written-left (Fails e) left d s l r = ended-left e d s (r .0)
 
-stored-by : (t : Tested) (bytes store marks : List ℕ) → length bytes ≡ 512 →
-    (length (storedBy t bytes store marks .next .store) ≡ length store) × (length (storedBy t bytes store marks .next .marks) ≡ length marks)
-stored-by (Passes spot) bytes store marks b = stored-lengths store marks (spot .index) bytes b
-stored-by (Fails e) bytes store marks b = (refl, refl)
+stored-by : (t : Tested) (bytes : List ℕ) (k : StoreMarks) → length bytes ≡ 512 →
+    (length (storedBy t bytes k .next .store) ≡ length (k .store)) × (length (storedBy t bytes k .next .marks) ≡ length (k .marks))
+stored-by (Passes spot) bytes k b = stored-lengths k (spot .index) bytes b
+stored-by (Fails e) bytes k b = (refl, refl)
 
 pub sector-stored : (s : State) (bytes store marks : List ℕ) → length bytes ≡ 512 →
     (length (sectorStored s bytes store marks .next .store) ≡ length store) × (length (sectorStored s bytes store marks .next .marks) ≡ length marks)
 unfolding sectorStored
-sector-stored s bytes store marks b = stored-by (sectorTest Out s marks) bytes store marks b
+sector-stored s bytes store marks b = stored-by (sectorTest Out s marks) bytes (storeMarks store marks (s .bad)) b
+
+-- the number of marks that are not 0 does not rise, and so it still fits
+less-by : (t : Tested) (bytes : List ℕ) (k : StoreMarks) → storedBy t bytes k .next .bad ≤ k .bad
+less-by (Passes spot) bytes k = stored-less k (spot .index) bytes
+less-by (Fails e) bytes k = le-refl (k .bad)
+
+pub lower-fine : (d : Made) (s : State) (bytes store marks : List ℕ) → Fine d s → Fine d (withBad (sectorStored s bytes store marks .next .bad) s)
+unfolding sectorStored badFits
+lower-fine d s bytes store marks f =
+    let l = less-by (sectorTest Out s marks) bytes (storeMarks store marks (s .bad)) in
+    let h = leb-true (s .bad) (totalIn s) (f .0 .5) in
+    let b = sectorStored s bytes store marks .next .bad in
+    ((f .0 .0, f .0 .1, f .0 .2, f .0 .3, f .0 .4, le-leb b (totalIn s) (omega arith)), f .1)
+
+lower-ready : (d : Made) (s : State) (bytes store marks : List ℕ) → Ready d s → Ready d (withBad (sectorStored s bytes store marks .next .bad) s)
+unfolding inReset
+lower-ready d s bytes store marks r = (lower-fine d s bytes store marks (r .0), r .1)
 
 pub load-written : (load : Load) (d : Made) (m : Machine) → Ready d (m .state) → loadFits load (m .state) ≡ true → Next d m (loadWritten load m)
 load-written Buffer d m r e = (ended-left End.Good d (m .state) (r .0), lent-same m)
-load-written (Sectors left) d m r e = (
-  written-left (sectorStored (m .state) (m .buffer) (m .store) (m .marks) .outcome) (left - 1) d (m .state) (few left (m .state) e) r,
-  λ b. let w = sector-stored (m .state) (m .buffer) (m .store) (m .marks) b in (w .0, w .1, b),
-)
+load-written (Sectors left) d m r e =
+    let k = sectorStored (m .state) (m .buffer) (m .store) (m .marks) in (
+      written-left (k .outcome) (left - 1) d (withBad (k .next .bad) (m .state)) (few left (m .state) e) (lower-ready d (m .state) (m .buffer) (m .store) (m .marks) r),
+      λ b. let w = sector-stored (m .state) (m .buffer) (m .store) (m .marks) b in (w .0, w .1, b),
+    )

@@ -8,6 +8,7 @@ use Rattle.sectors.specs.Sectors.{StoreMarks, storeMarks}
 use Rattle.registers.specs.declared.Made.{Made}
 use Rattle.registers.specs.declared.State.{State}
 use Rattle.registers.specs.declared.Core.{Core}
+use Rattle.registers.specs.State.{withBad}
 use Rattle.transfers.specs.declared.End.{End}
 use Rattle.transfers.specs.declared.Tested.{Tested}
 use Rattle.transfers.specs.declared.Tested.the-variants.{Passes, Fails}
@@ -18,13 +19,14 @@ use Rattle.transfers.specs.Steps.{sectorDone}
 use Rattle.commands.specs.Sweeps.{unlessFailed, verifyFrom, allFF, eraseFrom}
 use Rattle.kept.proofs.Registers.{CoreFits}
 use Rattle.kept.proofs.Ends.{Fine, ended-left, done-fine}
-use Rattle.kept.proofs.Steps.{sector-stored}
+use Rattle.kept.proofs.Steps.{sector-stored, lower-fine}
 
 -- a sector of Erase by its tests, with n to come
 abbrev pub erasesOn : Tested → ℕ → State → List ℕ → List ℕ → Left Core StoreMarks
 erasesOn x n s t k =
-    unlessFailed (storedBy x allFF t k .outcome) (λ c. leaving c (storedBy x allFF t k .next)) s
-    (eraseFrom n (sectorDone n s) (storedBy x allFF t k .next .store) (storedBy x allFF t k .next .marks))
+    let y = storedBy x allFF (storeMarks t k (s .bad)) in
+    let z = withBad (y .next .bad) s in
+    unlessFailed (y .outcome) (λ c. leaving c (y .next)) z (eraseFrom n (sectorDone n z) (y .next .store) (y .next .marks))
 
 unless-elim : {A : Type 0} (P : A → Type 0) (t : Tested) (end : Core → A) (s : State) (rest : A) → ((e : End) → P (end (ended e s))) → P rest → P (unlessFailed t end s rest)
 unless-elim P (Passes spot) end s rest f g = g
@@ -40,18 +42,20 @@ verify-elim I P f g (suc n) s marks h =
 
 -- … and Erase, with the store and the marks
 pub erase-elim : (I : State → List ℕ → List ℕ → Type 0) (P : Left Core StoreMarks → Type 0) →
-    ((s : State) (store marks : List ℕ) → I s store marks → I s (sectorStored s allFF store marks .next .store) (sectorStored s allFF store marks .next .marks)) →
+    ((s : State) (store marks : List ℕ) → I s store marks →
+    let k = sectorStored s allFF store marks .next in I (withBad (k .bad) s) (k .store) (k .marks)) →
     ((n : ℕ) (s : State) (store marks : List ℕ) → I s store marks → I (sectorDone n s) store marks) →
-    ((e : End) (s : State) (store marks : List ℕ) → I s store marks → P (leaving (ended e s) (storeMarks store marks))) →
+    ((e : End) (s : State) (store marks : List ℕ) → I s store marks → P (leaving (ended e s) (storeMarks store marks (s .bad)))) →
     (n : ℕ) (s : State) (store marks : List ℕ) → I s store marks → P (eraseFrom n s store marks)
 unfolding eraseFrom
 erase-elim I P w f g zero s store marks h = g End.Good s store marks h
 erase-elim I P w f g (suc n) s store marks h =
     let k = sectorStored s allFF store marks in
+    let t = withBad (k .next .bad) s in
     let i = w s store marks h in
-    unless-elim P (k .outcome) (λ c. leaving c (k .next)) s (eraseFrom n (sectorDone n s) (k .next .store) (k .next .marks))
-    (λ e. g e s (k .next .store) (k .next .marks) i)
-    (erase-elim I P w f g n (sectorDone n s) (k .next .store) (k .next .marks) (f n s (k .next .store) (k .next .marks) i))
+    unless-elim P (k .outcome) (λ c. leaving c (k .next)) t (eraseFrom n (sectorDone n t) (k .next .store) (k .next .marks))
+    (λ e. g e t (k .next .store) (k .next .marks) i)
+    (erase-elim I P w f g n (sectorDone n t) (k .next .store) (k .next .marks) (f n t (k .next .store) (k .next .marks) i))
 
 pub verify-left : (n : ℕ) (d : Made) (s : State) (marks : List ℕ) → Fine d s → CoreFits d (verifyFrom n s marks)
 verify-left n d = verify-elim (Fine d) (CoreFits d) (λ n s f. done-fine n d s f) (λ e s f. ended-left e d s f) n
@@ -67,7 +71,7 @@ all-FF-length = length-replicate {A = ℕ} 512 0xFF
 pub erase-left : (n : ℕ) (d : Made) (s : State) (store marks : List ℕ) → Fine d s → Blanked d store marks (eraseFrom n s store marks)
 erase-left n d s store marks f =
     erase-elim (λ (x : State) (st mk : List ℕ). Fine d x × (length st ≡ length store) × (length mk ≡ length marks)) (Blanked d store marks)
-    (λ x st mk h. let w = sector-stored x allFF st mk all-FF-length in (h .0, w .0 ∙ h .1, w .1 ∙ h .2))
+    (λ x st mk h. let w = sector-stored x allFF st mk all-FF-length in (lower-fine d x allFF st mk (h .0), w .0 ∙ h .1, w .1 ∙ h .2))
     (λ k x st mk h. (done-fine k d x (h .0), h .1, h .2))
     (λ e x st mk h. (ended-left e d x (h .0), h .1, h .2))
     n s store marks (f, refl, refl)

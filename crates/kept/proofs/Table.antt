@@ -42,7 +42,7 @@ count-agrees s c =
 geometry-left : (x : Reshaped) (d : Made) (s : State) → reshaped (s .registers .count) (s .registers .address .head) (totalIn s) ≡ x → Fine d s → CoreFits d (reshapedEnded x s)
 geometry-left (Reshaped.Taken g) d s e f =
     let c = reshaped-current (s .registers .count) (s .registers .address .head) (totalIn s) g (f .1) e in
-    ended-left End.Good d (withCurrent g s) ((f .0 .0, f .0 .1, c, f .0 .3, f .0 .4), f .1)
+    ended-left End.Good d (withCurrent g s) ((f .0 .0, f .0 .1, c, f .0 .3, f .0 .4, f .0 .5), f .1)
 geometry-left Reshaped.Refused d s e f = ended-left End.BadGeometry d s f
 
 buffer-fits : (s : State) → loadFits Buffer s ≡ true

@@ -16,7 +16,7 @@ use Rattle.registers.specs.declared.Load.the-variants.{Sectors, Buffer}
 use Rattle.registers.specs.declared.State.{State}
 use Rattle.registers.specs.declared.Core.{Core}
 use Rattle.laws.specs.Bits.{statusData}
-use Rattle.registers.specs.State.{totalIn}
+use Rattle.registers.specs.State.{withBad, totalIn}
 use Rattle.registers.specs.Machine.{Machine}
 use Rattle.transfers.specs.declared.Order.{Order}
 use Rattle.transfers.specs.declared.Order.the-variants.{First, Later}
@@ -88,7 +88,8 @@ core-written (Fails e) left s = end-coded e _
 
 pub load-written : (l : Load) (m : Machine) → Coded (loadWritten l m .state)
 load-written Buffer m = end-coded Good _
-load-written (Sectors left) m = core-written (sectorStored (m .state) (m .buffer) (m .store) (m .marks) .outcome) (left - 1) (m .state)
+load-written (Sectors left) m =
+    let k = sectorStored (m .state) (m .buffer) (m .store) (m .marks) in core-written (k .outcome) (left - 1) (withBad (k .next .bad) (m .state))
 
 -- ---- Verify and Erase
 

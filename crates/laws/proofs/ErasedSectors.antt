@@ -16,7 +16,7 @@ use Rattle.geometry.specs.Next.{nextOf}
 use Rattle.sectors.specs.Marks.{writable}
 use Rattle.sectors.specs.Sectors.{StoreMarks, storeMarks, stored}
 use Rattle.registers.specs.declared.State.{State}
-use Rattle.registers.specs.State.{totalIn, locatedIn}
+use Rattle.registers.specs.State.{withBad, totalIn, locatedIn}
 use Rattle.transfers.specs.declared.End.the-variants.{WriteFault}
 use Rattle.transfers.specs.declared.Tested.the-variants.{Passes, Fails}
 use Rattle.transfers.specs.Before.{testedOf, addressTest, markTested, sectorTest, sectorStored}
@@ -24,6 +24,7 @@ use Rattle.transfers.specs.Steps.{sectorDone}
 use Rattle.commands.specs.Sweeps.{allFF, eraseFrom}
 use Rattle.laws.specs.Changes.{Change, changed, sectorChanges, erasures}
 use Rattle.kept.proofs.Sweeps.{erasesOn}
+use Rattle.laws.proofs.SettingsKept.{number, done}
 
 -- ---- a stored sector's mark is 0, and so it can be written as before
 
@@ -36,12 +37,12 @@ by-place true marks i j e l w =
     subst (λ (x : ℕ). writable (getD (set marks i 0) x 0) ≡ writable (getD marks x 0)) (sym (eqb-true j i e)) (ap writable (getD-set-same marks i 0 0 l) ∙ sym w)
 by-place false marks i j e l w = ap writable (getD-set-other marks i j 0 0 (eqb-false j i e))
 
-same-stored : (store marks marks0 bytes : List ℕ) (i : ℕ) → SameWritable marks marks0 → writable (getD marks i 0) ≡ true → SameWritable (stored store marks i bytes .marks) marks0
+same-stored : (k : StoreMarks) (marks0 bytes : List ℕ) (i : ℕ) → SameWritable (k .marks) marks0 → writable (getD (k .marks) i 0) ≡ true → SameWritable (stored k i bytes .marks) marks0
 unfolding stored
-same-stored store marks marks0 bytes i h w =
-    pick-elim (λ (k : StoreMarks). SameWritable (k .marks) marks0) (ltb i (length store / 512)) _ _
-    (λ e. pick-elim (λ (k : StoreMarks). SameWritable (k .marks) marks0) (ltb i (length marks)) _ _
-    (λ f j. by-place (eqb j i) marks i j refl (ltb-true _ _ f) w ∙ h j)
+same-stored k marks0 bytes i h w =
+    pick-elim (λ (n : StoreMarks). SameWritable (n .marks) marks0) (ltb i (length (k .store) / 512)) _ _
+    (λ e. pick-elim (λ (n : StoreMarks). SameWritable (n .marks) marks0) (ltb i (length (k .marks))) _ _
+    (λ f j. by-place (eqb j i) (k .marks) i j refl (ltb-true _ _ f) w ∙ h j)
     (λ f. h))
     (λ e. h)
 
@@ -49,23 +50,30 @@ same-stored store marks marks0 bytes i h w =
 
 -- the rest of the run, from whatever store and marks
 abbrev Rest : ℕ → State → List Change → List ℕ → List ℕ → Type 0
-Rest n s rest store marks = eraseFrom n s store marks .next ≡ changed rest (storeMarks store marks)
+Rest n s rest store marks = eraseFrom n s store marks .next ≡ changed rest (storeMarks store marks (s .bad))
+
+-- from whatever number of marks that are not 0, too
+abbrev Onward : ℕ → State → List Change → List ℕ → Type 0
+Onward n s rest marks0 = (k : StoreMarks) → SameWritable (k .marks) marks0 → Rest n (sectorDone n (withBad (k .bad) s)) rest (k .store) (k .marks)
 
 by-mark : (b : Bool) (spot : Spot) (n : ℕ) (s : State) (store marks marks0 : List ℕ) (rest : List Change) →
-    SameWritable marks marks0 → writable (getD marks (spot .index) 0) ≡ b → ((st mk : List ℕ) → SameWritable mk marks0 → Rest n (sectorDone n s) rest st mk) →
+    SameWritable marks marks0 → writable (getD marks (spot .index) 0) ≡ b → Onward n s rest marks0 →
     erasesOn (pick b (Passes spot) (Fails WriteFault)) n s store marks .next
-    ≡ changed (pick b (record { index = spot .index; bytes = replicate 512 0xFF } ∷ rest) []) (storeMarks store marks)
+    ≡ changed (pick b (record { index = spot .index; bytes = replicate 512 0xFF } ∷ rest) []) (storeMarks store marks (s .bad))
 unfolding changed allFF
-by-mark true spot n s store marks marks0 rest h w f = f _ _ (same-stored store marks marks0 (replicate 512 0xFF) (spot .index) h w)
+by-mark true spot n s store marks marks0 rest h w f =
+    let k = stored (storeMarks store marks (s .bad)) (spot .index) (replicate 512 0xFF) in
+    f k (same-stored (storeMarks store marks (s .bad)) marks0 (replicate 512 0xFF) (spot .index) h w)
+    ∙ ap (λ (b : ℕ). changed rest (storeMarks (k .store) (k .marks) b)) (number (done n (withBad (k .bad) s)))
 by-mark false spot n s store marks marks0 rest h w f = refl
 
 by-address : (l : Located) (n : ℕ) (s : State) (store marks marks0 : List ℕ) (rest : List Change) →
-    SameWritable marks marks0 → ((st mk : List ℕ) → SameWritable mk marks0 → Rest n (sectorDone n s) rest st mk) →
-    erasesOn (markTested writable WriteFault (testedOf l) marks) n s store marks .next ≡ changed (sectorChanges l marks0 (replicate 512 0xFF) rest) (storeMarks store marks)
+    SameWritable marks marks0 → Onward n s rest marks0 →
+    erasesOn (markTested writable WriteFault (testedOf l) marks) n s store marks .next ≡ changed (sectorChanges l marks0 (replicate 512 0xFF) rest) (storeMarks store marks (s .bad))
 unfolding changed
 by-address (Located.Good spot) n s store marks marks0 rest h f =
     by-mark (writable (getD marks (spot .index) 0)) spot n s store marks marks0 rest h refl f ∙
-    ap (λ (b : Bool). changed (pick b (record { index = spot .index; bytes = replicate 512 0xFF } ∷ rest) []) (storeMarks store marks)) (h (spot .index))
+    ap (λ (b : Bool). changed (pick b (record { index = spot .index; bytes = replicate 512 0xFF } ∷ rest) []) (storeMarks store marks (s .bad))) (h (spot .index))
 by-address Located.BadHeadOrSector n s store marks marks0 rest h f = refl
 by-address Located.BadCylinder n s store marks marks0 rest h f = refl
 by-address Located.BadLba n s store marks marks0 rest h f = refl
@@ -84,8 +92,8 @@ unfolding eraseFrom erasures changed sectorStored sectorTest addressTest
 erased-sectors zero s store marks marks0 h = refl
 erased-sectors (suc n) s store marks marks0 h =
     by-address (locatedIn s) n s store marks marks0 (erasures n (nextOf (s .registers .address) (s .current)) (s .current) (totalIn s) marks0) h
-    (λ st mk g. subst (λ (r : List Change). Rest n (sectorDone n s) r st mk) (next-address n s marks0) (erased-sectors n (sectorDone n s) st mk marks0 g))
+    (λ k g. let t = withBad (k .bad) s in subst (λ (r : List Change). Rest n (sectorDone n t) r (k .store) (k .marks)) (next-address n t marks0) (erased-sectors n (sectorDone n t) (k .store) (k .marks) marks0 g))
 
 pub erase-kept : (n : ℕ) (s : State) (store marks : List ℕ) →
-    eraseFrom n s store marks .next ≡ changed (erasures n (s .registers .address) (s .current) (totalIn s) marks) (storeMarks store marks)
+    eraseFrom n s store marks .next ≡ changed (erasures n (s .registers .address) (s .current) (totalIn s) marks) (storeMarks store marks (s .bad))
 erase-kept n s store marks = erased-sectors n s store marks marks (λ j. refl)

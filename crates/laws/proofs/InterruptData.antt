@@ -16,7 +16,7 @@ use Rattle.registers.specs.declared.Transfer.{Transfer}
 use Rattle.registers.specs.declared.Phase.{Phase}
 use Rattle.registers.specs.declared.State.{State}
 use Rattle.registers.specs.declared.Core.{Core}
-use Rattle.registers.specs.State.{locatedIn}
+use Rattle.registers.specs.State.{withBad, locatedIn}
 use Rattle.registers.specs.Machine.{Machine}
 use Rattle.registers.specs.WellMade.{statusFits, sectorsFit, loadFits, runFits}
 use Rattle.geometry.specs.Address.{validAddress}
@@ -99,17 +99,20 @@ ask-tested : (t : Tested) (left : ℕ) (s n : State) → drqSet s ≡ true → a
 ask-tested (Passes spot) left s n a d = turned Out s (askTested (Passes spot) left Later n .state) a refl d refl
 ask-tested (Fails e) left s n a d = written-end s (askTested (Fails e) left Later n .state) a (end-drq e) refl
 
-core-written : (t : Tested) (left : ℕ) (s : State) → drqSet s ≡ true → loadFits (Sectors left) s ≡ true → InterruptRule DataWrite s (coreWritten t (left - 1) s .state)
-unfolding nextAsked askSector
-core-written (Passes spot) left s a f =
+-- with any number of marks that are not 0
+core-written : (t : Tested) (left b : ℕ) (s : State) → drqSet s ≡ true → loadFits (Sectors left) s ≡ true → InterruptRule DataWrite s (coreWritten t (left - 1) (withBad b s) .state)
+unfolding nextAsked askSector loadFits sectorsFit
+core-written (Passes spot) left b s a f =
+    let n = withBad b s in
     pick-elim (λ (k : Core). InterruptRule DataWrite s (k .state)) (eqb (left - 1) 0) _ _
     (λ e. written-end s _ a refl refl)
-    (λ e. ask-tested (addressTest (sectorDone (left - 1) s)) (left - 1) s (sectorDone (left - 1) s) a (left-facts left s f e))
-core-written (Fails e) left s a f = written-end s (coreWritten (Fails e) (left - 1) s .state) a (end-drq e) refl
+    (λ e. ask-tested (addressTest (sectorDone (left - 1) n)) (left - 1) s (sectorDone (left - 1) n) a (left-facts left n f e))
+core-written (Fails e) left b s a f = written-end s (coreWritten (Fails e) (left - 1) (withBad b s) .state) a (end-drq e) refl
 
 load-written : (l : Load) (s : State) (m : Machine) → drqSet s ≡ true → loadFits l s ≡ true → InterruptRule DataWrite s (loadWritten l (idleWith s m) .state)
 load-written Buffer s m a f = written-end s (loadWritten Buffer (idleWith s m) .state) a refl refl
-load-written (Sectors left) s m a f = core-written (sectorStored s (m .buffer) (m .store) (m .marks) .outcome) left s a f
+load-written (Sectors left) s m a f =
+    let k = sectorStored s (m .buffer) (m .store) (m .marks) in core-written (k .outcome) left (k .next .bad) s a f
 
 pub data-written : (port : Port) (v : ℕ) (m : Machine) → StatusAndLoadFit (m .phase) (m .state) → InterruptRule DataWrite (m .state) (dataWritten port v m .next .state)
 data-written port v m r =

@@ -36,3 +36,4 @@ pub mod ByOffset
 pub mod NoTransfer
 pub mod SettingsAt
 pub mod LastValue
+pub mod BadSectors

@@ -16,10 +16,10 @@ use Rattle.card.specs.declared.Answer.{Answer}
 use Rattle.card.specs.Doors.{machineOf, answer, answered}
 use Rattle.laws.specs.Lent.{SameLent}
 
-pub only-store-marks : (d : StoreMarks) (s s′ m m′ : List ℕ) → storeMarks s m ≡ d → storeMarks s′ m′ ≡ d → (s ≡ s′) × (m ≡ m′)
-only-store-marks d s s′ m m′ p q =
-    let e = only-one d (storeMarks s m) (storeMarks s′ m′) p q in
-    (ap (λ (k : StoreMarks). k .store) e, ap (λ (k : StoreMarks). k .marks) e)
+pub only-store-marks : (d : StoreMarks) (s s′ m m′ : List ℕ) (b b′ : ℕ) → storeMarks s m b ≡ d → storeMarks s′ m′ b′ ≡ d → (s ≡ s′) × (m ≡ m′) × (b ≡ b′)
+only-store-marks d s s′ m m′ b b′ p q =
+    let e = only-one d (storeMarks s m b) (storeMarks s′ m′ b′) p q in
+    (ap (λ (k : StoreMarks). k .store) e, ap (λ (k : StoreMarks). k .marks) e, ap (λ (k : StoreMarks). k .bad) e)
 
 -- the card is read back from the machine
 abbrev cardIn : Machine → Card

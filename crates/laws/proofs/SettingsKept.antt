@@ -1,6 +1,7 @@
--- The option and Device Control, which only writes to them change: no command does ("90H …: buffer, geometry, index, mask kept"), and no transfer.
+-- The option and Device Control, which only writes to them change: no command does ("90H …: buffer, geometry, index, mask kept"), and no transfer; and the
+-- number of marks that are not 0, which only a stored sector changes.
 use Prim.Native.Nat.{ℕ, _-_}
-use mathlib.Core.Path.{_≡_, refl, _∙_}
+use mathlib.Core.Path.{_≡_, refl, ap, _∙_}
 use mathlib.Core.List.{List}
 use lib.Dec.{eqb}
 use Rattle.ground.specs.Left.{Left}
@@ -8,11 +9,12 @@ use Rattle.sectors.specs.Sectors.{StoreMarks}
 use Rattle.ground.proofs.Picks.{pick-elim}
 use Rattle.geometry.specs.declared.Reshaped.{Reshaped}
 use Rattle.geometry.specs.Shape.{reshaped}
+use Rattle.maps.specs.declared.Register.{Register}
 use Rattle.registers.specs.declared.Load.{Load}
 use Rattle.registers.specs.declared.Load.the-variants.{Sectors, Buffer}
 use Rattle.registers.specs.declared.State.{State}
 use Rattle.registers.specs.declared.Core.{Core}
-use Rattle.registers.specs.State.{totalIn}
+use Rattle.registers.specs.State.{withBad, totalIn}
 use Rattle.registers.specs.Machine.{Machine}
 use Rattle.transfers.specs.declared.Order.{Order}
 use Rattle.transfers.specs.declared.Order.the-variants.{First, Later}
@@ -25,74 +27,105 @@ use Rattle.commands.specs.declared.Command.{Command}
 use Rattle.commands.specs.declared.Command.the-variants.{Read, Write, Verify, Erase, Identify, ReadBuffer, WriteBuffer, SetGeometry, Diagnose, Recalibrate, Seek, Sense, Other}
 use Rattle.commands.specs.Sweeps.{verifyFrom, eraseFrom}
 use Rattle.commands.specs.Table.{commandOf, countOf, obeyed, reshapedEnded, started, dropped, commandGiven}
+use Rattle.card.specs.Perform.{plainCore}
+use Rattle.kept.proofs.RegisterElim.{set-elim, plain-elim}
 use Rattle.kept.proofs.Sweeps.{verify-elim, erase-elim}
-use Rattle.laws.specs.Settings.{settingsOf}
+use Rattle.laws.specs.Settings.{Settings, settingsOf}
 
-done : (n : ℕ) (s : State) → settingsOf (sectorDone n s) ≡ settingsOf s
+-- the two settings, and the number of marks that are not 0
+pub record Steady : Type 0 where
+  pub settings : Settings
+  pub bad : ℕ
+
+abbrev pub steadyOf : State → Steady
+steadyOf s = record { settings = settingsOf s; bad = s .bad }
+
+pub settings : {x y : Steady} → x ≡ y → x .settings ≡ y .settings
+settings e = ap (λ (k : Steady). k .settings) e
+
+pub number : {x y : Steady} → x ≡ y → x .bad ≡ y .bad
+number e = ap (λ (k : Steady). k .bad) e
+
+pub done : (n : ℕ) (s : State) → steadyOf (sectorDone n s) ≡ steadyOf s
 unfolding sectorDone
-done n s = pick-elim (λ (x : State). settingsOf x ≡ settingsOf s) (eqb n 0) _ _ (λ e. refl) (λ e. refl)
+done n s = pick-elim (λ (x : State). steadyOf x ≡ steadyOf s) (eqb n 0) _ _ (λ e. refl) (λ e. refl)
+
+-- ---- registers
+
+pub plain : (r : Register) (v : ℕ) (k : Core) → steadyOf (plainCore r v k .state) ≡ steadyOf (k .state)
+plain r v k =
+    plain-elim (λ (x : Core). steadyOf (x .state) ≡ steadyOf (k .state)) r v k refl
+    (λ e h. set-elim (λ (x : State). steadyOf x ≡ steadyOf (k .state)) r v (k .state) refl refl (λ a. refl))
 
 -- ---- reading
 
-read-tested : (t : Tested) (left : ℕ) (m : Machine) → settingsOf (readTested t left m .state) ≡ settingsOf (m .state)
+read-tested : (t : Tested) (left : ℕ) (m : Machine) → steadyOf (readTested t left m .state) ≡ steadyOf (m .state)
 read-tested (Passes spot) left m = refl
 read-tested (Fails e) left m = refl
 
-read-sector : (left : ℕ) (m : Machine) → settingsOf (readSector left m .state) ≡ settingsOf (m .state)
+read-sector : (left : ℕ) (m : Machine) → steadyOf (readSector left m .state) ≡ steadyOf (m .state)
 unfolding readSector
 read-sector left m = read-tested (sectorTest In (m .state) (m .marks)) left m
 
-pub load-read : (l : Load) (m : Machine) → settingsOf (loadRead l m .state) ≡ settingsOf (m .state)
+pub load-read : (l : Load) (m : Machine) → steadyOf (loadRead l m .state) ≡ steadyOf (m .state)
 unfolding nextRead
 load-read Buffer m = refl
 load-read (Sectors left) m =
     let d = done (left - 1) (m .state) in
-    pick-elim (λ (n : Machine). settingsOf (n .state) ≡ settingsOf (m .state)) (eqb (left - 1) 0) _ _ (λ e. d) (λ e. read-sector (left - 1) (idleWith (sectorDone (left - 1) (m .state)) m) ∙ d)
+    pick-elim (λ (n : Machine). steadyOf (n .state) ≡ steadyOf (m .state)) (eqb (left - 1) 0) _ _ (λ e. d) (λ e. read-sector (left - 1) (idleWith (sectorDone (left - 1) (m .state)) m) ∙ d)
 
 -- ---- writing
 
-ask-tested : (t : Tested) (left : ℕ) (order : Order) (s : State) → settingsOf (askTested t left order s .state) ≡ settingsOf s
+ask-tested : (t : Tested) (left : ℕ) (order : Order) (s : State) → steadyOf (askTested t left order s .state) ≡ steadyOf s
 ask-tested (Passes spot) left order s = refl
 ask-tested (Fails e) left order s = refl
 
-ask-sector : (left : ℕ) (order : Order) (s : State) → settingsOf (askSector left order s .state) ≡ settingsOf s
+pub ask-sector : (left : ℕ) (order : Order) (s : State) → steadyOf (askSector left order s .state) ≡ steadyOf s
 unfolding askSector
 ask-sector left order s = ask-tested (addressTest s) left order s
 
-core-written : (t : Tested) (left : ℕ) (s : State) → settingsOf (coreWritten t left s .state) ≡ settingsOf s
+core-written : (t : Tested) (left : ℕ) (s : State) → steadyOf (coreWritten t left s .state) ≡ steadyOf s
 unfolding nextAsked
 core-written (Passes spot) left s =
-    pick-elim (λ (k : Core). settingsOf (k .state) ≡ settingsOf s) (eqb left 0) _ _ (λ e. done left s) (λ e. ask-sector left Later (sectorDone left s) ∙ done left s)
+    pick-elim (λ (k : Core). steadyOf (k .state) ≡ steadyOf s) (eqb left 0) _ _ (λ e. done left s) (λ e. ask-sector left Later (sectorDone left s) ∙ done left s)
 core-written (Fails e) left s = refl
+
+-- the last byte of a sector has come: with the number that storing it leaves
+pub sector-written : (left : ℕ) (m : Machine) →
+    let k = sectorStored (m .state) (m .buffer) (m .store) (m .marks) in steadyOf (loadWritten (Sectors left) m .state) ≡ steadyOf (withBad (k .next .bad) (m .state))
+sector-written left m =
+    let k = sectorStored (m .state) (m .buffer) (m .store) (m .marks) in
+    core-written (k .outcome) (left - 1) (withBad (k .next .bad) (m .state))
 
 pub load-written : (l : Load) (m : Machine) → settingsOf (loadWritten l m .state) ≡ settingsOf (m .state)
 load-written Buffer m = refl
-load-written (Sectors left) m = core-written (sectorStored (m .state) (m .buffer) (m .store) (m .marks) .outcome) (left - 1) (m .state)
+load-written (Sectors left) m = settings (sector-written left m)
 
 -- ---- the command table
 
-verified : (n : ℕ) (s : State) (marks : List ℕ) → settingsOf (verifyFrom n s marks .state) ≡ settingsOf s
-verified n s marks = verify-elim (λ (x : State). settingsOf x ≡ settingsOf s) (λ (k : Core). settingsOf (k .state) ≡ settingsOf s) (λ n x h. done n x ∙ h) (λ e x h. h) n s marks refl
+pub verified : (n : ℕ) (s : State) (marks : List ℕ) → steadyOf (verifyFrom n s marks .state) ≡ steadyOf s
+verified n s marks = verify-elim (λ (x : State). steadyOf x ≡ steadyOf s) (λ (k : Core). steadyOf (k .state) ≡ steadyOf s) (λ n x h. done n x ∙ h) (λ e x h. h) n s marks refl
 
-erased : (n : ℕ) (s : State) (store marks : List ℕ) → settingsOf (eraseFrom n s store marks .outcome .state) ≡ settingsOf s
+-- with the number that it leaves
+pub erased : (n : ℕ) (s : State) (store marks : List ℕ) → let e = eraseFrom n s store marks in steadyOf (e .outcome .state) ≡ steadyOf (withBad (e .next .bad) s)
 erased n s store marks =
-    erase-elim (λ (x : State) (st mk : List ℕ). settingsOf x ≡ settingsOf s) (λ (k : Left Core StoreMarks). settingsOf (k .outcome .state) ≡ settingsOf s)
-    (λ x st mk h. h) (λ n x st mk h. done n x ∙ h) (λ e x st mk h. h) n s store marks refl
+    erase-elim (λ (x : State) (st mk : List ℕ). settingsOf x ≡ settingsOf s) (λ (k : Left Core StoreMarks). steadyOf (k .outcome .state) ≡ steadyOf (withBad (k .next .bad) s))
+    (λ x st mk h. h) (λ n x st mk h. settings (done n x) ∙ h) (λ e x st mk h. ap (λ (k : Settings). record { settings = k; bad = x .bad }) h) n s store marks refl
 
-reshaped-ended : (r : Reshaped) (s : State) → settingsOf (reshapedEnded r s .state) ≡ settingsOf s
+pub reshaped-ended : (r : Reshaped) (s : State) → steadyOf (reshapedEnded r s .state) ≡ steadyOf s
 reshaped-ended (Reshaped.Taken g) s = refl
 reshaped-ended Reshaped.Refused s = refl
 
 -- s is the state with Error and code 0
 obeys : (c : Command) (s : State) (m : Machine) → settingsOf s ≡ settingsOf (m .state) → settingsOf (obeyed c s m .state) ≡ settingsOf (m .state)
-obeys Read s m h = read-sector (countOf s) (idleWith s m) ∙ h
-obeys Write s m h = ask-sector (countOf s) First s ∙ h
-obeys Verify s m h = verified (countOf s) s (m .marks) ∙ h
-obeys Erase s m h = erased (countOf s) s (m .store) (m .marks) ∙ h
+obeys Read s m h = settings (read-sector (countOf s) (idleWith s m)) ∙ h
+obeys Write s m h = settings (ask-sector (countOf s) First s) ∙ h
+obeys Verify s m h = settings (verified (countOf s) s (m .marks)) ∙ h
+obeys Erase s m h = settings (erased (countOf s) s (m .store) (m .marks)) ∙ h
 obeys Identify s m h = h
 obeys ReadBuffer s m h = h
 obeys WriteBuffer s m h = h
-obeys SetGeometry s m h = reshaped-ended (reshaped (s .registers .count) (s .registers .address .head) (totalIn s)) s ∙ h
+obeys SetGeometry s m h = settings (reshaped-ended (reshaped (s .registers .count) (s .registers .address .head) (totalIn s)) s) ∙ h
 obeys Diagnose s m h = h
 obeys Recalibrate s m h = h
 obeys Seek s m h = h

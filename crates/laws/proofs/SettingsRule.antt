@@ -18,11 +18,11 @@ use Rattle.card.specs.declared.Meaning.the-variants.{TupleByte, ReadOption, Wri
 use Rattle.card.specs.Access.{Asked, meaning}
 use Rattle.card.specs.Perform.{optionWritten, plainCore, registerWritten, perform}
 use Rattle.card.specs.Step.{step}
-use Rattle.kept.proofs.RegisterElim.{read-elim, set-elim, plain-elim}
+use Rattle.kept.proofs.RegisterElim.{read-elim}
 use Rattle.kept.proofs.DataElim.{partCome, data-read-elim, data-written-elim}
 use Rattle.laws.specs.Bits.{bitSeven, bitTwo, bitOne}
 use Rattle.laws.specs.Settings.{settingsOf, released, settingsAfter}
-use Rattle.laws.proofs.SettingsKept.{load-read, load-written, commanded}
+use Rattle.laws.proofs.SettingsKept.{settings, plain, load-read, load-written, commanded}
 
 -- was bit 7 set, and is it set now
 option-turned : (was now : Bool) (v : ℕ) (p : Phase) (s : State) →
@@ -42,23 +42,18 @@ control-turned true false masked p s e = refl
 control-turned false false masked p s e = ap (λ (b : Bool). record { option = s .option; control = record { held = b; masked = masked } }) e
 control-turned true true masked p s e = ap (λ (b : Bool). record { option = s .option; control = record { held = b; masked = masked } }) e
 
-plain : (r : Register) (v : ℕ) (k : Core) → settingsOf (plainCore r v k .state) ≡ settingsOf (k .state)
-plain r v k =
-    plain-elim (λ (x : Core). settingsOf (x .state) ≡ settingsOf (k .state)) r v k refl
-    (λ e h. set-elim (λ (x : State). settingsOf x ≡ settingsOf (k .state)) r v (k .state) refl refl (λ a. refl))
-
 register-written : (r : Register) (v : ℕ) (m : Machine) → settingsOf (registerWritten r v m .state) ≡ settingsAfter (WriteRegister r v) (m .state)
 unfolding registerWritten
-register-written ErrorFeature v m = plain ErrorFeature v (coreOf m)
-register-written SectorCount v m = plain SectorCount v (coreOf m)
-register-written SectorNumber v m = plain SectorNumber v (coreOf m)
-register-written CylinderLow v m = plain CylinderLow v (coreOf m)
-register-written CylinderHigh v m = plain CylinderHigh v (coreOf m)
-register-written DriveHead v m = plain DriveHead v (coreOf m)
+register-written ErrorFeature v m = settings (plain ErrorFeature v (coreOf m))
+register-written SectorCount v m = settings (plain SectorCount v (coreOf m))
+register-written SectorNumber v m = settings (plain SectorNumber v (coreOf m))
+register-written CylinderLow v m = settings (plain CylinderLow v (coreOf m))
+register-written CylinderHigh v m = settings (plain CylinderHigh v (coreOf m))
+register-written DriveHead v m = settings (plain DriveHead v (coreOf m))
 register-written StatusCommand v m =
     pick-elim (λ (n : Machine). settingsOf (n .state) ≡ settingsOf (m .state)) (m .state .control .held) _ _ (λ h. refl) (λ h. commanded v m)
 register-written AlternateControl v m = control-turned (m .state .control .held) (bitTwo v) (bitOne v) (m .phase) (m .state) refl
-register-written DriveAddress v m = plain DriveAddress v (coreOf m)
+register-written DriveAddress v m = settings (plain DriveAddress v (coreOf m))
 
 pub meant-settings : (x : Meaning) (m : Machine) → settingsOf (perform x m .next .state) ≡ settingsAfter x (m .state)
 unfolding perform optionWritten
@@ -69,7 +64,7 @@ meant-settings (WriteOption v) m = option-turned (bitSeven (m .state .option)) (
 meant-settings (ReadRegister r) m = read-elim (λ (x : State). settingsOf x ≡ settingsOf (m .state)) r (m .state) refl refl
 meant-settings (WriteRegister r v) m = register-written r v m
 meant-settings (ReadData port) m =
-    data-read-elim (λ (e : Effect). settingsOf (e .next .state) ≡ settingsOf (m .state)) port m (λ v. refl) refl (λ v part t e. refl) (λ v t e w. refl) (λ v t e. load-read (t .load) (allMoved m))
+    data-read-elim (λ (e : Effect). settingsOf (e .next .state) ≡ settingsOf (m .state)) port m (λ v. refl) refl (λ v part t e. refl) (λ v t e w. refl) (λ v t e. settings (load-read (t .load) (allMoved m)))
 meant-settings (WriteData port v) m =
     data-written-elim (λ (e : Effect). settingsOf (e .next .state) ≡ settingsOf (m .state)) port v m refl refl (λ part t e. refl) (λ part t e w. refl)
     (λ part t e. load-written (t .load) (allMoved (partCome part t v m)))

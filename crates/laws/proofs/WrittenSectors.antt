@@ -1,6 +1,6 @@
 -- A data write changes the sector whose last byte it moves, and nothing else.
 use Prim.Native.Nat.{ℕ}
-use mathlib.Core.Path.{_≡_, refl}
+use mathlib.Core.Path.{_≡_, refl, ap, _∙_}
 use mathlib.Core.Bool.{Bool, true, false}
 use mathlib.Core.List.{List, [], _∷_}
 use lib.Dec.{ltb}
@@ -9,7 +9,7 @@ use Rattle.ground.specs.Choice.{pick}
 use Rattle.geometry.specs.declared.Spot.{Spot}
 use Rattle.geometry.specs.declared.Located.{Located}
 use Rattle.sectors.specs.Marks.{writable}
-use Rattle.sectors.specs.Sectors.{storeMarks}
+use Rattle.sectors.specs.Sectors.{StoreMarks, storeMarks}
 use Rattle.maps.specs.declared.Port.{Port}
 use Rattle.registers.specs.declared.Load.{Load}
 use Rattle.registers.specs.declared.Load.the-variants.{Sectors, Buffer}
@@ -28,25 +28,27 @@ use Rattle.port.specs.Halves.{takeOf, withPart}
 use Rattle.port.specs.Data.{wordWritten, takenWritten, phaseWritten}
 use Rattle.kept.specs.Lent.{storeMarksIn}
 use Rattle.laws.specs.Changes.{changed, sectorChanges, loadChanges, takenChanges, phaseChanges}
+use Rattle.laws.proofs.SettingsKept.{number, sector-written}
 
-by-mark : (b : Bool) (spot : Spot) (bytes store marks : List ℕ) →
-    storedBy (pick b (Passes spot) (Fails WriteFault)) bytes store marks .next ≡ changed (pick b (record { index = spot .index; bytes = bytes } ∷ []) []) (storeMarks store marks)
+by-mark : (b : Bool) (spot : Spot) (bytes : List ℕ) (k : StoreMarks) →
+    storedBy (pick b (Passes spot) (Fails WriteFault)) bytes k .next ≡ changed (pick b (record { index = spot .index; bytes = bytes } ∷ []) []) k
 unfolding changed
-by-mark true spot bytes store marks = refl
-by-mark false spot bytes store marks = refl
+by-mark true spot bytes k = refl
+by-mark false spot bytes k = refl
 
-by-address : (l : Located) (bytes store marks : List ℕ) →
-    storedBy (markTested writable WriteFault (testedOf l) marks) bytes store marks .next ≡ changed (sectorChanges l marks bytes []) (storeMarks store marks)
+by-address : (l : Located) (bytes : List ℕ) (k : StoreMarks) →
+    storedBy (markTested writable WriteFault (testedOf l) (k .marks)) bytes k .next ≡ changed (sectorChanges l (k .marks) bytes []) k
 unfolding changed
-by-address (Located.Good spot) bytes store marks = by-mark (writable (getD marks (spot .index) 0)) spot bytes store marks
-by-address Located.BadHeadOrSector bytes store marks = refl
-by-address Located.BadCylinder bytes store marks = refl
-by-address Located.BadLba bytes store marks = refl
+by-address (Located.Good spot) bytes k = by-mark (writable (getD (k .marks) (spot .index) 0)) spot bytes k
+by-address Located.BadHeadOrSector bytes k = refl
+by-address Located.BadCylinder bytes k = refl
+by-address Located.BadLba bytes k = refl
 
 load-written : (l : Load) (bytes : List ℕ) (m : Machine) → storeMarksIn (loadWritten l (allMoved (withBuffer bytes m))) ≡ changed (loadChanges l bytes m) (storeMarksIn m)
 unfolding changed sectorStored sectorTest addressTest
 load-written Buffer bytes m = refl
-load-written (Sectors left) bytes m = by-address (locatedIn (m .state)) bytes (m .store) (m .marks)
+load-written (Sectors left) bytes m =
+    ap (storeMarks _ _) (number (sector-written left (allMoved (withBuffer bytes m)))) ∙ by-address (locatedIn (m .state)) bytes (storeMarksIn m)
 
 by-word : (b : Bool) (l : Load) (bytes : List ℕ) (m x : Machine) → storeMarksIn x ≡ storeMarksIn m →
     storeMarksIn (pick b x (loadWritten l (allMoved (withBuffer bytes m)))) ≡ changed (pick b [] (loadChanges l bytes m)) (storeMarksIn m)

@@ -49,7 +49,7 @@ pub record Change : Type 0 where
 -- one after the other: the 512 bytes from 512 times the index, and the mark set to 0
 unfoldable pub changed : List Change → StoreMarks → StoreMarks
 changed [] k = k
-changed (c ∷ l) k = changed l (stored (k .store) (k .marks) (c .index) (c .bytes))
+changed (c ∷ l) k = changed l (stored k (c .index) (c .bytes))
 
 -- each is one of the card's sectors, and whole
 abbrev pub WholeSectors : ℕ → List Change → Type 0

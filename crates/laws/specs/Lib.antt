@@ -12,3 +12,4 @@ pub mod Holds
 pub mod Turns
 pub mod Settings
 pub mod ByOffset
+pub mod BadSectors

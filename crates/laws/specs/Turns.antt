@@ -18,9 +18,9 @@ use Rattle.card.specs.Step.{step}
 use Rattle.card.specs.Opening.{powered}
 use Rattle.card.specs.Doors.{machineOf}
 
--- the card that the opening made, at power-on
+-- the card that the opening made, at power-on; 02, "Eight": with the number of marks that are not 0 as it is, "resets keep it"
 abbrev pub poweredOf : Machine → Card
-poweredOf m = powered (m .state .made .default) (m .state .made .mode)
+poweredOf m = powered (m .state .made .default) (m .state .made .mode) (m .state .bad)
 
 -- what its registers read: "Power-on: Status 50H, Error 01H, Count 1, Sector 1, the rest 0"; "Drive/Head reads with bits 7 and 5 set"; sample 13, "7EH"
 abbrev pub powerOnValue : Register → ℕ

@@ -12,9 +12,10 @@ use Rattle.registers.specs.Status.{idleStatus, powerOnError}
 abbrev pub powerRegisters : Registers
 powerRegisters = record { status = idleStatus; error = powerOnError; count = 1; address = record { sector = 1; low = 0; high = 0; head = 0 } }
 
--- with a map setting, since a cleared SRESET "is power-on with the index just written"
-abbrev pub powerOn : Made → ℕ → State
-powerOn made option = record {
+-- with a map setting, since a cleared SRESET "is power-on with the index just written"; and 02, "Eight": with the number of marks that are not 0,
+-- since "resets keep it"
+abbrev pub powerOn : Made → ℕ → ℕ → State
+powerOn made bad option = record {
   made = made;
   current = made .default;
   registers = powerRegisters;
@@ -22,6 +23,7 @@ powerOn made option = record {
   control = record { held = false; masked = false };
   interrupt = false;
   code = 0x00;
+  bad = bad;
 }
 
 -- "buffer zeros"

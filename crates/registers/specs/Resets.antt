@@ -34,7 +34,7 @@ entered p s = withInterrupt false (withStatus (restStatus p (s .registers .statu
 -- "Bit 7 set holds the card and ends any transfer; clearing it after that is power-on with the index just written."
 unfoldable pub optionTurned : Turn → ℕ → Phase → State → Core
 optionTurned Enter v p s = core Idle (withOption v (entered p s))
-optionTurned Leave v p s = core Idle (powerOn (s .made) v)
+optionTurned Leave v p s = core Idle (powerOn (s .made) (s .bad) v)
 optionTurned Stay v p s = core p (withOption v s)
 
 -- power-on: buffer zeros
@@ -57,7 +57,7 @@ optionBuffer v s b = bufferTurned (optionTurn v s) b
 -- are kept, and bit 1 is as just written."
 unfoldable pub controlTurned : Turn → Bool → Phase → State → Core
 controlTurned Enter masked p s = core Idle (withControl (record { held = true; masked = masked }) (entered p s))
-controlTurned Leave masked p s = core Idle (withControl (record { held = false; masked = masked }) (powerOn (s .made) (s .option)))
+controlTurned Leave masked p s = core Idle (withControl (record { held = false; masked = masked }) (powerOn (s .made) (s .bad) (s .option)))
 controlTurned Stay masked p s = core p (withControl (record { held = s .control .held; masked = masked }) s)
 
 abbrev pub bitTwo : ℕ → Bool

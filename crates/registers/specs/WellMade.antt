@@ -70,6 +70,10 @@ runFits Idle s = true
 runFits (DataIn t) s = loadFits (t .load) s
 runFits (DataOut t) s = loadFits (t .load) s
 
+-- 02, "Eight": "Well-made cards now need it to be at most N"
+unfoldable pub badFits : ℕ → ℕ → Bool
+badFits bad total = leb bad total
+
 -- "its geometry fits the limits; the current H is 1..16 and S 1..255 with current C = N div (H·S), at least 1"; then the conditions above
 unfoldable pub wellMade : Phase → State → Bool
 wellMade p s =
@@ -82,4 +86,5 @@ wellMade p s =
     ∷ holdFits p (inReset s)
     ∷ wordsFit p
     ∷ runFits p s
+    ∷ badFits (s .bad) (totalIn s)
     ∷ [])

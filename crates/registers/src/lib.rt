@@ -78,6 +78,7 @@ pub struct Control {
 
 // All of the card but its phase and its buffer.
 pub struct State {
+    pub bad: u16, // 02, "Eight": the number of marks that are not 0
     pub control: Control,
     pub interrupt: bool,
     pub made: Made,

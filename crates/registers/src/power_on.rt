@@ -8,9 +8,9 @@ ghost use mathlib.Core.Path.{_≡_};
 ghost use Rattle.registers.specs.PowerOn.{powerOn};
 
 impl Made {
-    // 01, power-on, with a map setting.
-    pub fn power_on(self, option: u8) -> State
-        ensures { λ r. ⌜ r ≡ powerOn self option ⌝ }
+    // 01, power-on, with a map setting; 02: the number of marks that are not 0 is kept.
+    pub fn power_on(self, bad: u16, option: u8) -> State
+        ensures { λ r. ⌜ r ≡ powerOn self bad option ⌝ }
     {
         let default = self.default;
         State {
@@ -34,6 +34,7 @@ impl Made {
             },
             interrupt: false,
             code: 0x00,
+            bad: bad,
         }
     }
 }

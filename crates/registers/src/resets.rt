@@ -74,7 +74,7 @@ impl Core {
             Turn::Leave => {
                 *buffer = [0u8; SECTOR_BYTES];
                 let made = state.made;
-                let powered = made.power_on(value);
+                let powered = made.power_on(state.bad, value);
                 Core {
                     phase: Phase::Idle,
                     state: powered,
@@ -120,7 +120,7 @@ impl Core {
             }
             Turn::Leave => {
                 let made = state.made;
-                let mut powered = made.power_on(state.option);
+                let mut powered = made.power_on(state.bad, state.option);
                 powered.control.masked = masked;
                 Core {
                     phase: Phase::Idle,

@@ -9,7 +9,8 @@ use super::Phase;
 use super::State;
 use maps::Mode;
 ghost use mathlib.Core.Path.{_≡_};
-ghost use Rattle.registers.specs.WellMade.{indexFits, sresetFits, atRest, statusFits, inReset, holdFits, wordsFit, sectorsFit, loadFits, runFits, wellMade};
+ghost use Rattle.registers.specs.State.{totalIn};
+ghost use Rattle.registers.specs.WellMade.{indexFits, sresetFits, atRest, statusFits, inReset, holdFits, wordsFit, sectorsFit, loadFits, runFits, badFits, wellMade};
 
 // The map index is 0..3.
 pub fn index_fits(option: u8) -> bool
@@ -136,6 +137,15 @@ impl State {
     }
 }
 
+impl State {
+    // 02: the number of marks that are not 0 is at most N.
+    fn bad_fits(self) -> bool
+        ensures { λ r. ⌜ r ≡ badFits (self .bad) (totalIn self) ⌝ }
+    {
+        self.bad <= self.total()
+    }
+}
+
 impl Core {
     pub fn well_made(self) -> bool
         ensures { λ r. ⌜ r ≡ wellMade (self .phase) (self .state) ⌝ }
@@ -169,6 +179,9 @@ impl Core {
             return false;
         }
         if !state.run_fits(phase) {
+            return false;
+        }
+        if !state.bad_fits() {
             return false;
         }
         true

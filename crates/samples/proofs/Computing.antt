@@ -8,11 +8,11 @@ use Rattle.maps.specs.Spaces.{cardAnswers, answersAt}
 use Rattle.maps.specs.Offsets.{memoryAt, windowAt, ioAt, offsetAt}
 use Rattle.maps.specs.Places.{registerPlace, attributePlace, mapPlace, placeAt}
 use Rattle.maps.specs.Rows.{misfits, aboveThree}
-use Rattle.sectors.specs.Marks.{readable, writable, marksFit}
+use Rattle.sectors.specs.Marks.{readable, writable, marksFit, badIn, lowered}
 use Rattle.sectors.specs.Sectors.{sectorOf, withSector, bufferRead, stored}
 use Rattle.identify.specs.Integrity.{sumOf, integrityHigh, givingZero, withIntegrity}
 use Rattle.identify.specs.Words.{identifyWord, identifyByte, toldBytes, identifyBytes}
-use Rattle.registers.specs.WellMade.{indexFits, sresetFits, atRest, statusFits, inReset, holdFits, wordsFit, sectorsFit, loadFits, runFits, wellMade}
+use Rattle.registers.specs.WellMade.{indexFits, sresetFits, atRest, statusFits, inReset, holdFits, wordsFit, sectorsFit, loadFits, runFits, badFits, wellMade}
 use Rattle.registers.specs.Resets.{turnOf, optionTurned, bufferTurned, controlTurned}
 use Rattle.registers.specs.Values.{valueRead, afterRead, registerSet}
 use Rattle.transfers.specs.Before.{addressTest, sectorTest, sectorStored}
@@ -37,9 +37,9 @@ use Rattle.samples.specs.Passes.{reader, sameEntries, readsAs, holdsOf, 
 unfoldable pub computing : Unit {0}
 unfolding every fits totalOf currentFor locate locateChs locateLba byLba seek reshaped nextOf nextChs
     answersAt cardAnswers placeAt mapPlace attributePlace registerPlace misfits aboveThree offsetAt memoryAt ioAt windowAt
-    wellMade runFits loadFits sectorsFit wordsFit holdFits inReset statusFits atRest sresetFits indexFits
+    wellMade runFits loadFits sectorsFit wordsFit holdFits inReset statusFits atRest sresetFits indexFits badFits
     valueRead afterRead registerSet turnOf optionTurned bufferTurned controlTurned zeros
-    stored withSector sectorOf bufferRead readable writable marksFit
+    stored withSector sectorOf bufferRead readable writable marksFit badIn lowered
     readSector nextRead askSector nextAsked sectorDone sectorTest addressTest sectorStored
     countOf commandOf commandGiven verifyFrom eraseFrom allFF
     identifyBytes toldBytes identifyByte identifyWord withIntegrity givingZero integrityHigh sumOf

@@ -5,6 +5,7 @@ pub mod Passes
 pub mod Kinds
 pub mod Faults
 pub mod Lazy
+pub mod ThreeMarks
 pub mod WrongAddresses
 pub mod WrongCommands
 pub mod WrongRegisters

@@ -1,2 +1,2 @@
-pub mod Fitting
+pub mod Counting
 pub mod Stored

@@ -1,5 +1,5 @@
--- A stored sector: its bytes, its mark, and nothing else.
-use Prim.Native.Nat.{ℕ, _+_, _*_, _-_, _/_, _<_, _≤_}
+-- A stored sector: its bytes, its mark, the number of marks that are not 0, and nothing else.
+use Prim.Native.Nat.{ℕ, suc, _+_, _*_, _-_, _/_, _<_, _≤_}
 use mathlib.Core.Bool.{Bool, true, false}
 use mathlib.Core.Path.{_≡_, refl, ap, _∙_}
 use mathlib.Core.List.{List, _++_}
@@ -7,8 +7,9 @@ use native.Mathlib.Omega.{arith}
 use lib.Dec.{ltb}
 use lib.ListN.{length, take, drop, getD, List·getD-append}
 use lib.Seq.{length-take-le, getD-append-add, getD-take, getD-drop, getD-set-same, getD-set-other}
-use borrow.Author.Tests.{lt-ltb, ltb-true, ltb-false}
-use Rattle.sectors.specs.Sectors.{withSector, stored}
+use borrow.Author.Tests.{eq-eqb, ne-eqb, lt-ltb, ltb-true, ltb-false}
+use Rattle.sectors.specs.Marks.{lowered}
+use Rattle.sectors.specs.Sectors.{withSector, StoreMarks, stored}
 use Rattle.sectors.specs.Stored.{SectorStored}
 
 module _ (store : List ℕ) (i : ℕ) (bytes : List ℕ) (h : 512 * i + 512 ≤ length store) (e : length bytes ≡ 512) where
@@ -43,15 +44,26 @@ module _ (store : List ℕ) (i : ℕ) (bytes : List ℕ) (h : 512 * i + 512 ≤ 
       ∙ getD-drop (512 * i + 512) store (n - 512 * i - 512) 0
       ∙ ap (λ (x : ℕ). getD store x 0) y
 
+lowered-not : (mark b : ℕ) → mark ≡ 0 → lowered mark b ≡ b
+unfolding lowered
+lowered-not mark b h = rw (eq-eqb mark 0 h) (omega arith)
+
+lowered-once : (mark b n : ℕ) → (mark ≡ 0 → ⊥) → b ≡ suc n → lowered mark b ≡ n
+unfolding lowered
+lowered-once mark b n h e = rw (ne-eqb mark 0 h) (omega arith)
+
 -- Of a store and marks that have sector i.
-pub stored-sector : (store marks : List ℕ) (i : ℕ) (bytes : List ℕ) → 512 * i + 512 ≤ length store → i < length marks → length bytes ≡ 512 →
-    SectorStored i bytes store marks (stored store marks i bytes)
-unfolding stored
-stored-sector store marks i bytes h l e =
-    rw (lt-ltb i (length store / 512) (omega arith), lt-ltb i (length marks) l)
+pub stored-sector : (k : StoreMarks) (i : ℕ) (bytes : List ℕ) → 512 * i + 512 ≤ length (k .store) → i < length (k .marks) → length bytes ≡ 512 →
+    SectorStored i bytes k (stored k i bytes)
+unfolding stored lowered
+stored-sector k i bytes h l e =
+    rw (lt-ltb i (length (k .store) / 512) (omega arith), lt-ltb i (length (k .marks)) l)
     (record {
-      stored = inside store i bytes h e;
-      marked = getD-set-same marks i 0 0 l;
-      others = λ n d. outside store i bytes h e (ltb n (512 * i)) n refl d;
-      otherMarks = λ j d. getD-set-other marks i j 0 0 d;
+      stored = inside (k .store) i bytes h e;
+      marked = getD-set-same (k .marks) i 0 0 l;
+      others = λ n d. outside (k .store) i bytes h e (ltb n (512 * i)) n refl d;
+      otherMarks = λ j d. getD-set-other (k .marks) i j 0 0 d;
+      soundBefore = λ z. lowered-not (getD (k .marks) i 0) (k .bad) z;
+      badBefore = λ d n z. lowered-once (getD (k .marks) i 0) (k .bad) n d z;
+      never = λ z. omega arith;
     })

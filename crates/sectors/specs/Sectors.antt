@@ -2,9 +2,10 @@
 use Prim.Native.Nat.{ℕ, _+_, _*_, _/_}
 use mathlib.Core.List.{List, _++_}
 use lib.Dec.{ltb}
-use lib.ListN.{length, set, take, drop}
+use lib.ListN.{length, set, getD, take, drop}
 use Rattle.ground.specs.Choice.{pick}
 use Rattle.ground.specs.Sizes.{sectorBytes}
+use Rattle.sectors.specs.Marks.{lowered}
 
 -- the bytes of sector i
 unfoldable pub sectorOf : List ℕ → ℕ → List ℕ
@@ -18,17 +19,18 @@ withSector store i bytes = take (sectorBytes * i) store ++ (bytes ++ drop (secto
 unfoldable pub bufferRead : List ℕ → ℕ → List ℕ → List ℕ
 bufferRead store i buffer = pick (ltb i (length store / sectorBytes)) (sectorOf store i) buffer
 
--- a store and its marks
+-- a store, its marks, and the number of them that are not 0, as the card keeps it
 pub record StoreMarks : Type 0 where
   pub store : List ℕ
   pub marks : List ℕ
+  pub bad : ℕ
 
-abbrev pub storeMarks : List ℕ → List ℕ → StoreMarks
-storeMarks s m = record { store = s; marks = m }
+abbrev pub storeMarks : List ℕ → List ℕ → ℕ → StoreMarks
+storeMarks s m b = record { store = s; marks = m; bad = b }
 
--- 01, "Commands": a sector is stored, and its mark set to 0
-unfoldable pub stored : List ℕ → List ℕ → ℕ → List ℕ → StoreMarks
-stored store marks i bytes =
-    pick (ltb i (length store / sectorBytes))
-    (pick (ltb i (length marks)) (storeMarks (withSector store i bytes) (set marks i 0)) (storeMarks store marks))
-    (storeMarks store marks)
+-- 01, "Commands": a sector is stored, and its mark set to 0; 02, "Eight": "writes and Erase can lower it", where that mark was not 0
+unfoldable pub stored : StoreMarks → ℕ → List ℕ → StoreMarks
+stored k i bytes =
+    pick (ltb i (length (k .store) / sectorBytes))
+    (pick (ltb i (length (k .marks))) (storeMarks (withSector (k .store) i bytes) (set (k .marks) i 0) (lowered (getD (k .marks) i 0) (k .bad))) k)
+    k

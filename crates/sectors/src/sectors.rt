@@ -54,15 +54,19 @@ pub fn fetch_sector(store: &[u8], i: usize, buffer: &mut Sector)
     }
 }
 
-// The bytes are stored as sector i, and its mark is cleared: the one place for a write and for Erase.
-pub fn store_sector(store: &mut [u8], marks: &mut [u8], i: usize, bytes: &Sector)
-    ensures { λ _. ⌜ storeMarks (now (store .exit)) (now (marks .exit)) ≡ stored (now (store .entry)) (now (marks .entry)) i (now (bytes .entry)) ⌝ }
+// The bytes are stored as sector i, its mark is cleared, and the number of marks that are not 0 is given as it is then: the one place for a write
+// and for Erase.
+pub fn store_sector(store: &mut [u8], marks: &mut [u8], bad: u16, i: usize, bytes: &Sector) -> u16
+    ensures { λ r. ⌜ storeMarks (now (store .exit)) (now (marks .exit)) r ≡ stored (storeMarks (now (store .entry)) (now (marks .entry)) bad) i (now (bytes .entry)) ⌝ }
 {
     let sectors = store.len() / SECTOR_BYTES;
     if i < sectors {
         if i < marks.len() {
+            let left = super::marks::lowered(marks[i], bad);
             put_sector(store, i, bytes);
             marks[i] = 0;
+            return left;
         }
     }
+    bad
 }

@@ -44,9 +44,9 @@ unfoldable pub sectorTest : Way → State → List ℕ → Tested
 sectorTest way s marks = markTested (allows way) (markEnd way) (addressTest s) marks
 
 -- a sector is stored, and its mark set to 0, unless a test fails
-abbrev pub storedBy : Tested → List ℕ → List ℕ → List ℕ → Left Tested StoreMarks
-storedBy (Passes spot) bytes store marks = leaving (Passes spot) (stored store marks (spot .index) bytes)
-storedBy (Fails e) bytes store marks = leaving (Fails e) (storeMarks store marks)
+abbrev pub storedBy : Tested → List ℕ → StoreMarks → Left Tested StoreMarks
+storedBy (Passes spot) bytes k = leaving (Passes spot) (stored k (spot .index) bytes)
+storedBy (Fails e) bytes k = leaving (Fails e) k
 
 unfoldable pub sectorStored : State → List ℕ → List ℕ → List ℕ → Left Tested StoreMarks
-sectorStored s bytes store marks = storedBy (sectorTest Out s marks) bytes store marks
+sectorStored s bytes store marks = storedBy (sectorTest Out s marks) bytes (storeMarks store marks (s .bad))

@@ -15,7 +15,7 @@ use Rattle.registers.specs.declared.Phase.the-variants.{Idle, DataIn, DataOut}
 use Rattle.registers.specs.declared.State.{State}
 use Rattle.registers.specs.declared.Core.{Core}
 use Rattle.registers.specs.Status.{dataStatus}
-use Rattle.registers.specs.State.{withStatus, withInterrupt, withCount, withAddress}
+use Rattle.registers.specs.State.{withStatus, withInterrupt, withCount, withAddress, withBad}
 use Rattle.registers.specs.Machine.{Machine, machine, core, withCore}
 use Rattle.transfers.specs.declared.End.the-variants.{Good}
 use Rattle.transfers.specs.declared.Tested.{Tested}
@@ -99,7 +99,7 @@ coreWritten (Passes spot) left s = nextAsked left s
 coreWritten (Fails e) left s = ended e s
 
 abbrev pub writtenBy : Left Tested StoreMarks → ℕ → Machine → Machine
-writtenBy k left m = machine (coreWritten (k .outcome) left (m .state)) (m .buffer) (k .next .store) (k .next .marks)
+writtenBy k left m = machine (coreWritten (k .outcome) left (withBad (k .next .bad) (m .state))) (m .buffer) (k .next .store) (k .next .marks)
 
 -- the last byte has come: "a sector is stored, and its mark set to 0, at its last byte only"
 abbrev pub loadWritten : Load → Machine → Machine

@@ -1,5 +1,6 @@
 // The tests before a sector, and its storing.
 use super::End;
+use super::Stored;
 use super::Tested;
 use super::Way;
 use geometry::Located;
@@ -57,15 +58,21 @@ pub fn sector_test(state: State, way: Way, marks: &[u8]) -> Tested
 }
 
 // The sector is stored and its mark cleared, unless a test fails: for a write and for Erase.
-pub fn sector_stored(state: State, bytes: &Sector, store: &mut [u8], marks: &mut [u8]) -> Tested
-    ensures { λ r. ⌜ leaving r (storeMarks (now (store .exit)) (now (marks .exit))) ≡ sectorStored state (now (bytes .entry)) (now (store .entry)) (now (marks .entry)) ⌝ }
+pub fn sector_stored(state: State, bytes: &Sector, store: &mut [u8], marks: &mut [u8]) -> Stored
+    ensures { λ r. ⌜ leaving (r .tested) (storeMarks (now (store .exit)) (now (marks .exit)) (r .bad)) ≡ sectorStored state (now (bytes .entry)) (now (store .entry)) (now (marks .entry)) ⌝ }
 {
     match sector_test(state, Way::Out, marks) {
         Tested::Passes(spot) => {
             let i = spot.index;
-            sectors::sectors::store_sector(store, marks, i, bytes);
-            Tested::Passes(spot)
+            let bad = sectors::sectors::store_sector(store, marks, state.bad, i, bytes);
+            Stored {
+                tested: Tested::Passes(spot),
+                bad: bad,
+            }
         }
-        Tested::Fails(end) => Tested::Fails(end),
+        Tested::Fails(end) => Stored {
+            tested: Tested::Fails(end),
+            bad: state.bad,
+        },
     }
 }

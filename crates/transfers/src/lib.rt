@@ -30,6 +30,12 @@ pub enum Tested {
     Fails(End),
 }
 
+// What storing a sector gives: what the tests before it said, and the number of marks that are not 0, as it is then.
+pub struct Stored {
+    pub tested: Tested,
+    pub bad: u16,
+}
+
 // Which way a sector or the buffer goes: in, where it is read (a sector also verified), or out, where it is written (a sector also erased).
 pub enum Way {
     In,

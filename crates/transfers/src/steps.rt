@@ -1,6 +1,7 @@
 // A transfer's start, and what the last byte of a sector does.
 use super::End;
 use super::Order;
+use super::Stored;
 use super::Tested;
 use super::Way;
 use ground::Sector;
@@ -12,8 +13,9 @@ use registers::State;
 use registers::Transfer;
 ghost use mathlib.Core.Path.{_≡_};
 ghost use Prim.Native.Nat.{_-_};
+ghost use Rattle.registers.specs.State.{withBad};
 ghost use Rattle.registers.specs.Machine.{machine};
-ghost use Rattle.transfers.specs.Steps.{idle, newTransfer, ready, interruptAsked, askedFor, sectorDone, readSector, nextRead, loadRead, askSector, nextAsked, loadWritten};
+ghost use Rattle.transfers.specs.Steps.{idle, newTransfer, ready, interruptAsked, askedFor, sectorDone, readSector, nextRead, loadRead, askSector, nextAsked, coreWritten, loadWritten};
 
 // ---- a transfer's start, and the sector after this one
 
@@ -154,6 +156,19 @@ fn next_asked(state: State, left: u16) -> Core
     ask_sector(next, left, Order::Later)
 }
 
+// With the number of marks that are not 0 as it is once the sector is stored.
+fn core_written(state: State, stored: Stored, left: u16) -> Core
+    ensures { λ r. ⌜ r ≡ coreWritten (stored .tested) left (withBad (stored .bad) state) ⌝ }
+{
+    let tested = stored.tested;
+    let mut s = state;
+    s.bad = stored.bad;
+    match tested {
+        Tested::Passes(_) => next_asked(s, left),
+        Tested::Fails(end) => super::ends::ended(s, end),
+    }
+}
+
 // The last byte of a sector or of the buffer has come: the sector is stored, and the next is asked for.
 pub fn load_written(
     state: State,
@@ -166,9 +181,9 @@ pub fn load_written(
 {
     match load {
         Load::Buffer => super::ends::ended(state, End::Good),
-        Load::Sectors(left) => match super::before::sector_stored(state, buffer, store, marks) {
-            Tested::Passes(_) => next_asked(state, less_one(left)),
-            Tested::Fails(end) => super::ends::ended(state, end),
-        },
+        Load::Sectors(left) => {
+            let stored = super::before::sector_stored(state, buffer, store, marks);
+            core_written(state, stored, less_one(left))
+        }
     }
 }

@@ -1,4 +1,4 @@
--- A card of a row of 30 numbers (Rows.antt), and a card with one field set.
+-- A card of a row of 31 numbers (Rows.antt), and a card with one field set.
 use Prim.Native.Nat.{ℕ, _+_, _*_, _%_}
 use mathlib.Core.Bool.{Bool, true}
 use mathlib.Core.List.{List, [], _∷_}
@@ -26,7 +26,7 @@ abbrev pub loadOf : ℕ → ℕ → Load
 loadOf n left = pick (eqb n 0) Buffer (Sectors left)
 
 abbrev pub madeOf : List ℕ → Made
-madeOf l = record { mode = modeOf (getD l 24 0); default = record { cylinders = getD l 21 0; heads = getD l 22 0; sectors = getD l 23 0 } }
+madeOf l = record { mode = modeOf (getD l 24 0); default = record { cylinders = getD l 30 0; heads = getD l 22 0; sectors = getD l 23 0 } }
 
 abbrev pub registersOf : List ℕ → Registers
 registersOf l =
@@ -47,6 +47,7 @@ stateOf l =
       control = record { held = eqb (getD l 28 0 % 2) 1; masked = eqb (getD l 29 0 % 2) 1 };
       interrupt = eqb (getD l 13 0 % 2) 1;
       code = getD l 12 0 % 256;
+      bad = getD l 21 0;
     }
 
 abbrev pub transferOf : List ℕ → Transfer
@@ -65,7 +66,7 @@ cardFromRow l buffer = record { phase = phaseOf l; state = stateOf l; buffer = b
 
 -- where the row has each field of oracle/TRIAL.md, from field 0, which is none
 abbrev pub places : List ℕ
-places = 0 ∷ 21 ∷ 22 ∷ 23 ∷ 14 ∷ 15 ∷ 16 ∷ 26 ∷ 27 ∷ 28 ∷ 29 ∷ 13 ∷ 3 ∷ 4 ∷ 5 ∷ 6 ∷ 7 ∷ 8 ∷ 9 ∷ 12 ∷ 18 ∷ 19 ∷ 20 ∷ 24 ∷ 17 ∷ 25 ∷ []
+places = 0 ∷ 30 ∷ 22 ∷ 23 ∷ 14 ∷ 15 ∷ 16 ∷ 26 ∷ 27 ∷ 28 ∷ 29 ∷ 13 ∷ 3 ∷ 4 ∷ 5 ∷ 6 ∷ 7 ∷ 8 ∷ 9 ∷ 12 ∷ 18 ∷ 19 ∷ 20 ∷ 24 ∷ 17 ∷ 25 ∷ 21 ∷ []
 
 -- a half word and a phase are at most 2, a mode and what a transfer moves at most 1
 abbrev pub takenOf : ℕ → ℕ → Bool
@@ -77,7 +78,7 @@ abbrev pub placeOf : ℕ → ℕ → ℕ
 placeOf field value = pick (takenOf field value) (getD places field 0) 0
 
 abbrev pub withNumber : List ℕ → ℕ → ℕ → List ℕ
-withNumber l at value = pick (ltb at 30) (set l at value) l
+withNumber l at value = pick (ltb at 31) (set l at value) l
 
 unfoldable pub brokenOf : Card → ℕ → ℕ → Card
 brokenOf c field value = cardFromRow (withNumber (rowOf c) (placeOf field value) value) (c .buffer)

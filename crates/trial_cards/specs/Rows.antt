@@ -1,4 +1,4 @@
--- The card value as a row of 30 numbers: 0 to 2 are for an answer, 3 to 20 are the card's as the A line of oracle/TRIAL.md shows them, the rest are what it does not show.
+-- The card value as a row of 31 numbers: 0 to 2 are for an answer, 3 to 21 are the card's as the A line of oracle/TRIAL.md shows them, the rest are what it does not show.
 use Prim.Native.Nat.{ℕ, _+_, _*_, _/_, _%_}
 use mathlib.Core.Bool.{Bool, true, false}
 use mathlib.Core.List.{List}
@@ -42,13 +42,13 @@ withOption l o k =
 
 abbrev pub withMade : List ℕ → Made → List ℕ
 withMade l m =
-    set (set (set (set l 21 (m .default .cylinders)) 22 (m .default .heads)) 23 (m .default .sectors)) 24 (modeNumber (m .mode))
+    set (set (set (set l 30 (m .default .cylinders)) 22 (m .default .heads)) 23 (m .default .sectors)) 24 (modeNumber (m .mode))
 
 abbrev pub stateRow : State → List ℕ
 stateRow s =
     withOption
     (withRegisters
-    (set (set (set (set (set (withMade (replicate 30 0) (s .made)) 12 (s .code)) 13 (oneOf (s .interrupt))) 14 (s .current .cylinders)) 15 (s .current .heads)) 16 (s .current .sectors))
+    (set (set (set (set (set (set (withMade (replicate 31 0) (s .made)) 12 (s .code)) 13 (oneOf (s .interrupt))) 14 (s .current .cylinders)) 15 (s .current .heads)) 16 (s .current .sectors)) 21 (s .bad))
     (s .registers))
     (s .option)
     (s .control)

@@ -1,4 +1,4 @@
-// A card of a row of 30 numbers, and a card with one field set.
+// A card of a row of 31 numbers, and a card with one field set.
 use card::Card;
 use geometry::Address;
 use geometry::Geometry;
@@ -37,20 +37,20 @@ fn load_of(n: u16, left: u16) -> Load
     Load::Sectors(left)
 }
 
-fn made_of(row: [u16; 30]) -> Made
+fn made_of(row: [u16; 31]) -> Made
     ensures { λ r. ⌜ r ≡ madeOf row ⌝ }
 {
     Made {
         mode: card::opening::mode_of(row[24]),
         default: Geometry {
-            cylinders: row[21],
+            cylinders: row[30],
             heads: row[22],
             sectors: row[23],
         },
     }
 }
 
-fn registers_of(row: [u16; 30]) -> Registers
+fn registers_of(row: [u16; 31]) -> Registers
     ensures { λ r. ⌜ r ≡ registersOf row ⌝ }
 {
     Registers {
@@ -66,7 +66,7 @@ fn registers_of(row: [u16; 30]) -> Registers
     }
 }
 
-fn state_of(row: [u16; 30]) -> State
+fn state_of(row: [u16; 31]) -> State
     ensures { λ r. ⌜ r ≡ stateOf row ⌝ }
 {
     State {
@@ -84,6 +84,7 @@ fn state_of(row: [u16; 30]) -> State
         },
         interrupt: row[13] % 2 == 1,
         code: (row[12] % 256) as u8,
+        bad: row[21],
     }
 }
 
@@ -99,7 +100,7 @@ fn phase_with(n: u16, t: Transfer) -> Phase
     Phase::DataOut(t)
 }
 
-fn phase_of(row: [u16; 30]) -> Phase
+fn phase_of(row: [u16; 31]) -> Phase
     ensures { λ r. ⌜ r ≡ phaseOf row ⌝ }
 {
     let t = Transfer {
@@ -110,7 +111,7 @@ fn phase_of(row: [u16; 30]) -> Phase
     phase_with(row[17], t)
 }
 
-fn card_from_row(row: [u16; 30], buffer: Sector) -> Card
+fn card_from_row(row: [u16; 31], buffer: Sector) -> Card
     ensures { λ r. ⌜ r ≡ cardFromRow row buffer ⌝ }
 {
     let phase = phase_of(row);
@@ -149,18 +150,18 @@ fn place_of(field: u16, value: u16) -> usize
 {
     if taken_of(field, value) {
         return ground::byte_or_zero(
-            b"\x00\x15\x16\x17\x0E\x0F\x10\x1A\x1B\x1C\x1D\x0D\x03\x04\x05\x06\x07\x08\x09\x0C\x12\x13\x14\x18\x11\x19",
+            b"\x00\x1E\x16\x17\x0E\x0F\x10\x1A\x1B\x1C\x1D\x0D\x03\x04\x05\x06\x07\x08\x09\x0C\x12\x13\x14\x18\x11\x19\x15",
             field as usize,
         ) as usize;
     }
     0
 }
 
-fn with_number(row: [u16; 30], at: usize, value: u16) -> [u16; 30]
+fn with_number(row: [u16; 31], at: usize, value: u16) -> [u16; 31]
     ensures { λ r. ⌜ r ≡ withNumber row at value ⌝ }
 {
     let mut r = row;
-    if at < 30 {
+    if at < 31 {
         r[at] = value;
     }
     r
@@ -180,5 +181,5 @@ pub fn broken_of(card: Card, field: u16, value: u16) -> Card
 pub fn zero() -> Card
     ensures { λ r. ⌜ r ≡ zeroCard ⌝ }
 {
-    card_from_row([0; 30], [0; SECTOR_BYTES])
+    card_from_row([0; 31], [0; SECTOR_BYTES])
 }

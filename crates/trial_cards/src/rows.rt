@@ -1,4 +1,4 @@
-// The card value as a row of 30 numbers.
+// The card value as a row of 31 numbers.
 use card::Card;
 use maps::Mode;
 use registers::Control;
@@ -41,7 +41,7 @@ fn half_number(half: Half) -> u16
     }
 }
 
-fn with_registers(row: [u16; 30], registers: Registers) -> [u16; 30]
+fn with_registers(row: [u16; 31], registers: Registers) -> [u16; 31]
     ensures { λ r. ⌜ r ≡ withRegisters row registers ⌝ }
 {
     let address = registers.address;
@@ -56,7 +56,7 @@ fn with_registers(row: [u16; 30], registers: Registers) -> [u16; 30]
     r
 }
 
-fn with_option(row: [u16; 30], option: u8, control: Control) -> [u16; 30]
+fn with_option(row: [u16; 31], option: u8, control: Control) -> [u16; 31]
     ensures { λ r. ⌜ r ≡ withOption row option control ⌝ }
 {
     let held = one_of(control.held);
@@ -71,29 +71,30 @@ fn with_option(row: [u16; 30], option: u8, control: Control) -> [u16; 30]
     r
 }
 
-fn with_made(row: [u16; 30], made: Made) -> [u16; 30]
+fn with_made(row: [u16; 31], made: Made) -> [u16; 31]
     ensures { λ r. ⌜ r ≡ withMade row made ⌝ }
 {
     let mode = made.mode;
     let default = made.default;
     let mut r = row;
-    r[21] = default.cylinders;
+    r[30] = default.cylinders;
     r[22] = default.heads;
     r[23] = default.sectors;
     r[24] = mode_number(mode);
     r
 }
 
-fn state_row(state: State) -> [u16; 30]
+fn state_row(state: State) -> [u16; 31]
     ensures { λ r. ⌜ r ≡ stateRow state ⌝ }
 {
     let current = state.current;
-    let mut r = with_made([0; 30], state.made);
+    let mut r = with_made([0; 31], state.made);
     r[12] = ground::wide(state.code);
     r[13] = one_of(state.interrupt);
     r[14] = current.cylinders;
     r[15] = current.heads;
     r[16] = current.sectors;
+    r[21] = state.bad;
     with_option(
         with_registers(r, state.registers),
         state.option,
@@ -101,7 +102,7 @@ fn state_row(state: State) -> [u16; 30]
     )
 }
 
-fn with_load(row: [u16; 30], load: Load) -> [u16; 30]
+fn with_load(row: [u16; 31], load: Load) -> [u16; 31]
     ensures { λ r. ⌜ r ≡ withLoad row load ⌝ }
 {
     let mut r = row;
@@ -115,7 +116,7 @@ fn with_load(row: [u16; 30], load: Load) -> [u16; 30]
     }
 }
 
-fn with_transfer(row: [u16; 30], phase: u16, t: Transfer) -> [u16; 30]
+fn with_transfer(row: [u16; 31], phase: u16, t: Transfer) -> [u16; 31]
     ensures { λ r. ⌜ r ≡ withTransfer row phase t ⌝ }
 {
     let half = t.half;
@@ -127,7 +128,7 @@ fn with_transfer(row: [u16; 30], phase: u16, t: Transfer) -> [u16; 30]
     with_load(r, load)
 }
 
-fn with_phase(row: [u16; 30], phase: Phase) -> [u16; 30]
+fn with_phase(row: [u16; 31], phase: Phase) -> [u16; 31]
     ensures { λ r. ⌜ r ≡ withPhase row phase ⌝ }
 {
     match phase {
@@ -137,7 +138,7 @@ fn with_phase(row: [u16; 30], phase: Phase) -> [u16; 30]
     }
 }
 
-pub fn row_of(card: Card) -> [u16; 30]
+pub fn row_of(card: Card) -> [u16; 31]
     ensures { λ r. ⌜ r ≡ rowOf card ⌝ }
 {
     let state = card.state;

@@ -12,6 +12,7 @@ use borrow.Author.Tests.{eq-eqb, ne-eqb, le-leb, lt-leb}
 use Rattle.ground.proofs.Picks.{un-not}
 use Rattle.geometry.specs.declared.Geometry.{Geometry}
 use Rattle.geometry.specs.Limits.{fits, totalOf}
+use Rattle.sectors.specs.declared.marks.Counted.{Counted}
 use Rattle.card.specs.Opening.{opened}
 use borrow.Author.Needs.{needs}
 use Rattle.card.proofs.Card.open.Statement.{statement}
@@ -98,8 +99,8 @@ returns-5 c =
     let c5 = c2 .before .before .before in
     said _ _ (simp (limits-passed (c5 .before), mode-passed c5, store-passed (c2 .before), marks-passed c2, ne-eqb _ _ (c .before .if5 .taken), c .open-refused5 .ensures))
 
-marks-fit-requires : tie.Need-marks-fit-requires
-marks-fit-requires c κs = search needs
+count-requires : tie.Need-count-requires
+count-requires c κs = search needs
 
 open-refused-requires-6 : tie.Need-open-refused-requires-6
 open-refused-requires-6 c κs = search needs
@@ -107,14 +108,17 @@ open-refused-requires-6 c κs = search needs
 returns-6 : tie.Need-returns-6
 unfolding opened
 returns-6 c =
-    let c3 = c .before .before .before in
-    let c4 = c3 .before in
-    let c7 = c4 .before .before .before in
-    let m = sym (c .before .before .marks-fit .ensures) ∙ un-not _ _ (c .before .if6 .taken) in
-    said _ _ (simp (limits-passed (c7 .before), mode-passed c7, store-passed (c4 .before), marks-passed c4, tuples-passed c3, m, c .open-refused6 .ensures))
+    let c4 = c .before .before .before .before in
+    let c5 = c4 .before in
+    let c8 = c5 .before .before .before in
+    let m = sym (ap (λ (k : Counted). k .fit) (c .before .before .before .count .ensures .0)) ∙ un-not _ _ (c .before .if6 .taken) in
+    said _ _ (simp (limits-passed (c8 .before), mode-passed c8, store-passed (c5 .before), marks-passed c5, tuples-passed c4, m, c .open-refused6 .ensures))
 
 mode-of-requires : tie.Need-mode-of-requires
 mode-of-requires c κs = search needs
+
+cast-powered : tie.Need-cast-powered
+cast-powered c = search needs
 
 powered-requires : tie.Need-powered-requires
 powered-requires c κs = search needs
@@ -128,13 +132,16 @@ answer-requires c κs = search needs
 returns-7 : tie.Need-returns-7
 unfolding opened zeros
 returns-7 c =
-    let c6 = c .before .before .before .before .before .before in
-    let c7 = c6 .before in
-    let c10 = c7 .before .before .before in
-    let m = sym (c .before .before .before .before .before .marks-fit .ensures) ∙ un-not _ _ (c .before .before .before .before .if6 .left) in
-    let p = simp (c .before .before .before .mode-of .ensures) at (c .before .before .powered .ensures) in
+    let c4 = c .before .before .before .before in
+    let c7 = c4 .before .before .before in
+    let c8 = c7 .before in
+    let c9 = c8 .before in
+    let c12 = c9 .before .before .before in
+    let m = sym (ap (λ (k : Counted). k .fit) (c7 .count .ensures .0)) ∙ un-not _ _ (c4 .before .if6 .left) in
+    let n = ap (λ (k : Counted). k .bad) (c7 .count .ensures .0) in
+    let p = simp (c4 .mode-of .ensures, n) at (c .before .before .powered .ensures) in
     said _ _
-    (simp (limits-passed (c10 .before), mode-passed c10, store-passed (c7 .before), marks-passed c7, tuples-passed c6, m, c .answer .ensures, c .before .accepted .ensures)
+    (simp (limits-passed (c12 .before), mode-passed c12, store-passed (c9 .before), marks-passed c9, tuples-passed c8, m, c .answer .ensures, c .before .accepted .ensures)
     (ap (answer (Accepted 0)) p))
 
 pub open-spec : {M : Type 1} → statement M
@@ -155,10 +162,11 @@ open-spec =
     returns-4
     open-refused-requires-5
     returns-5
-    marks-fit-requires
+    count-requires
     open-refused-requires-6
     returns-6
     mode-of-requires
+    cast-powered
     powered-requires
     accepted-requires
     answer-requires

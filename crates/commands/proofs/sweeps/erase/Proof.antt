@@ -42,11 +42,11 @@ loop-again c =
     let e = simp (c .before .enum-told .given .1) at (t .ensures) in (
       k .0 ∙ l .inv .0,
       k .1 .0 ∙ l .inv .1,
-      rw (c .sector-done .ensures) (sym (erase-step _ _ _ _ _ _ _ (c11 .loop-test .taken) e) ∙ l .inv .2),
+      rw (c .sector-done .ensures) (sym (erase-step _ _ _ _ _ _ _ _ (c11 .loop-test .taken) e) ∙ l .inv .2),
     )
 
-enum-known-end : tie.Need-enum-known-end Inv-loop μ-loop
-enum-known-end c = search needs
+enum-known-tested : tie.Need-enum-known-tested Inv-loop μ-loop
+enum-known-tested c = search needs
 
 ended-requires : tie.Need-ended-requires Inv-loop μ-loop
 ended-requires c κs = search needs
@@ -63,8 +63,8 @@ returns c =
     let c8 = c .before .before .before .before .before .before .before .before in
     let c12 = c8 .before .before .before .before in
     let c13 = c12 .before in
-    let e = simp (c .before .before .end .given .1) at (c8 .sector-stored .ensures) in
-    simp (c .ended .ensures) (sym (erase-fails _ _ _ _ _ _ _ (c12 .loop-test .taken) e) ∙ c13 .loop .inv .2)
+    let e = simp (c .before .before .tested .given .1) at (c8 .sector-stored .ensures) in
+    simp (c .ended .ensures) (sym (erase-fails _ _ _ _ _ _ _ _ (c12 .loop-test .taken) e) ∙ c13 .loop .inv .2)
 
 ended-requires-2 : tie.Need-ended-requires-2 Inv-loop μ-loop
 ended-requires-2 c κs = search needs
@@ -93,7 +93,7 @@ erase-spec =
     sector-done-requires
     loop-less
     loop-again
-    enum-known-end
+    enum-known-tested
     ended-requires
     same-length
     same-length-2

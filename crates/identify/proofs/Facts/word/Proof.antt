@@ -1,12 +1,13 @@
 use Prim.Native.Nat.{ℕ, _<_, _≤_}
 use mathlib.Core.Bool.{Bool, true, false, _&&_}
-use mathlib.Core.Path.{_≡_, refl, sym}
+use mathlib.Core.Path.{_≡_, refl, sym, _∙_}
 use native.Mathlib.Omega.{arith}
 use lib.Dec.{eqb, leb}
 use borrow.Author.Tests.{ne-eqb, lt-leb}
 use Rattle.identify.specs.declared.Facts.{Facts}
+use Rattle.ground.specs.Tables.{lookup}
 use Rattle.ground.proofs.Tests.{tests}
-use Rattle.identify.specs.Words.{identifyWord}
+use Rattle.identify.specs.Words.{fromWord129, identifyWord}
 use borrow.Author.Needs.{needs}
 use Rattle.identify.proofs.Facts.word.Statement.{statement}
 use Rattle.identify.proofs.Facts.word.Tie as tie
@@ -15,14 +16,14 @@ and-false : (b : Bool) → (b && false) ≡ false
 and-false true = refl
 and-false false = refl
 
--- "the rest 0": past the last row no row names the number
+-- past word 61 only the rows from word 129 on can name the number
 none : (n : ℕ) → 61 < n → (k : ℕ) → k ≤ 61 → eqb n k ≡ false
 none n h k l = ne-eqb n k (λ e. omega arith)
 
 none-through : (n : ℕ) → 61 < n → (k j : ℕ) → j ≤ 61 → (leb k n && leb n j) ≡ false
 none-through n h k j l = rw (lt-leb n j (omega arith)) (and-false (leb k n))
 
-past : (f : Facts) (n : ℕ) → 61 < n → identifyWord f n ≡ 0
+past : (f : Facts) (n : ℕ) → 61 < n → identifyWord f n ≡ lookup (fromWord129 f) n 0
 unfolding identifyWord
 past f n h =
     let at = none n h in
@@ -49,8 +50,11 @@ past f n h =
     )
     refl
 
+last-word-requires : tie.Need-last-word-requires
+last-word-requires c κs = search needs
+
 returns : tie.Need-returns
-returns c = sym (past _ _ (c .if1 .taken))
+returns c = c .last-word .ensures ∙ sym (past _ _ (c .before .if1 .taken))
 
 returns-2 : tie.Need-returns-2
 unfolding identifyWord
@@ -99,6 +103,7 @@ pub word-spec : {M : Type 1} → statement M
 word-spec =
     tie.close
     (tie.spec
+    last-word-requires
     returns
     returns-2
     returns-3

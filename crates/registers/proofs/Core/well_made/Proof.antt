@@ -69,12 +69,18 @@ returns-8 : tie.Need-returns-8
 unfolding wellMade
 returns-8 c = sym (one-fails _ 7 (sym (c .before .run-fits .ensures) ∙ un-not _ _ (c .if8 .taken)))
 
+bad-fits-requires : tie.Need-bad-fits-requires
+bad-fits-requires c κs = search needs
+
 returns-9 : tie.Need-returns-9
+unfolding wellMade
+returns-9 c = sym (one-fails _ 8 (sym (c .before .bad-fits .ensures) ∙ un-not _ _ (c .if9 .taken)))
+
+returns-10 : tie.Need-returns-10
 unfolding wellMade every
-returns-9 c =
-    let c4 = c .before .before .before .before in
-    let c5 = c4 .before in
-    let c6 = c5 .before in
+returns-10 c =
+    let c2 = c .before .before in
+    let c6 = c2 .before .before .before .before in
     let c7 = c6 .before in
     let c8 = c7 .before in
     let c9 = c8 .before in
@@ -86,15 +92,18 @@ returns-9 c =
     let c15 = c14 .before in
     let c16 = c15 .before in
     let c17 = c16 .before in
-    let w1 = sym (c17 .fits2 .ensures) ∙ un-not _ _ (c16 .if1 .left) in
-    let w2 = sym (simp (c15 .total .ensures) at (c14 .current-for .ensures)) ∙ un-not _ _ (c13 .if2 .left) in
-    let w3 = sym (c12 .index-fits .ensures) ∙ un-not _ _ (c11 .if3 .left) in
-    let w4 = sym (c10 .sreset-fits .ensures) ∙ un-not _ _ (c9 .if4 .left) in
-    let w5 = sym (c8 .status-fits .ensures) ∙ un-not _ _ (c7 .if5 .left) in
-    let w6 = sym (simp (c6 .in-reset .ensures) at (c5 .hold-fits .ensures)) ∙ un-not _ _ (c4 .if6 .left) in
-    let w7 = sym (c .before .before .before .words-fit .ensures) ∙ un-not _ _ (c .before .before .if7 .left) in
-    let w8 = sym (c .before .run-fits .ensures) ∙ un-not _ _ (c .if8 .left) in
-    simp (w1, w2, w3, w4, w5, w6, w7, w8)
+    let c18 = c17 .before in
+    let c19 = c18 .before in
+    let w1 = sym (c19 .fits2 .ensures) ∙ un-not _ _ (c18 .if1 .left) in
+    let w2 = sym (simp (c17 .total .ensures) at (c16 .current-for .ensures)) ∙ un-not _ _ (c15 .if2 .left) in
+    let w3 = sym (c14 .index-fits .ensures) ∙ un-not _ _ (c13 .if3 .left) in
+    let w4 = sym (c12 .sreset-fits .ensures) ∙ un-not _ _ (c11 .if4 .left) in
+    let w5 = sym (c10 .status-fits .ensures) ∙ un-not _ _ (c9 .if5 .left) in
+    let w6 = sym (simp (c8 .in-reset .ensures) at (c7 .hold-fits .ensures)) ∙ un-not _ _ (c6 .if6 .left) in
+    let w7 = sym (c2 .before .before .before .words-fit .ensures) ∙ un-not _ _ (c2 .before .before .if7 .left) in
+    let w8 = sym (c2 .before .run-fits .ensures) ∙ un-not _ _ (c2 .if8 .left) in
+    let w9 = sym (c .before .bad-fits .ensures) ∙ un-not _ _ (c .if9 .left) in
+    simp (w1, w2, w3, w4, w5, w6, w7, w8, w9)
 
 pub well-made-spec : {M : Type 1} → statement M
 well-made-spec =
@@ -118,4 +127,6 @@ well-made-spec =
     returns-7
     run-fits-requires
     returns-8
-    returns-9)
+    bad-fits-requires
+    returns-9
+    returns-10)

@@ -4,6 +4,12 @@ use borrow.Author.Needs.{needs}
 use Rattle.sectors.proofs.sectors.store_sector.Statement.{statement}
 use Rattle.sectors.proofs.sectors.store_sector.Tie as tie
 
+slice-read-lowered : tie.Need-slice-read-lowered
+slice-read-lowered c = search needs
+
+lowered-requires : tie.Need-lowered-requires
+lowered-requires c κs = search needs
+
 put-sector-requires : tie.Need-put-sector-requires
 put-sector-requires c κs = search needs
 
@@ -18,7 +24,9 @@ same-length-2 c = search needs
 
 returns : tie.Need-returns
 unfolding stored
-returns c = simp (lt-ltb _ _ (c .before .before .before .before .before .if1 .taken), lt-ltb _ _ (c .before .before .before .before .if2 .taken), c .before .before .put-sector .ensures)
+returns c =
+    let c4 = c .before .before .before .before in
+    simp (lt-ltb _ _ (c4 .before .before .before .if1 .taken), lt-ltb _ _ (c4 .before .before .if2 .taken), c4 .lowered .ensures, c .before .before .put-sector .ensures)
 
 returns-2 : tie.Need-returns-2
 unfolding stored
@@ -32,6 +40,8 @@ pub store-sector-spec : {M : Type 1} → statement M
 store-sector-spec =
     tie.close
     (tie.spec
+    slice-read-lowered
+    lowered-requires
     put-sector-requires
     slice-write-marks
     same-length

@@ -47,6 +47,9 @@ array-read-t46 c = search needs
 cast-t48 : tie.Need-cast-t48
 cast-t48 c = search needs
 
+array-read-t51 : tie.Need-array-read-t51
+array-read-t51 c = search needs
+
 returns : tie.Need-returns
 returns c = simp (c .registers-of .ensures, c .before .made-of .ensures)
 
@@ -69,4 +72,5 @@ state-of-spec =
     array-read-t41
     array-read-t46
     cast-t48
+    array-read-t51
     returns)

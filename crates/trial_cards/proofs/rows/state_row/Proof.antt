@@ -26,6 +26,9 @@ array-write-r-4 c = search needs
 array-write-r-5 : tie.Need-array-write-r-5
 array-write-r-5 c = search needs
 
+array-write-r-6 : tie.Need-array-write-r-6
+array-write-r-6 c = search needs
+
 with-registers-requires : tie.Need-with-registers-requires
 with-registers-requires c κs = search needs
 
@@ -49,6 +52,7 @@ state-row-spec =
     array-write-r-3
     array-write-r-4
     array-write-r-5
+    array-write-r-6
     with-registers-requires
     with-option-requires
     returns)
