@@ -107,7 +107,7 @@ pub struct Card {
     /// The extended error code.
     pub code: u8,
     pub buffer: [u8; 512],
-    /// The number of marks that are not 0, as the card keeps it.
+    /// The number of bad sectors, those whose mark is not 0, as the card keeps it.
     pub bad: u16,
     pub phase: Phase,
     /// The running transfer moves sectors, not the buffer alone.
@@ -118,7 +118,7 @@ pub struct Card {
     pub trace: Trace,
 }
 
-/// What the coverage table alone asks of a card.
+/// What the coverage table and the small changes alone ask of a card.
 #[derive(Clone, Default, Debug)]
 pub struct Trace {
     /// The buffer on its way to the host is Identify's.
@@ -127,10 +127,22 @@ pub struct Trace {
     pub shown: Option<Geometry>,
     /// Word 129 when it was last read.
     pub told: Option<u16>,
-    /// What has kept the count since it was last lowered or read.
+    /// What has kept the number of bad sectors since it was last lowered or read.
     pub kept: Option<Kept>,
-    /// How often the present command has lowered the count.
+    /// How often the present command has lowered it.
     pub lowered: u16,
+    /// A write that runs: when its command was given.
+    pub given: Then,
+    /// The same: when its present sector was asked for, and whether that is the command's first.
+    pub asked: Then,
+    pub first: bool,
+}
+
+/// The marks and the number of bad sectors as they were once; no marks, if it is not known.
+#[derive(Clone, Default, Debug)]
+pub struct Then {
+    pub marks: Vec<u8>,
+    pub bad: u16,
 }
 
 pub const IDLE: u8 = 0x50;
@@ -178,7 +190,7 @@ impl Card {
             card.mode = if mode == 1 { Mode::TrueIde } else { Mode::PcCard };
             card.default = geometry;
             card.power_on(0);
-            card.bad = opening_count(lent.marks);
+            card.bad = opening_bad(lent.marks);
             cover::opened(lent.marks);
         } else {
             cover::refusal(number);
@@ -186,7 +198,7 @@ impl Card {
         (Answer { number, value: 0, line: false }, card)
     }
 
-    /// Power-on, with the map setting given. The count is the opening's alone: "resets keep it".
+    /// Power-on, with the map setting given. "resets keep it": the number of bad sectors stays.
     pub fn power_on(&mut self, setting: u8) {
         self.power_on_registers();
         self.buffer = [0; 512];
@@ -216,6 +228,8 @@ impl Card {
         self.sectors = false;
         self.left = 0;
         self.words = 0;
+        self.trace.given = Then::default();
+        self.trace.asked = Then::default();
         if !on(Change::HalfOutlives) {
             self.half = Half::Nothing;
         }
@@ -266,15 +280,15 @@ fn opening_refusal(geometry: Geometry, mode: u16, lent: &Lent) -> u8 {
     0
 }
 
-/// How many of the marks are not 0.
-pub fn bad_marks(marks: &[u8]) -> u16 {
+/// How many sectors are bad: their marks are not 0.
+pub fn bad_sectors(marks: &[u8]) -> u16 {
     marks.iter().filter(|&&mark| mark != 0).count() as u16
 }
 
 /// "the number of marks that are not 0, worked out at opening".
-fn opening_count(marks: &[u8]) -> u16 {
+fn opening_bad(marks: &[u8]) -> u16 {
     let twos = marks.iter().filter(|&&mark| mark == 2).count() as u16;
-    let bad = bad_marks(marks);
+    let bad = bad_sectors(marks);
     if on(Change::OpeningOmitsTwo) {
         bad - twos
     } else if on(Change::OpeningDoublesTwo) {
@@ -325,8 +339,8 @@ pub enum Condition {
     Words,
     /// A sector transfer's address and count.
     Sectors,
-    /// The count of the marks that are not 0 is at most N.
-    Count,
+    /// The number of bad sectors is at most N.
+    Bad,
 }
 
 const CONDITIONS: [Condition; 11] = [
@@ -340,7 +354,7 @@ const CONDITIONS: [Condition; 11] = [
     Condition::Held,
     Condition::Words,
     Condition::Sectors,
-    Condition::Count,
+    Condition::Bad,
 ];
 
 impl Card {
@@ -356,7 +370,7 @@ impl Card {
             Condition::Held => !self.running() || !(self.sreset || self.hold),
             Condition::Words => !self.running() || self.words <= 255,
             Condition::Sectors => self.sectors_agree(),
-            Condition::Count => self.count_fits(),
+            Condition::Bad => self.bad_fits(),
         }
     }
 
@@ -370,7 +384,7 @@ impl Card {
         }
         broken == [Condition::Status] && on(Change::StatusIgnored)
             || broken == [Condition::Sectors] && on(Change::SectorsIgnored)
-            || broken == [Condition::Count] && on(Change::CountIgnored)
+            || broken == [Condition::Bad] && on(Change::BadIgnored)
     }
 
     fn current_c_agrees(&self) -> bool {
@@ -397,9 +411,9 @@ impl Card {
     }
 
     /// "at most N", whatever the marks and the current geometry are.
-    fn count_fits(&self) -> bool {
-        let of = if on(Change::CountByCurrent) { self.current } else { self.default };
-        let bad = self.bad as u64 + on(Change::CountBelowTotal) as u64;
+    fn bad_fits(&self) -> bool {
+        let of = if on(Change::BadByCurrent) { self.current } else { self.default };
+        let bad = self.bad as u64 + on(Change::BadBelowTotal) as u64;
         bad <= of.sectors()
     }
 }

@@ -1,6 +1,6 @@
 //! The commands of 01's table, and what follows the last byte of a sector.
 
-use crate::card::{bad_marks, Card, Geometry, Lent, Phase, DATA, FAILED, FAULT, IDLE};
+use crate::card::{bad_sectors, Card, Geometry, Lent, Phase, Then, DATA, FAILED, FAULT, IDLE};
 use crate::cover;
 use crate::mutants::{on, Change};
 use crate::points::Kept;
@@ -61,8 +61,8 @@ impl Card {
             self.store_buffer(lent);
         }
         self.keep_dropped(Kept::Dropped, lent);
-        if on(Change::DropLowersCount) && self.would_heal(lent) {
-            self.lower_count();
+        if on(Change::DropLowersBad) && self.would_heal(lent) {
+            self.lower_bad();
         }
         self.mark = false;
         self.trace.lowered = 0;
@@ -139,7 +139,7 @@ impl Card {
     }
 
     fn diagnose(&mut self, lent: &Lent) {
-        self.keep_count(Kept::Diagnose, lent);
+        self.keep_bad(Kept::Diagnose, lent);
         self.count = 1;
         self.sector = 1;
         self.cyl_low = 0;
@@ -148,11 +148,11 @@ impl Card {
         if on(Change::DiagnoseForgetsGeometry) {
             self.current = self.default;
         }
-        if on(Change::DiagnoseClearsCount) {
+        if on(Change::DiagnoseClearsBad) {
             self.bad = 0;
         }
         if on(Change::DiagnoseRecounts) {
-            self.bad = bad_marks(lent.marks);
+            self.bad = bad_sectors(lent.marks);
         }
         self.good(Row::Diagnose);
         self.error = 1;
@@ -164,12 +164,12 @@ impl Card {
         let track = (h * s) as u64;
         let all = if on(Change::ParametersByCurrent) { self.current } else { self.default };
         if s == 0 || track > all.sectors() {
-            self.keep_count(Kept::ParametersRefused, lent);
+            self.keep_bad(Kept::ParametersRefused, lent);
             return self.fail(Row::Parameters, FAILED, ABRT, 0x21);
         }
-        self.keep_count(Kept::Parameters, lent);
+        self.keep_bad(Kept::Parameters, lent);
         if on(Change::ParametersRecount) {
-            self.bad = bad_marks(lent.marks);
+            self.bad = bad_sectors(lent.marks);
         }
         let c = (self.default.sectors() / track) as u16;
         self.current = Geometry::new(c, h, s);
@@ -283,7 +283,7 @@ impl Card {
         };
         match row {
             Row::Read => self.read_sector(lent),
-            Row::Write => self.ask_sector(lent),
+            Row::Write => self.ask_first(lent),
             _ => while self.quiet_sector(row, lent) {},
         }
     }
@@ -298,6 +298,12 @@ impl Card {
         self.offer();
     }
 
+    fn ask_first(&mut self, lent: &Lent) {
+        self.trace.given = self.then(lent);
+        self.trace.first = true;
+        self.ask_sector(lent);
+    }
+
     /// Asks for the present sector of a write, if there is such a sector.
     fn ask_sector(&mut self, lent: &Lent) {
         match self.locate() {
@@ -305,8 +311,9 @@ impl Card {
             Ok(_) => {
                 self.sectors = true;
                 self.ask();
-                if on(Change::CountLoweredEarly) && self.would_heal(lent) {
-                    self.lower_count();
+                self.trace.asked = self.then(lent);
+                if on(Change::BadLoweredEarly) && self.would_heal(lent) {
+                    self.lower_bad();
                 }
             }
         }
@@ -350,7 +357,7 @@ impl Card {
                 if !bad {
                     return Some(at);
                 }
-                self.keep_count(Kept::Unreadable, lent);
+                self.keep_bad(Kept::Unreadable, lent);
                 self.unreadable(row);
             }
         }
@@ -361,7 +368,7 @@ impl Card {
         if on(Change::FailedReadClears) {
             self.buffer = [0; 512];
         }
-        if on(Change::UnreadableRaisesCount) {
+        if on(Change::UnreadableRaisesBad) {
             self.bad = self.bad.saturating_add(1);
         }
         self.fail(row, FAILED, UNC, 0x11);
@@ -372,19 +379,37 @@ impl Card {
         let mark = lent.marks[at];
         cover::mark(row, mark);
         cover::stored(row, mark, self.bad, lent.marks);
-        if mark == 2 {
-            if on(Change::FaultLowersCount) {
-                self.lower_count();
+        cover::changed(&self.trace, at, mark);
+        let [faulting, healing] = self.deciding(at, mark);
+        if faulting == 2 {
+            if on(Change::FaultLowersBad) {
+                self.lower_bad();
             }
             self.fail(row, FAULT, ABRT, 0x03);
             return false;
         }
         lent.store[512 * at..512 * at + 512].copy_from_slice(bytes);
-        self.healed(row, mark);
+        self.healed(row, healing);
         if !on(Change::WriteLeavesMark) {
             lent.marks[at] = 0;
         }
         true
+    }
+
+    /// The marks that decide the write fault and the number of bad sectors: for both the one that
+    /// stands there when the sector is stored, "a write's mark at its last byte".
+    fn deciding(&self, at: usize, mark: u8) -> [u8; 2] {
+        let [given, asked] = [&self.trace.given, &self.trace.asked]
+            .map(|then| then.marks.get(at).copied().unwrap_or(mark));
+        if on(Change::BadByAskedMark) {
+            [mark, asked]
+        } else if on(Change::FaultByAskedMark) {
+            [asked, mark]
+        } else if on(Change::WriteByGivenMark) {
+            [given; 2]
+        } else {
+            [mark; 2]
+        }
     }
 
     /// Counts one sector as done. At the last one the command ends well and this is
@@ -442,6 +467,7 @@ impl Card {
 
     fn sector_was_written(&mut self, lent: &mut Lent) {
         if self.store_buffer(lent) && !self.one_done(Row::Write) {
+            self.trace.first = false;
             self.ask_sector(lent);
             // A second or later sector is asked for; an error end sets the mark as well.
             self.mark |= !on(Change::SecondSectorUnmarked);
@@ -457,32 +483,32 @@ impl Card {
     }
 }
 
-// ---------------------------------------------------------------- the count
+// ---------------------------------------------------------------- the number of bad sectors
 
 impl Card {
     /// A stored sector's mark, not yet 0: "writes and Erase can lower it". The stored mark decides;
     /// a sound sector's leaves it.
     fn healed(&mut self, row: Row, mark: u8) {
         let lowers = match mark {
-            0 => on(Change::SoundLowersCount),
-            3.. => !on(Change::AboveLeavesCount),
+            0 => on(Change::SoundLowersBad),
+            3.. => !on(Change::AboveLeavesBad),
             _ => true,
         };
         let left = match row {
-            Row::Erase => on(Change::EraseLeavesCount),
-            _ => on(Change::WriteLeavesCount) || on(Change::CountLoweredEarly),
+            Row::Erase => on(Change::EraseLeavesBad),
+            _ => on(Change::WriteLeavesBad) || on(Change::BadLoweredEarly),
         };
         if lowers && !left {
-            self.lower_count();
+            self.lower_bad();
         }
     }
 
     /// "never below 0".
-    fn lower_count(&mut self) {
+    fn lower_bad(&mut self) {
         self.trace.kept = None;
         self.trace.lowered += (self.bad > 0) as u16;
         self.bad = match self.bad {
-            0 if on(Change::CountWraps) => u16::MAX,
+            0 if on(Change::BadWraps) => u16::MAX,
             bad => bad.saturating_sub(1),
         };
     }
@@ -493,23 +519,28 @@ impl Card {
         writing && self.locate().is_ok_and(|at| !matches!(lent.marks[at], 0 | 2))
     }
 
-    /// What keeps the count is about to be done; for the coverage table alone.
-    pub fn keep_count(&mut self, what: Kept, lent: &Lent) {
+    /// The marks and the number as they are.
+    fn then(&self, lent: &Lent) -> Then {
+        Then { marks: lent.marks.to_vec(), bad: self.bad }
+    }
+
+    /// What keeps the number is about to be done; for the coverage table alone.
+    pub fn keep_bad(&mut self, what: Kept, lent: &Lent) {
         cover::kept(what, self.bad, lent.marks);
         self.trace.kept = Some(what).filter(|what| what.shown());
     }
 
-    /// The same of a write that is broken off where its last byte would lower the count.
+    /// The same of a write that is broken off where its last byte would lower it.
     pub fn keep_dropped(&mut self, what: Kept, lent: &Lent) {
         if self.would_heal(lent) {
-            self.keep_count(what, lent);
+            self.keep_bad(what, lent);
         }
     }
 
     /// The present word has moved; of Identify's word 129 the coverage table is told.
     pub fn word_shown(&mut self, lent: &Lent) {
         if self.phase == Phase::In && self.trace.identity && self.words == 129 {
-            cover::count_shown(self, lent.marks);
+            cover::bad_shown(self, lent.marks);
             self.trace.told = Some(u16::from_le_bytes([self.buffer[258], self.buffer[259]]));
             self.trace.kept = None;
         }
@@ -520,7 +551,7 @@ impl Card {
 
 impl Card {
     fn identify(&mut self, lent: &Lent) {
-        let bad = if on(Change::IdentifyRecounts) { bad_marks(lent.marks) } else { self.bad };
+        let bad = if on(Change::IdentifyRecounts) { bad_sectors(lent.marks) } else { self.bad };
         for (i, word) in self.identify_words(bad).into_iter().enumerate() {
             self.buffer[2 * i..2 * i + 2].copy_from_slice(&word.to_le_bytes());
         }
@@ -539,7 +570,7 @@ impl Card {
         let mut w = self.plain_words(self.current, bad);
         let summed = if on(Change::IntegrityByDefault) {
             self.plain_words(self.default, bad)
-        } else if on(Change::IntegrityWithoutCount) {
+        } else if on(Change::IntegrityWithoutBad) {
             self.plain_words(self.current, 0)
         } else {
             w
@@ -548,8 +579,8 @@ impl Card {
         w
     }
 
-    /// The words of 01 for this current geometry and 02's word 129 for this count; word 255 is
-    /// still 0.
+    /// The words of 01 for this current geometry and 02's word 129 for so many bad sectors; word
+    /// 255 is still 0.
     fn plain_words(&self, now: Geometry, bad: u16) -> [u16; 256] {
         let mut w = [0u16; 256];
         let all = self.default;
@@ -572,9 +603,9 @@ impl Card {
             (low(capacity), high(capacity))
         };
         (w[60], w[61]) = (low(n), high(n));
-        w[if on(Change::CountInWord128) { 128 } else { 129 }] = match bad {
-            _ if on(Change::CountByLowByte) => bad & 0xFF,
-            _ if on(Change::CountSwapped) => bad.swap_bytes(),
+        w[if on(Change::BadInWord128) { 128 } else { 129 }] = match bad {
+            _ if on(Change::BadByLowByte) => bad & 0xFF,
+            _ if on(Change::BadSwapped) => bad.swap_bytes(),
             _ => bad,
         };
         w

@@ -1,9 +1,12 @@
 //! Which points the played inputs reach, counted apart for sessions and trials.
 
 use std::cell::{Cell, RefCell};
+use std::cmp::Ordering;
 use std::collections::HashMap;
 
-use crate::card::{bad_marks, Access, Card, Condition, Geometry, Half, Phase, Touch};
+use crate::card::{
+    bad_sectors, Access, Card, Condition, Geometry, Half, Phase, Then, Touch, Trace,
+};
 use crate::commands::Row;
 use crate::maps::{Mode, Place};
 use crate::points::*;
@@ -90,13 +93,16 @@ pub fn identified(card: &Card) {
 }
 
 pub fn mark(row: Row, mark: u8) {
-    let mark = match mark {
+    hit(Point::Mark(row, sort(mark)));
+}
+
+fn sort(mark: u8) -> Mark {
+    match mark {
         0 => Mark::Zero,
         1 => Mark::One,
         2 => Mark::Two,
         _ => Mark::Above,
-    };
-    hit(Point::Mark(row, mark));
+    }
 }
 
 pub fn lba_carry(next: u32) {
@@ -111,7 +117,7 @@ pub fn cylinder_carry(before: u8, after: u8) {
     }
 }
 
-// ---------------------------------------------------------------- the count
+// ---------------------------------------------------------------- the number of bad sectors
 
 /// Those of the points that are met.
 fn hit_all<T, const K: usize>(point: impl Fn(T) -> Point, met: [(T, bool); K]) {
@@ -123,11 +129,11 @@ fn hit_all<T, const K: usize>(point: impl Fn(T) -> Point, met: [(T, bool); K]) {
 /// A card was opened over these marks.
 pub fn opened(marks: &[u8]) {
     let (one, two) = (marks.contains(&1), marks.contains(&2));
-    let (n, bad) = (marks.len(), bad_marks(marks) as usize);
+    let (n, bad) = (marks.len(), bad_sectors(marks) as usize);
     hit_all(
         Point::Opened,
         [
-            (Opened::NoMark, bad == 0),
+            (Opened::NoneBad, bad == 0),
             (Opened::Ones, one && !two),
             (Opened::Twos, two && !one),
             (Opened::Both, one && two),
@@ -137,7 +143,7 @@ pub fn opened(marks: &[u8]) {
     );
 }
 
-/// A sector is to be stored; the mark is its own, the count that before.
+/// A sector is to be stored; the mark is its own, the number that before.
 pub fn stored(row: Row, mark: u8, bad: u16, marks: &[u8]) {
     hit(Point::Stored(
         row,
@@ -155,7 +161,7 @@ pub fn stored(row: Row, mark: u8, bad: u16, marks: &[u8]) {
     if matches!(mark, 0 | 2) || bad == 0 {
         return;
     }
-    let there = bad_marks(marks);
+    let there = bad_sectors(marks);
     hit_all(
         |what| Point::Stored(row, what),
         [
@@ -167,24 +173,51 @@ pub fn stored(row: Row, mark: u8, bad: u16, marks: &[u8]) {
     );
 }
 
-/// A command ends that has lowered the count so often.
+/// A sector is to be stored; the mark is its own. A write's may be another than when the sector was
+/// asked for, and that another than when the command was given.
+pub fn changed(trace: &Trace, at: usize, mark: u8) {
+    let (given, asked) = (&trace.given, &trace.asked);
+    let Some(&when_asked) = asked.marks.get(at) else {
+        return;
+    };
+    let on_its_way = if trace.first { Changed::First } else { Changed::Later };
+    changed_since(on_its_way, asked, at, mark);
+    changed_since(Changed::Ahead, given, at, when_asked);
+}
+
+fn changed_since(when: Changed, then: &Then, at: usize, mark: u8) {
+    let Some((from, to)) = then.marks.get(at).map(|&before| (sort(before), sort(mark))) else {
+        return;
+    };
+    if from != to {
+        let there = bad_sectors(&then.marks);
+        let number = match then.bad.cmp(&there) {
+            Ordering::Equal => Number::Right,
+            Ordering::Less => Number::TooLow,
+            Ordering::Greater => Number::TooHigh,
+        };
+        hit(Point::Changed(when, from, to, number));
+    }
+}
+
+/// A command ends that has lowered the number so often.
 pub fn run(row: Row, lowered: u16, error: u8, code: u8) {
     if lowered > 0 && matches!(row, Row::Write | Row::Erase) {
         hit(Point::Run(row, ending(error, code)));
     }
 }
 
-/// What keeps the count is to be done.
+/// What keeps the number is to be done.
 pub fn kept(what: Kept, bad: u16, marks: &[u8]) {
     if bad != 0 {
-        hit(Point::Kept(what, bad == bad_marks(marks)));
+        hit(Point::Kept(what, bad == bad_sectors(marks)));
     }
 }
 
 /// Identify's word 129 was read.
-pub fn count_shown(card: &Card, marks: &[u8]) {
+pub fn bad_shown(card: &Card, marks: &[u8]) {
     let shown = u16::from_le_bytes([card.buffer[258], card.buffer[259]]);
-    let there = bad_marks(marks);
+    let there = bad_sectors(marks);
     let ide = card.mode == Mode::TrueIde;
     hit_all(
         Point::Shown,
@@ -354,13 +387,13 @@ pub fn condition(only: Condition, card: &Card) {
         Condition::Held if card.hold => Unmade::TransferInHold,
         Condition::Held => Unmade::TransferInSreset,
         Condition::Words => Unmade::Words,
-        Condition::Sectors => bad_sectors(card),
-        Condition::Count if card.bad as u64 == card.default.sectors() + 1 => Unmade::CountOneAbove,
-        Condition::Count => Unmade::CountAbove,
+        Condition::Sectors => transfer_fault(card),
+        Condition::Bad if card.bad as u64 == card.default.sectors() + 1 => Unmade::BadOneAbove,
+        Condition::Bad => Unmade::BadAbove,
     }));
 }
 
-fn bad_sectors(card: &Card) -> Unmade {
+fn transfer_fault(card: &Card) -> Unmade {
     match (card.locate().is_err(), card.left) {
         (true, _) if card.lba() => Unmade::BadLba,
         (true, _) => Unmade::BadChs,

@@ -53,12 +53,13 @@ fn groups() -> Vec<Group> {
         group("Identify", by_sessions(Identity::TABLE, Point::Identify)),
         group("Identify's integrity byte", integrity_bytes()),
         group(
-            "Openings, by the marks counted",
-            named(Opened::TABLE, Point::Opened, |what| by(what != Opened::NoMark)),
+            "Openings, by the bad sectors counted",
+            named(Opened::TABLE, Point::Opened, |what| by(what != Opened::NoneBad)),
         ),
-        group("Sectors to be stored, by mark and count", stored()),
-        group("Ends of commands that lowered the count", runs()),
-        group("A count that is kept", kept()),
+        group("Sectors to be stored, by mark and number of bad sectors", stored()),
+        group("Marks changed in a write, by sector, mark and number of bad sectors", changed()),
+        group("Ends of commands that lowered the number of bad sectors", runs()),
+        group("A number of bad sectors that is kept", kept()),
         group("Identify's word 129 after that", kept_and_shown()),
         group(
             "Identify's word 129",
@@ -173,6 +174,22 @@ fn stored() -> Vec<Reached> {
     rows
 }
 
+fn changed() -> Vec<Reached> {
+    let mut rows = Vec::new();
+    for &(when, sector) in Changed::TABLE {
+        for &(from, was) in Mark::TABLE {
+            for &(to, is) in Mark::TABLE.iter().filter(|&&(to, _)| to != from) {
+                for &(number, kept) in Number::TABLE {
+                    let point = Point::Changed(when, from, to, number);
+                    let says = format!("{sector} {was} to {is}, {kept}");
+                    rows.push(row(point, says, By::Trials));
+                }
+            }
+        }
+    }
+    rows
+}
+
 fn runs() -> Vec<Reached> {
     let mut rows = Vec::new();
     for (command, name) in STORING {
@@ -189,8 +206,8 @@ fn runs() -> Vec<Reached> {
 fn kept() -> Vec<Reached> {
     let mut rows = Vec::new();
     for &(what, says) in Kept::TABLE {
-        for (like, there) in [(true, "as many marks"), (false, "other marks")] {
-            rows.push(row(Point::Kept(what, like), format!("{says}, {there}"), By::Trials));
+        for (right, kept) in [(true, "right"), (false, "wrong")] {
+            rows.push(row(Point::Kept(what, right), format!("{says}, {kept}"), By::Trials));
         }
     }
     rows

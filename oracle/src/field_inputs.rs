@@ -47,11 +47,11 @@ const CONDITIONS: [(&str, u8, State, Fields); 38] = [
     ("out-hold", 4, State::Out, &[(9, 1)]),
     ("words-256", 0, State::InLow, &[(21, 256)]),
     ("words-65535", 4, State::Out, &[(21, 65535)]),
-    ("count-33", 0, State::Idle, &[(26, 33)]),
-    ("count-288", 1, State::InLow, &[(26, 288)]),
-    ("count-65535", 4, State::Out, &[(26, 65535)]),
-    ("count-hold", 4, State::Hold, &[(26, 32), (26, 33)]),
-    ("count-sreset", 2, State::Sreset, &[(26, 32), (26, 34)]),
+    ("bad-33", 0, State::Idle, &[(26, 33)]),
+    ("bad-288", 1, State::InLow, &[(26, 288)]),
+    ("bad-65535", 4, State::Out, &[(26, 65535)]),
+    ("bad-hold", 4, State::Hold, &[(26, 32), (26, 33)]),
+    ("bad-sreset", 2, State::Sreset, &[(26, 32), (26, 34)]),
 ];
 
 /// For each condition: a good card, the fields that break just that, an access.
@@ -249,15 +249,15 @@ fn some_value(host: &mut Host, field: u16) -> u16 {
         20 | 23 | 24 | 25 => near % 4,
         21 => host.rng.pick(&[0, 1, 254, 255, 256, any]),
         22 => host.rng.pick(&[0, 1, 2, 255, 256, 257, any]),
-        26 => some_count(host),
+        26 => some_bad(host),
         1 | 4 => host.rng.pick(&[near, any, 4, 300]),
         2 | 3 | 5 | 6 => host.rng.pick(&[near, near, 16, 17, 255, 256, any]),
         _ => host.rng.pick(&[near, any]),
     }
 }
 
-/// A count of marks: small, about N, above it.
-pub fn some_count(host: &mut Host) -> u16 {
+/// A number of bad sectors: small, about N, above it.
+pub fn some_bad(host: &mut Host) -> u16 {
     let (n, any) = (host.marks.len() as u16, host.rng.next() as u16);
     let (few, some) = (host.rng.below(4) as u16, host.rng.below(n as usize) as u16);
     host.rng.pick(&[0, few, some, n - 1, n, n + 1, any, 65535])

@@ -1,11 +1,12 @@
 //! An independent program for the card of document 01: it plays sessions and trials, makes inputs from
 //! a seed, and compares other programs with itself.
 
+mod bad_sector_inputs;
 mod broken_inputs;
 mod card;
+mod changed_mark_inputs;
 mod commands;
 mod compare;
-mod count_inputs;
 mod cover;
 mod cover_table;
 mod field_inputs;

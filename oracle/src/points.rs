@@ -18,13 +18,16 @@ pub enum Point {
     Identify(Identity),
     /// The high byte of word 255, as it was read.
     Integrity(u8),
-    /// An opening, by the marks that it counts.
+    /// An opening, by the bad sectors that it counts.
     Opened(Opened),
-    /// A sector to be stored, by its mark and the card's count.
+    /// A sector to be stored, by its mark and the number of bad sectors.
     Stored(Row, Stored),
-    /// The end of a command that has lowered the count.
+    /// A write's sector to be stored whose mark is another than before, by the number of bad sectors
+    /// before.
+    Changed(Changed, Mark, Mark, Number),
+    /// The end of a command that has lowered the number of bad sectors.
     Run(Row, Ending),
-    /// A count that is not 0 and is kept; true, if the lent marks are so many.
+    /// A number of bad sectors that is not 0 and is kept; true, if it is right.
     Kept(Kept, bool),
     /// Word 129 read after that.
     KeptShown(Kept),
@@ -138,37 +141,56 @@ named! {
 }
 
 named! {
-    /// The marks that an opening counts.
+    /// The bad sectors that an opening counts.
     Opened {
-        NoMark: "no mark",
-        Ones: "marks of 1",
-        Twos: "marks of 2",
-        Both: "marks of 1 and 2",
+        NoneBad: "none",
+        Ones: "of mark 1",
+        Twos: "of mark 2",
+        Both: "of marks 1 and 2",
         Many: "more than 255",
         All: "all of 32 or more",
     }
 }
 
 named! {
-    /// The mark of a sector to be stored, and the count before: 0, or not.
+    /// The mark of a sector to be stored, and the number of bad sectors before: 0, or not.
     Stored {
         Sound: "mark 0",
         One: "mark 1",
         Two: "mark 2",
         Above: "mark above 2",
-        SoundAtZero: "mark 0, count 0",
-        OneAtZero: "mark 1, count 0",
-        TwoAtZero: "mark 2, count 0",
-        AboveAtZero: "mark above 2, count 0",
-        ToZero: "count from 1 to 0",
-        Borrow: "count from 256 to 255",
-        TooLow: "a count too low for the marks",
-        TooHigh: "a count too high for the marks",
+        SoundAtZero: "mark 0, number 0",
+        OneAtZero: "mark 1, number 0",
+        TwoAtZero: "mark 2, number 0",
+        AboveAtZero: "mark above 2, number 0",
+        ToZero: "number from 1 to 0",
+        Borrow: "number from 256 to 255",
+        TooLow: "a number too low for the marks",
+        TooHigh: "a number too high for the marks",
     }
 }
 
 named! {
-    /// What keeps a count.
+    /// When the mark of a write's sector was changed: the command's first sector on its way, a later
+    /// one on its way, a later one before it was asked for.
+    Changed {
+        First: "first",
+        Later: "later",
+        Ahead: "ahead",
+    }
+}
+
+named! {
+    /// The number of bad sectors beside the marks.
+    Number {
+        Right: "right",
+        TooLow: "too low",
+        TooHigh: "too high",
+    }
+}
+
+named! {
+    /// What keeps the number of bad sectors.
     Kept {
         SresetEntered: "SRESET entered",
         SresetLeft: "SRESET left",
@@ -194,15 +216,15 @@ impl Kept {
 }
 
 named! {
-    /// Word 129 as it is read: its value, the lent marks, the mode, the last time, the count now.
+    /// Word 129 as it is read: its value, the lent marks, the mode, the last time, the number now.
     Shown {
         Zero: "0",
         Byte: "1..255",
         Word: "above 255",
         All: "N",
-        True: "as many as there are marks",
-        TooLow: "fewer than there are marks",
-        TooHigh: "more than there are marks",
+        True: "as many as there are",
+        TooLow: "fewer than there are",
+        TooHigh: "more than there are",
         PcCard: "not 0 in PC Card mode",
         TrueIde: "not 0 in True IDE mode",
         Lower: "lower than the last time",
@@ -343,8 +365,8 @@ named! {
         NoneLeft: "0 sectors left",
         ManyLeft: "257 or more left",
         LeftUnlikeCount: "left unlike Count",
-        CountOneAbove: "count N + 1",
-        CountAbove: "count above N + 1",
+        BadOneAbove: "N + 1 bad sectors",
+        BadAbove: "more than N + 1 bad sectors",
     }
 }
 

@@ -1,6 +1,6 @@
 //! The register file: reads and writes, the two resets, and the data register.
 
-use crate::card::{bad_marks, moves, touch, Access, Card, Half, Lent, Moves, Phase, Touch, IDLE};
+use crate::card::{bad_sectors, moves, touch, Access, Card, Half, Lent, Moves, Phase, Touch, IDLE};
 use crate::cover;
 use crate::maps::Place;
 use crate::mutants::{on, Change};
@@ -99,14 +99,15 @@ impl Card {
 // ---------------------------------------------------------------- resets
 
 impl Card {
-    /// Entering a reset: the transfer ends with Status 50H, the mark is cleared. The count stays.
+    /// Entering a reset: the transfer ends with Status 50H, the mark is cleared. The number of
+    /// bad sectors stays.
     fn enter_reset(&mut self) {
         if self.running() {
             self.status = IDLE;
         }
         self.stop_transfer();
         self.mark = false;
-        if on(Change::ResetClearsCount) {
+        if on(Change::ResetClearsBad) {
             self.bad = 0;
         }
     }
@@ -116,7 +117,7 @@ impl Card {
         cover::option_write(self, value);
         match (self.sreset, value & 0x80 != 0) {
             (false, true) => {
-                self.keep_count(Kept::SresetEntered, lent);
+                self.keep_bad(Kept::SresetEntered, lent);
                 self.keep_dropped(Kept::DroppedBySreset, lent);
                 self.enter_reset();
                 self.sreset = true;
@@ -131,18 +132,18 @@ impl Card {
     }
 
     fn leave_sreset(&mut self, setting: u8, lent: &Lent) {
-        self.keep_count(Kept::SresetLeft, lent);
+        self.keep_bad(Kept::SresetLeft, lent);
         let (hold, buffer) = (self.hold, self.buffer);
         self.power_on(if on(Change::SresetForgetsIndex) { 0 } else { setting });
         self.hold = hold && on(Change::SresetLeavesHold);
         if on(Change::SresetLeavesBuffer) {
             self.buffer = buffer;
         }
-        if on(Change::SresetClearsCount) {
+        if on(Change::SresetClearsBad) {
             self.bad = 0;
         }
         if on(Change::SresetRecounts) {
-            self.bad = bad_marks(lent.marks);
+            self.bad = bad_sectors(lent.marks);
         }
     }
 
@@ -150,7 +151,7 @@ impl Card {
         cover::control_write(self, value);
         match (self.hold, value & 4 != 0) {
             (false, true) => {
-                self.keep_count(Kept::HoldEntered, lent);
+                self.keep_bad(Kept::HoldEntered, lent);
                 self.keep_dropped(Kept::DroppedByHold, lent);
                 self.enter_reset();
                 self.hold = true;
@@ -162,7 +163,7 @@ impl Card {
     }
 
     fn leave_hold(&mut self, lent: &Lent) {
-        self.keep_count(Kept::HoldLeft, lent);
+        self.keep_bad(Kept::HoldLeft, lent);
         let (code, current) = (self.code, self.current);
         self.power_on_registers();
         self.hold = false;
@@ -175,11 +176,11 @@ impl Card {
         if on(Change::HoldClearsBuffer) {
             self.buffer = [0; 512];
         }
-        if on(Change::HoldClearsCount) {
+        if on(Change::HoldClearsBad) {
             self.bad = 0;
         }
         if on(Change::HoldRecounts) {
-            self.bad = bad_marks(lent.marks);
+            self.bad = bad_sectors(lent.marks);
         }
     }
 }

@@ -1,5 +1,5 @@
 //! 01's sample session, its thirteen samples, the old model's errors, Identify's integrity word and
-//! the count of the marks that are not 0, checked on this program.
+//! the number of bad sectors, checked on this program.
 
 use crate::card::{Access, Geometry};
 use crate::host::{push_access, push_opening, Host, Style};
@@ -101,9 +101,10 @@ pub fn run() -> bool {
         identify_halves(),
         integrity_words(),
         integrity_sums(),
-        count_shown(),
-        count_to_zero(),
-        count_limit(),
+        bad_shown(),
+        bad_to_zero(),
+        bad_in_mid_write(),
+        bad_limit(),
         sense_twice(),
         alternate_status(),
     ];
@@ -334,7 +335,7 @@ fn marked(marks: &[(usize, u8)]) -> Host {
 }
 
 /// Words 129 and 255 of Identify.
-fn count_words(host: &mut Host) -> [u16; 2] {
+fn bad_words(host: &mut Host) -> [u16; 2] {
     host.put(7, 0xEC);
     let words: Vec<u16> = (0..256).map(|_| host.get_word(0)).collect();
     [words[129], words[255]]
@@ -350,45 +351,62 @@ fn at_sector(host: &mut Host, opcode: u8, lba: u32) {
 
 /// Three marks make 3 of word 129, and 53H of 56H in word 255; one written leaves 2 and 54H, a sound
 /// and a faulty sector leave that, and Erase leaves 1 and 55H, which a hold and 90H leave.
-fn count_shown() -> bool {
+fn bad_shown() -> bool {
     let mut host = marked(&[(3, 1), (9, 2), (30, 1)]);
-    let mut words = vec![count_words(&mut host)];
+    let mut words = vec![bad_words(&mut host)];
     for (opcode, lba) in [(0x30, 3), (0x30, 0), (0x30, 9), (0xC0, 30), (0xC0, 9)] {
         at_sector(&mut host, opcode, lba);
-        words.push(count_words(&mut host));
+        words.push(bad_words(&mut host));
     }
     host.put(0xE, 4);
     host.put(0xE, 0);
     host.put(7, 0x90);
-    words.push(count_words(&mut host));
+    words.push(bad_words(&mut host));
     let (two, one) = ([2, 0x54A5], [1, 0x55A5]);
     let good = words == [[3, 0x53A5], two, two, two, one, one, one];
-    told("Identify, the count of marks", good && count_words(&mut marked(&[])) == [0, 0x56A5])
+    told("Identify, the number of bad sectors", good && bad_words(&mut marked(&[])) == [0, 0x56A5])
 }
 
-/// Marks from outside take off what the count never had of them, to 0 and no further; a mark healed
-/// from outside is not missed.
-fn count_to_zero() -> bool {
+/// Marks from outside take off a number that never had them, to 0 and no further; a mark healed from
+/// outside is not missed.
+fn bad_to_zero() -> bool {
     let mut host = marked(&[(3, 1), (4, 1), (5, 2)]);
     host.set_mark(5, 0);
-    let mut counts = vec![host.card.bad];
+    let mut numbers = vec![host.card.bad];
     for (opcode, mark) in [(0x30, 200), (0xC0, 3), (0x30, 0), (0xC0, 1), (0x30, 255)] {
         host.set_mark(12, mark);
         at_sector(&mut host, opcode, 12);
-        counts.push(host.card.bad);
+        numbers.push(host.card.bad);
     }
-    told("the count falls to 0 and no further", counts == [3, 2, 1, 1, 0, 0])
+    told("the number of bad sectors falls to 0 and no further", numbers == [3, 2, 1, 1, 0, 0])
+}
+
+/// A mark changed in mid-write decides at the last byte: Status and the number of bad sectors after it.
+fn bad_in_mid_write() -> bool {
+    let mut host = marked(&[(3, 1), (9, 2)]);
+    let mut ends = Vec::new();
+    for (lba, mark) in [(3, 0), (9, 0), (0, 200), (1, 2), (2, 1)] {
+        host.set_lba(lba);
+        host.put(2, 1);
+        host.put(7, 0x30);
+        host.transfer(10, Style::Words);
+        host.set_mark(lba as usize, mark);
+        host.rest_of_sector(Style::Words);
+        ends.push((host.get(7), host.card.bad));
+    }
+    let good = ends == [(0x50, 2), (0x50, 2), (0x50, 1), (0x71, 1), (0x50, 0)];
+    told("the mark at a write's last byte decides", good)
 }
 
 /// At most N, which is 32.
-fn count_limit() -> bool {
+fn bad_limit() -> bool {
     let mut host = marked(&[]);
-    let mut number = |count| {
-        host.set_field(26, count);
+    let mut number = |bad| {
+        host.set_field(26, bad);
         host.access(Access { space: 3, width: 1, write: false, address: 7, value: 0 }).number
     };
     let numbers = [0, 1, 31, 32, 33, 65535, 32].map(&mut number);
-    told("a count above N is refusal 12", numbers == [0, 0, 0, 0, 12, 12, 0])
+    told("more than N bad sectors are refusal 12", numbers == [0, 0, 0, 0, 12, 12, 0])
 }
 
 fn sense_twice() -> bool {

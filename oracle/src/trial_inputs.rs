@@ -1,7 +1,8 @@
 //! The trial inputs of the comparison, from a seed.
 
+use crate::bad_sector_inputs;
 use crate::card::{Access, Geometry};
-use crate::count_inputs;
+use crate::changed_mark_inputs;
 use crate::field_inputs;
 use crate::host::{Host, Style};
 use crate::inputs::{geometry, Case, Group};
@@ -25,7 +26,7 @@ const LARGE: [(u16, u16, u16); 10] = [
 /// Cylinders of cards with H 1, S 1 and no marks whose integrity byte is 0, 1 or 255. At power-on
 /// Identify's other bytes give 2,614 + 4 + 5·(the two bytes of C): for 142 and 397 (1 + 141) a
 /// multiple of 256, for 193 one less, for 91 one more. For 407 they give 2,614 + 970 = 14·256 in one
-/// track of 255. With marks every byte comes up (`count_inputs`).
+/// track of 255. With marks every byte comes up (`bad_sector_inputs`).
 const FULL_SUMS: [u16; 5] = [142, 397, 407, 193, 91];
 
 pub fn trials(seed: u64) -> Vec<Case> {
@@ -37,7 +38,8 @@ pub fn trials(seed: u64) -> Vec<Case> {
     carries(seed, &mut all);
     lines(seed, &mut all);
     identities(seed, &mut all);
-    count_inputs::counts(seed, &mut all);
+    bad_sector_inputs::bad_sectors(seed, &mut all);
+    changed_mark_inputs::changed_marks(seed, &mut all);
     wanderings(seed, &mut all);
     field_inputs::breaks(seed, &mut all);
     field_inputs::made_up(seed, &mut all);

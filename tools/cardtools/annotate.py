@@ -38,7 +38,8 @@ def misfit(access, answer, value, follower):
 
 def access_pairs(records, printed):
     """(printed line, its explanation, whether it is plain data) for each access of a run."""
-    follower, identify = Follower(records[0].mode), Identify()
+    opening = records[0]
+    follower, identify = Follower(opening.mode), Identify(opening.c * opening.h * opening.s)
     for count, access in enumerate(records[1:], 1):
         line = printed[count] if count < len(printed) else None
         if line is None:

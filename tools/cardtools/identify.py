@@ -20,7 +20,8 @@ def verdict(data, status):
 class Identify:
     """Collects the bytes of an Identify from access to access, however they are read."""
 
-    def __init__(self):
+    def __init__(self, sectors):
+        self.sectors = sectors  # N of the opening
         self.data = None  # the whole words so far; None where no Identify is being read
         self.word = {}  # of the word at hand: its low byte at 0, its high byte at 1
         self.status = None  # one that was read since ECH and said that no data was there
@@ -39,7 +40,8 @@ class Identify:
     def said(self):
         """Of the word that is whole now: the number of bad sectors by its name, if data was there; of the last one the verdict on all."""
         if len(self.data) == 2 * (BAD_SECTORS + 1) and self.status is None:
-            return f"Word {BAD_SECTORS} of Identify, bad sectors: {self.data[-2] + 256 * self.data[-1]}"
+            bad = self.data[-2] + 256 * self.data[-1]
+            return f"Word {BAD_SECTORS} of Identify, bad sectors: {bad}{', more than there are sectors' if bad > self.sectors else ''}"
         if len(self.data) < BYTES:
             return ""
         data, self.data = self.data, None

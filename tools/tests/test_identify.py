@@ -79,17 +79,22 @@ def named(mode, *steps):
 
 
 def test_the_number_of_bad_sectors_is_named():
-    words = WORDS[:129] + [0x0103] + WORDS[130:-1] + [0x49A5]  # 1 and 3 more: 4 less in the high byte
+    words = WORDS[:129] + [0x0012] + WORDS[130:-1] + [0x3BA5]  # 12H more: as much less in the high byte
     data = [byte for word in words for byte in (word % 256, word // 256)]
-    assert named(1, ECH, ("read word ide 0 x256", words)) == [(131, "259")]
+    assert named(1, ECH, ("read word ide 0 x256", words)) == [(131, "18")]
     assert verdicts(1, ECH, ("read word ide 0 x256", words)) == [(257, "0")]
-    assert named(1, ECH, ("read ide 0 x512", data)) == [(261, "259")]
+    assert named(1, ECH, ("read ide 0 x512", data)) == [(261, "18")]
     halves = ("read memory 9", data[259:260]), ("read memory 8", data[258:259])
-    assert named(0, ("write memory 7 EC",), ("read word memory 8 x129", words[:129]), *halves, ("read memory 7", [0x58])) == [(132, "259")]
-    assert named(1, ECH, ("read word ide 0 x130", words[:130]), ("read ide 7", [0x58]), ECH, ("read word ide 0 x130", WORDS[:130])) == [(131, "259"), (263, "0")]
+    assert named(0, ("write memory 7 EC",), ("read word memory 8 x129", words[:129]), *halves, ("read memory 7", [0x58])) == [(132, "18")]
+    assert named(1, ECH, ("read word ide 0 x130", words[:130]), ("read ide 7", [0x58]), ECH, ("read word ide 0 x130", WORDS[:130])) == [(131, "18"), (263, "0")]
     assert not named(1, ECH, ("read word ide 0 x129", words[:129]), ("read ide 7", [0x58]))
     assert not named(1, ECH, ("read ide 7", [0x50]), ("read word ide 0 x256", [0xFFFF] * 256))
     assert not named(1, ("write ide 7 E4",), ("read word ide 0 x256", words))
+
+
+def test_more_bad_sectors_than_sectors_are_told():
+    for value, said in ((32, "32"), (33, "33, more than there are sectors"), (0x0103, "259, more than there are sectors")):
+        assert named(1, ECH, ("read word ide 0 x130", WORDS[:129] + [value])) == [(131, said)]
 
 
 def test_each_identify_is_summed_once():

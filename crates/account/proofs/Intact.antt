@@ -1,4 +1,4 @@
--- Identify as a host reads it gives 0, whatever the card and however it is read.
+-- Identify as a host reads it gives 0, whatever the card and however it is read; and its word 129 is the number of bad sectors.
 use Prim.Native.Nat.{ℕ, _/_, _%_}
 use mathlib.Core.Path.{_≡_, sym, ap, subst, _∙_}
 use mathlib.Core.List.{List, [], _++_, append-nil}

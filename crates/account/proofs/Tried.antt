@@ -17,7 +17,7 @@ use Rattle.transfers.specs.declared.Tested.the-variants.{Passes, Fails}
 use Rattle.transfers.specs.Ends.{ended}
 use Rattle.transfers.specs.declared.Way.the-variants.{In, Out}
 use Rattle.transfers.specs.Before.{addressTest, testedOf, markTested, sectorTest}
-use Rattle.kept.proofs.Ends.{bad}
+use Rattle.kept.proofs.Ends.{erring}
 use Rattle.account.specs.Numbers.{codeHeadOrSector, codeCylinderOrLba, codeGeometry, codeOthers}
 use Rattle.account.specs.Plain.{Plain, Finish, Well, NotFound, Unreadable, WriteFault, Aborted, ends, withPlace}
 use Rattle.account.specs.Course.{Course, named}
@@ -47,7 +47,7 @@ ended-ends End.BadGeometry s b t k = refl
 ended-ends End.NoSuchCommand s b t k = refl
 
 -- a failed test stops a sweep there
-stops : (e : End) → bad e ≡ true → (c : Course) (n i : ℕ) (rest : Sweep) (p : Plain) →
+stops : (e : End) → erring e ≡ true → (c : Course) (n i : ℕ) (rest : Sweep) (p : Plain) →
     (tried (finishOf e) n i rest ≡ stopped (finishOf e) n i) × (sweepEnds c (stopped (finishOf e) n i) p ≡ ends (finishOf e) (withPlace (n % 256) (named c i) p))
 stops End.Good h c n i rest p = absurd (false≢true h)
 stops End.BadHeadOrSector h c n i rest p = (refl, refl)
@@ -58,11 +58,11 @@ stops End.WriteFault h c n i rest p = (refl, refl)
 stops End.BadGeometry h c n i rest p = (refl, refl)
 stops End.NoSuchCommand h c n i rest p = (refl, refl)
 
-pub stops-sweep : (e : End) → bad e ≡ true → (c : Course) (n i : ℕ) (rest : Sweep) (p : Plain) → tried (finishOf e) n i rest ≡ stopped (finishOf e) n i
+pub stops-sweep : (e : End) → erring e ≡ true → (c : Course) (n i : ℕ) (rest : Sweep) (p : Plain) → tried (finishOf e) n i rest ≡ stopped (finishOf e) n i
 stops-sweep e h c n i rest p = stops e h c n i rest p .0
 
 -- and leaves what the machine's end leaves
-pub stops-ends : (e : End) → bad e ≡ true → (c : Course) (n i : ℕ) (s : State) (b t k : List ℕ) → Seated c i n s →
+pub stops-ends : (e : End) → erring e ≡ true → (c : Course) (n i : ℕ) (s : State) (b t k : List ℕ) → Seated c i n s →
     plainIn (ended e s .state) b t k ≡ sweepEnds c (stopped (finishOf e) n i) (plainIn s b t k)
 stops-ends e h c n i s b t k q =
     ended-ends e s b t k
@@ -71,7 +71,7 @@ stops-ends e h c n i s b t k q =
 
 -- ---- the tests
 
-past-end : (l : Bool) → (P : Tested → Finish → Type 0) → ((e : End) → bad e ≡ true → P (Fails e) (finishOf e)) → P (testedOf (pick l Located.BadLba Located.BadCylinder)) (NotFound codeCylinderOrLba)
+past-end : (l : Bool) → (P : Tested → Finish → Type 0) → ((e : End) → erring e ≡ true → P (Fails e) (finishOf e)) → P (testedOf (pick l Located.BadLba Located.BadCylinder)) (NotFound codeCylinderOrLba)
 past-end true P f = f End.BadLba refl
 past-end false P f = f End.BadCylinder refl
 
@@ -81,22 +81,22 @@ past-marked : (l : Bool) (allows : ℕ → Bool) (e : End) (marks : List ℕ) �
 past-marked true allows e marks = refl
 past-marked false allows e marks = refl
 
-marked : (u v : Bool) (i : ℕ) (e : End) (P : Tested → Finish → Type 0) → bad e ≡ true → v ≡ not u → P (Passes (spotAt i)) Well → ((f : End) → bad f ≡ true → P (Fails f) (finishOf f)) →
+marked : (u v : Bool) (i : ℕ) (e : End) (P : Tested → Finish → Type 0) → erring e ≡ true → v ≡ not u → P (Passes (spotAt i)) Well → ((f : End) → erring f ≡ true → P (Fails f) (finishOf f)) →
     P (pick u (Passes (spotAt i)) (Fails e)) (pick v (finishOf e) Well)
 marked true true i e P h q x f = absurd (true≢false q)
 marked true false i e P h q x f = x
 marked false true i e P h q x f = f e h
 marked false false i e P h q x f = absurd (false≢true q)
 
-module _ (allows forbids : ℕ → Bool) (e : End) (h : bad e ≡ true) (opposite : (m : ℕ) → forbids m ≡ not (allows m)) where
+module _ (allows forbids : ℕ → Bool) (e : End) (h : erring e ≡ true) (opposite : (m : ℕ) → forbids m ≡ not (allows m)) where
   placed : (b : Bool) (c : Course) (i : ℕ) (marks : List ℕ) (P : Tested → Finish → Type 0) → ltb i (c .room) ≡ b →
-      (i < c .room → P (Passes (spotAt i)) Well) → ((f : End) → bad f ≡ true → P (Fails f) (finishOf f)) →
+      (i < c .room → P (Passes (spotAt i)) Well) → ((f : End) → erring f ≡ true → P (Fails f) (finishOf f)) →
       P (markTested allows e (testedOf (pick b (goodAt i) (pastEnd c))) marks) (pick b (pick (forbids (getD marks i 0)) (finishOf e) Well) (NotFound codeCylinderOrLba))
   placed true c i marks P q x f = marked (allows (getD marks i 0)) (forbids (getD marks i 0)) i e P h (opposite (getD marks i 0)) (x (ltb-true i (c .room) q)) f
   placed false c i marks P q x f = rw (past-marked (c .lba) allows e marks) (past-end (c .lba) P f)
 
   tested : (c : Course) (i : ℕ) (s : State) (marks : List ℕ) (P : Tested → Finish → Type 0) → Where c i s →
-      (i < c .room → P (Passes (spotAt i)) Well) → ((f : End) → bad f ≡ true → P (Fails f) (finishOf f)) →
+      (i < c .room → P (Passes (spotAt i)) Well) → ((f : End) → erring f ≡ true → P (Fails f) (finishOf f)) →
       P (markTested allows e (addressTest s) marks) (tests forbids (finishOf e) c marks i)
   unfolding addressTest tests
   tested c i s marks P w x f =
@@ -120,14 +120,14 @@ unwrite-opposite m = go (eqb m 2)
 
 -- what holds of a sound sector and of each failed test, holds of a sector to be read
 pub read-tested : (c : Course) (i : ℕ) (s : State) (marks : List ℕ) (P : Tested → Finish → Type 0) → Where c i s →
-    (i < c .room → P (Passes (spotAt i)) Well) → ((f : End) → bad f ≡ true → P (Fails f) (finishOf f)) →
+    (i < c .room → P (Passes (spotAt i)) Well) → ((f : End) → erring f ≡ true → P (Fails f) (finishOf f)) →
     P (sectorTest In s marks) (tests unreadable Unreadable c marks i)
 unfolding sectorTest
 read-tested c i s marks P w x f = tested readable unreadable End.Unreadable refl unread-opposite c i s marks P w x f
 
 -- and of a sector to be stored
 pub store-tested : (c : Course) (i : ℕ) (s : State) (marks : List ℕ) (P : Tested → Finish → Type 0) → Where c i s →
-    (i < c .room → P (Passes (spotAt i)) Well) → ((f : End) → bad f ≡ true → P (Fails f) (finishOf f)) →
+    (i < c .room → P (Passes (spotAt i)) Well) → ((f : End) → erring f ≡ true → P (Fails f) (finishOf f)) →
     P (sectorTest Out s marks) (tests unwritable WriteFault c marks i)
 unfolding sectorTest
 store-tested c i s marks P w x f = tested writable unwritable End.WriteFault refl unwrite-opposite c i s marks P w x f

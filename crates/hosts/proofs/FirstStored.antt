@@ -5,9 +5,10 @@ use mathlib.Core.Bool.{Bool, true, false}
 use mathlib.Core.Path.{_≡_, refl, sym, ap, _∙_, subst}
 use mathlib.Core.List.{List, _++_}
 use native.Mathlib.Omega.{arith}
-use lib.Dec.{ltb}
+use lib.Dec.{ltb, eqb}
+use Rattle.ground.specs.Choice.{pick}
 use lib.ListN.{length, take, drop, set, getD, length-drop, length-set, List·getD-append}
-use lib.Seq.{getD-set-same, length-take-le, getD-append-add, getD-take, getD-drop}
+use lib.Seq.{drop-cons, getD-set-same, length-take-le, getD-append-add, getD-take, getD-drop}
 use borrow.Author.Tests.{ltb-true, ltb-false}
 use Rattle.geometry.specs.Limits.{totalOf}
 use Rattle.registers.specs.Machine.{Machine}
@@ -19,13 +20,13 @@ use Rattle.account.specs.Plain.{Plain, WriteFault}
 use Rattle.account.specs.Addressed.{At}
 use Rattle.account.specs.CommandRows.{CommandRow, Writes, rowOf}
 use Rattle.account.specs.Course.{courseOf}
-use Rattle.account.specs.Sweeps.{unwritable, writeSweep, putSector, replaced, cleared}
+use Rattle.account.specs.Sweeps.{unwritable, writeSweep, putSector, replaced, cleared, badAt, badFrom}
 use Rattle.account.specs.Table.{asked, first}
 use Rattle.account.specs.Host.{plainOf, meanings, hosted}
 use Rattle.account.specs.Notes.{noNotes, wayOf}
 use Rattle.account.specs.Follows.{Able, commanded, afterBy, AcceptedCommand, after}
 use Rattle.sectors.specs.Sectors.{StoreMarks}
-use Rattle.hosts.specs.Moment.{CalmBy, Calm, wholeOf, storedOf, storedFrom, writtenSoFar, soFar, FirstStored}
+use Rattle.hosts.specs.Moment.{CalmBy, Calm, wholeOf, storedOf, storedFrom, writtenSoFar, soFar, notSound, FirstStored}
 use Rattle.account.proofs.Seats.{courseIn, seat-room, room-total}
 use Rattle.account.proofs.Stored.{LentFor, put-length}
 use Rattle.account.proofs.Commands.{first-at}
@@ -83,13 +84,26 @@ cleared-holds (suc k) i s h (suc j) y =
     let u : i + suc j ≡ i + 1 + j = omega arith in
     ap (λ (a : ℕ). getD (cleared (i + 1) k (set s i 0)) a 0) u ∙ cleared-holds k (i + 1) (set s i 0) (simp length-set (omega arith)) j (omega arith)
 
+-- the number, by the marks of these sectors
+one-more : (b : Bool) (n : ℕ) → pick b 0 1 + n ≡ pick b n (suc n)
+one-more true n = omega arith
+one-more false n = omega arith
+
+bad-among : (k i : ℕ) (marks : List ℕ) → i + k ≤ length marks → badFrom i k marks ≡ notSound (take k (drop i marks))
+unfolding badFrom notSound
+bad-among zero i marks h = refl
+bad-among (suc k) i marks h =
+    let s : i + 1 ≡ suc i = omega arith in
+    let e = bad-among k (i + 1) marks (omega arith) ∙ ap (λ (j : ℕ). notSound (take k (drop j marks))) s in
+    rw (drop-cons marks i 0 (omega arith)) (ap (λ (n : ℕ). badAt i marks + n) e ∙ one-more (eqb (getD marks i 0) 0) (notSound (take k (drop (suc i) marks))))
+
 stored-first : (i k n : ℕ) (p : Plain) (d : List ℕ) → 512 * k ≤ length d → i + k ≤ n → LentFor n (p .store) (p .marks) → FirstStored i k p d (storedFrom i k p d)
 stored-first i k n p d h e l = record {
   stored = replaced-holds k i n d (p .store) h e (l .0);
   marked = cleared-holds k i (p .marks) (let z = l .1 in omega arith);
   others = replaced-same k i n d (p .store) h e (l .0);
   otherMarks = cleared-same k i (p .marks);
-  counted = refl;
+  counted = ap (λ (b : ℕ). p .bad - b) (bad-among k i (p .marks) (let z = l .1 in omega arith));
 }
 
 -- ---- at every moment

@@ -86,7 +86,7 @@ module _ (c : Card) (store marks : List ℕ) (a : Asked) (v : ℕ) (l : List Cal
       let o : r .outcome ≡ step (now .machine) (accessOf way x) .outcome = ap (λ (u : Effect). u .outcome) p in
       (t .answer, o ∙ t .accepted, ap (λ (u : Outcome). note way (meaning (now .machine) (accessOf way x)) u q) o ∙ t .part)
 
-  -- and the caller's own arrays hold the sectors whose last byte has moved, and no other; the card's number of marks that are not 0 is that of them.
+  -- and the caller's own arrays hold the sectors whose last byte has moved, and no other; the card's number of bad sectors is down by theirs.
   pub code-at-every-moment : CalmBy (commanded v before) meant → storeMarks store′ marks′ (d .state .bad) ≡ soFar (rowOf v) (plainOf before) (q .done)
   code-at-every-moment g =
       subst (λ (h : Hosted). storeMarksIn (h .machine) ≡ soFar (rowOf v) (plainOf before) (h .notes .done)) there (means-at-every-moment before v meant (able before a v w) g)

@@ -1,10 +1,12 @@
 -- The store and the marks at any moment of a command, by the data that has moved: what a card keeps that is pulled there; and the number of marks that
 -- are not 0, as the card keeps it.
-use Prim.Native.Nat.{ℕ, min, _+_, _*_, _/_, _<_}
+use Prim.Native.Nat.{ℕ, min, suc, _+_, _-_, _*_, _/_, _<_}
 use mathlib.Core.Bool.{true}
 use mathlib.Core.List.{List, [], _∷_}
 use mathlib.Core.Path.{_≡_}
-use lib.ListN.{length, getD}
+use lib.Dec.{eqb}
+use lib.ListN.{length, take, drop, getD}
+use Rattle.ground.specs.Choice.{pick}
 use Rattle.sectors.specs.Sectors.{StoreMarks}
 use Rattle.registers.specs.Machine.{Machine}
 use Rattle.card.specs.declared.Meaning.{Meaning}
@@ -62,6 +64,11 @@ soFar Seeks p moved = storeMarksOf p
 soFar Senses p moved = storeMarksOf p
 soFar Others p moved = storeMarksOf p
 
+-- how many of a list of marks are not 0
+unfoldable pub notSound : List ℕ → ℕ
+notSound [] = 0
+notSound (mark ∷ marks) = pick (eqb mark 0) (notSound marks) (suc (notSound marks))
+
 -- the k sectors from index i hold the first 512 * k bytes that moved, in order, and have mark 0; every other byte and mark is as it was; the number of
 -- marks that are not 0 is down by those of these sectors
 pub record FirstStored (i k : ℕ) (p : Plain) (moved : List ℕ) (x : StoreMarks) : Type 0 where
@@ -69,4 +76,4 @@ pub record FirstStored (i k : ℕ) (p : Plain) (moved : List ℕ) (x : StoreMark
   pub marked : (j : ℕ) → j < k → getD (x .marks) (i + j) 0 ≡ 0
   pub others : SameOutside (bytesPerSector * i) (bytesPerSector * (i + k)) (p .store) (x .store)
   pub otherMarks : SameOutside i (i + k) (p .marks) (x .marks)
-  pub counted : x .bad ≡ badLeft i k p
+  pub counted : x .bad ≡ p .bad - notSound (take k (drop i (p .marks)))

@@ -1,4 +1,4 @@
--- The bytes of Identify, for the loop that fills the buffer: how many they are, and which.
+-- The bytes of Identify, for the loop that fills the buffer: how many they are, and which; those of word 129.
 use Prim.Native.Nat.{ℕ, _+_, _/_, _%_, _<_}
 use native.Mathlib.Nat.{zero-add, add-assoc}
 use mathlib.Core.Path.{_≡_, ap, _∙_}

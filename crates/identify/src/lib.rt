@@ -58,8 +58,8 @@ impl Facts {
         current.capacity()
     }
 
-    // The table's rows from word 129 on.
-    fn last_word(self, n: usize) -> u16
+    // The table's rows from word 129 on: 02 calls it a vendor word.
+    fn vendor_word(self, n: usize) -> u16
         ensures { λ r. ⌜ r ≡ lookup (fromWord129 self) n 0 ⌝ }
     {
         if n == 129 {
@@ -100,7 +100,7 @@ impl Facts {
         if n == 61 {
             return high_half(self.total());
         }
-        self.last_word(n)
+        self.vendor_word(n)
     }
 
     // The table's rows from word 10 on.
@@ -125,7 +125,7 @@ impl Facts {
     {
         let default = self.default;
         if 61 < n {
-            return self.last_word(n);
+            return self.vendor_word(n);
         }
         if n == 0 {
             return 0x848A;

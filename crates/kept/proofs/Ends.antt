@@ -77,18 +77,18 @@ unfolding loadFits sectorsFit every
 sectors-fit left s g a = rw (g, le-leb _ _ (a .0), le-leb _ _ (a .1), eq-eqb _ _ (a .2))
 
 -- an end in error
-abbrev pub bad : End → Bool
-bad e = not (eqb (endStatus e) idleStatus)
+abbrev pub erring : End → Bool
+erring e = not (eqb (endStatus e) idleStatus)
 
 -- what a sector's tests can say
-pub address-elim : (P : Tested → Type 0) (l : Located) → ((spot : Spot) → validAddress l ≡ true → P (Passes spot)) → ((e : End) → bad e ≡ true → P (Fails e)) → P (testedOf l)
+pub address-elim : (P : Tested → Type 0) (l : Located) → ((spot : Spot) → validAddress l ≡ true → P (Passes spot)) → ((e : End) → erring e ≡ true → P (Fails e)) → P (testedOf l)
 address-elim P (Located.Good spot) f g = f spot refl
 address-elim P Located.BadHeadOrSector f g = g _ refl
 address-elim P Located.BadCylinder f g = g _ refl
 address-elim P Located.BadLba f g = g _ refl
 
-pub mark-elim : (P : Tested → Type 0) (allows : ℕ → Bool) (e : End) (marks : List ℕ) (l : Located) → bad e ≡ true →
-    ((spot : Spot) → validAddress l ≡ true → P (Passes spot)) → ((e : End) → bad e ≡ true → P (Fails e)) → P (markTested allows e (testedOf l) marks)
+pub mark-elim : (P : Tested → Type 0) (allows : ℕ → Bool) (e : End) (marks : List ℕ) (l : Located) → erring e ≡ true →
+    ((spot : Spot) → validAddress l ≡ true → P (Passes spot)) → ((e : End) → erring e ≡ true → P (Fails e)) → P (markTested allows e (testedOf l) marks)
 mark-elim P allows e marks l b f g =
     address-elim (λ (t : Tested). P (markTested allows e t marks)) l
     (λ spot h. pick-elim P (allows (getD marks (spot .index) 0)) _ _ (λ x. f spot h) (λ x. g e b))

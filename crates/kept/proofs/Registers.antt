@@ -1,7 +1,8 @@
 -- "Well made" taken apart: what the state alone must fulfil, and what it must fulfil for the phase; register reads and writes keep both.
-use Prim.Native.Nat.{ℕ, _<_}
+use Prim.Native.Nat.{ℕ, _<_, _≤_}
 use mathlib.Core.Bool.{true, false, true≢false}
 use mathlib.Core.Path.{_≡_, refl}
+use borrow.Author.Tests.{le-leb}
 use Rattle.ground.specs.Choice.{every}
 use Rattle.geometry.specs.Limits.{fits, currentFor}
 use Rattle.ground.proofs.Every.{each}
@@ -13,7 +14,7 @@ use Rattle.registers.specs.declared.Phase.the-variants.{Idle, DataIn, DataOut}
 use Rattle.registers.specs.declared.Made.{Made}
 use Rattle.registers.specs.declared.State.{State}
 use Rattle.registers.specs.declared.Core.{Core}
-use Rattle.registers.specs.State.{runs, withInterrupt, totalIn, locatedIn}
+use Rattle.registers.specs.State.{runs, withInterrupt, withBad, totalIn, locatedIn}
 use Rattle.registers.specs.Machine.{core}
 use Rattle.registers.specs.WellMade.{wellMade, indexFits, sresetFits, statusFits, inReset, holdFits, wordsFit, sectorsFit, loadFits, runFits, badFits}
 use Rattle.registers.specs.Values.{afterRead, registerSet}
@@ -61,6 +62,15 @@ unfolding runFits
 run-same Idle s t e f h = refl
 run-same (DataIn x) s t e f h = load-same (x .load) s t e f h
 run-same (DataOut x) s t e f h = load-same (x .load) s t e f h
+
+-- 02, "Eight": any number of marks that are not 0 up to N is as good as another
+pub any-number-well : (p : Phase) (s : State) (b : ℕ) → b ≤ totalIn s → wellMade p s ≡ true → wellMade p (withBad b s) ≡ true
+unfolding inReset badFits
+any-number-well p s b l e =
+    let a = apart p s e in
+    let f = a .0 in
+    let r = a .1 in
+    together (s .made) p (withBad b s) (f .0, f .1, f .2, f .3, f .4, le-leb b (totalIn s) l) (r .0, r .1, r .2, run-same p s (withBad b s) refl refl (r .3))
 
 -- with no transfer running only Status is tested
 idle-fits : (p : Phase) (s t : State) → runs p ≡ false → t .registers .status ≡ s .registers .status → PhaseFits p s → PhaseFits p t

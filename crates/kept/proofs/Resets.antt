@@ -47,7 +47,7 @@ at-rest s e = (e, refl, refl, refl)
 entered-rests : (p : Phase) (s : State) → PhaseFits p s → atRest (entered p s .registers .status) ≡ true
 entered-rests p s r = rest-status p (s .registers .status) (r .0)
 
--- power-on, with any map setting that may be written, and as many bad sectors as there can be
+-- power-on, with any map setting that may be written, and no more bad sectors than N
 pub power-stands : (d : Made) (b v : ℕ) → fits (d .default) ≡ true → indexFits v ≡ true → sresetFits (d .mode) v ≡ true → badFits b (totalOf (d .default)) ≡ true →
     StateFits d (powerOn d b v)
 power-stands d b v f i m t = (refl, f, fits-current (d .default) f, i, m, t)

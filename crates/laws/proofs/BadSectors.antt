@@ -34,14 +34,15 @@ use Rattle.laws.proofs.ChangesFew.{untouched}
 
 -- ---- the opening
 
-one-more : (b : Bool) (mark : ℕ) (marks : List ℕ) → pick b 0 1 + length (notZero marks) ≡ length (pick b (notZero marks) (mark ∷ notZero marks))
-one-more true mark marks = omega arith
-one-more false mark marks = omega arith
+-- one mark more, which is counted where it is not 0
+by-mark : (b : Bool) (mark : ℕ) (rest : List ℕ) → length (pick b rest (mark ∷ rest)) ≡ pick b 0 1 + length rest
+by-mark true mark rest = omega arith
+by-mark false mark rest = omega arith
 
 counted : (marks : List ℕ) → badIn marks ≡ badSectors marks
 unfolding badIn notZero
 counted [] = refl
-counted (mark ∷ marks) = ap (λ (n : ℕ). oneIfBad mark + n) (counted marks) ∙ one-more (eqb mark 0) mark marks
+counted (mark ∷ marks) = ap (λ (n : ℕ). oneIfBad mark + n) (counted marks) ∙ sym (by-mark (eqb mark 0) mark (notZero marks))
 
 -- "worked out at opening"
 pub opening-counts : (g : Geometry) (mode : ℕ) (store marks tuples : List ℕ) → opened g mode store marks tuples .outcome ≡ Outcome.Accepted 0 →
@@ -54,11 +55,7 @@ opening-counts g mode store marks tuples =
 -- ---- one access
 
 -- a mark set to 0 is one bad sector less, where it was not 0
-by-mark : (b : Bool) (mark : ℕ) (rest : List ℕ) → length (pick b rest (mark ∷ rest)) ≡ length rest + pick b 0 1
-by-mark true mark rest = omega arith
-by-mark false mark rest = omega arith
-
-cleared-one : (marks : List ℕ) (i : ℕ) → i < length marks → badSectors marks ≡ badSectors (set marks i 0) + oneIfBad (getD marks i 0)
+cleared-one : (marks : List ℕ) (i : ℕ) → i < length marks → badSectors marks ≡ oneIfBad (getD marks i 0) + badSectors (set marks i 0)
 unfolding notZero
 cleared-one [] i h = absurd (omega (arith, h))
 cleared-one (mark ∷ marks) zero h = by-mark (eqb mark 0) mark (notZero marks)

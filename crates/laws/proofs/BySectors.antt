@@ -1,4 +1,4 @@
--- An access changes the store and the marks by whole sectors: those that `changes` lists, and nothing else.
+-- An access changes the store, the marks and the number of marks that are not 0 by whole sectors: those that `changes` lists, and nothing else.
 use Prim.Native.Nat.{ℕ, _-_}
 use mathlib.Core.Path.{_≡_, refl, ap, _∙_}
 use mathlib.Core.Bool.{Bool, true, false}
@@ -39,7 +39,7 @@ use Rattle.kept.specs.Lent.{storeMarksIn}
 use Rattle.kept.proofs.RegisterElim.{read-elim}
 use Rattle.kept.proofs.DataElim.{data-read-elim}
 use Rattle.laws.specs.Changes.{Change, changed, commandChanges, registerChanges, phaseChanges, changes}
-use Rattle.laws.proofs.SettingsKept.{number, done, plain, ask-sector, verified, erased, reshaped-ended}
+use Rattle.laws.proofs.SettingsKept.{same-number, done, plain, ask-sector, verified, erased, reshaped-ended}
 use Rattle.laws.proofs.ErasedSectors.{erase-kept}
 use Rattle.laws.proofs.WrittenSectors.{phase-written}
 
@@ -60,7 +60,7 @@ load-read : (l : Load) (m : Machine) → Keeps (storeMarksIn m) (loadRead l m)
 unfolding nextRead readSector
 load-read Buffer m = refl
 load-read (Sectors left) m =
-    let d = kept m (number (done (left - 1) (m .state))) in
+    let d = kept m (same-number (done (left - 1) (m .state))) in
     pick-elim (Keeps (storeMarksIn m)) (eqb (left - 1) 0) _ _ (λ e. d)
     (λ e. read-tested (sectorTest In (sectorDone (left - 1) (m .state)) (m .marks)) (left - 1) (idleWith (sectorDone (left - 1) (m .state)) m) ∙ d)
 
@@ -92,17 +92,17 @@ control-keeps Stay masked p s = refl
 obeys : (c : Command) (m : Machine) → storeMarksIn (obeyed c (started (dropped m .state)) (dropped m)) ≡ changed (commandChanges c (m .state) (m .marks)) (storeMarksIn m)
 unfolding changed readSector countOf
 obeys Read m = read-tested (sectorTest In (started (dropped m .state)) (m .marks)) (countOf (started (dropped m .state))) (idleWith (started (dropped m .state)) m)
-obeys Write m = let s = started (dropped m .state) in kept m (number (ask-sector (countOf s) First s))
-obeys Verify m = let s = started (dropped m .state) in kept m (number (verified (countOf s) s (m .marks)))
+obeys Write m = let s = started (dropped m .state) in kept m (same-number (ask-sector (countOf s) First s))
+obeys Verify m = let s = started (dropped m .state) in kept m (same-number (verified (countOf s) s (m .marks)))
 obeys Erase m =
     let s = started (dropped m .state) in
     let e = eraseFrom (countOf s) s (m .store) (m .marks) in
-    ap (storeMarks (e .next .store) (e .next .marks)) (number (erased (countOf s) s (m .store) (m .marks))) ∙ erase-kept (countOf s) s (m .store) (m .marks)
+    ap (storeMarks (e .next .store) (e .next .marks)) (same-number (erased (countOf s) s (m .store) (m .marks))) ∙ erase-kept (countOf s) s (m .store) (m .marks)
 obeys Identify m = refl
 obeys ReadBuffer m = refl
 obeys WriteBuffer m = refl
 obeys SetGeometry m =
-    let s = started (dropped m .state) in kept m (number (reshaped-ended (reshaped (s .registers .count) (s .registers .address .head) (totalIn s)) s))
+    let s = started (dropped m .state) in kept m (same-number (reshaped-ended (reshaped (s .registers .count) (s .registers .address .head) (totalIn s)) s))
 obeys Diagnose m = refl
 obeys Recalibrate m = refl
 obeys Seek m = refl
@@ -117,15 +117,15 @@ command-written false v m = obeys (commandOf v) m
 
 register-written : (r : Register) (v : ℕ) (m : Machine) → storeMarksIn (registerWritten r v m) ≡ changed (registerChanges r v m) (storeMarksIn m)
 unfolding changed registerWritten
-register-written ErrorFeature v m = kept m (number (plain ErrorFeature v (coreOf m)))
-register-written SectorCount v m = kept m (number (plain SectorCount v (coreOf m)))
-register-written SectorNumber v m = kept m (number (plain SectorNumber v (coreOf m)))
-register-written CylinderLow v m = kept m (number (plain CylinderLow v (coreOf m)))
-register-written CylinderHigh v m = kept m (number (plain CylinderHigh v (coreOf m)))
-register-written DriveHead v m = kept m (number (plain DriveHead v (coreOf m)))
+register-written ErrorFeature v m = kept m (same-number (plain ErrorFeature v (coreOf m)))
+register-written SectorCount v m = kept m (same-number (plain SectorCount v (coreOf m)))
+register-written SectorNumber v m = kept m (same-number (plain SectorNumber v (coreOf m)))
+register-written CylinderLow v m = kept m (same-number (plain CylinderLow v (coreOf m)))
+register-written CylinderHigh v m = kept m (same-number (plain CylinderHigh v (coreOf m)))
+register-written DriveHead v m = kept m (same-number (plain DriveHead v (coreOf m)))
 register-written StatusCommand v m = command-written (m .state .control .held) v m
 register-written AlternateControl v m = kept m (control-keeps (turnOf (m .state .control .held) (bitTwo v)) (bitOne v) (m .phase) (m .state))
-register-written DriveAddress v m = kept m (number (plain DriveAddress v (coreOf m)))
+register-written DriveAddress v m = kept m (same-number (plain DriveAddress v (coreOf m)))
 
 pub meant-sectors : (x : Meaning) (m : Machine) → storeMarksIn (perform x m .next) ≡ changed (changes x m) (storeMarksIn m)
 unfolding changed changes perform dataWritten optionWritten

@@ -1,4 +1,4 @@
--- C0H changes the store and the marks by the sectors that its definition lists.
+-- C0H changes the store, the marks and their number by the sectors that its definition lists.
 use Prim.Native.Nat.{ℕ, zero, suc, _/_, _<_}
 use mathlib.Core.Path.{_≡_, refl, sym, ap, subst, _∙_}
 use mathlib.Core.Bool.{Bool, true, false}
@@ -24,7 +24,7 @@ use Rattle.transfers.specs.Steps.{sectorDone}
 use Rattle.commands.specs.Sweeps.{allFF, eraseFrom}
 use Rattle.laws.specs.Changes.{Change, changed, sectorChanges, erasures}
 use Rattle.kept.proofs.Sweeps.{erasesOn}
-use Rattle.laws.proofs.SettingsKept.{number, done}
+use Rattle.laws.proofs.SettingsKept.{same-number, done}
 
 -- ---- a stored sector's mark is 0, and so it can be written as before
 
@@ -48,7 +48,7 @@ same-stored k marks0 bytes i h w =
 
 -- ---- one sector, and the rest
 
--- the rest of the run, from whatever store and marks
+-- the rest of the run, from whatever store, marks and number
 abbrev Rest : ℕ → State → List Change → List ℕ → List ℕ → Type 0
 Rest n s rest store marks = eraseFrom n s store marks .next ≡ changed rest (storeMarks store marks (s .bad))
 
@@ -64,7 +64,7 @@ unfolding changed allFF
 by-mark true spot n s store marks marks0 rest h w f =
     let k = stored (storeMarks store marks (s .bad)) (spot .index) (replicate 512 0xFF) in
     f k (same-stored (storeMarks store marks (s .bad)) marks0 (replicate 512 0xFF) (spot .index) h w)
-    ∙ ap (λ (b : ℕ). changed rest (storeMarks (k .store) (k .marks) b)) (number (done n (withBad (k .bad) s)))
+    ∙ ap (λ (b : ℕ). changed rest (storeMarks (k .store) (k .marks) b)) (same-number (done n (withBad (k .bad) s)))
 by-mark false spot n s store marks marks0 rest h w f = refl
 
 by-address : (l : Located) (n : ℕ) (s : State) (store marks marks0 : List ℕ) (rest : List Change) →

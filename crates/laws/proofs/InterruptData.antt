@@ -30,18 +30,18 @@ use Rattle.transfers.specs.Before.{addressTest, sectorTest, sectorStored}
 use Rattle.transfers.specs.Steps.{idleWith, sectorDone, readTested, readSector, nextRead, loadRead, askTested, askSector, nextAsked, coreWritten, loadWritten, allMoved}
 use Rattle.port.specs.Data.{Effect, dataRead, dataWritten}
 use Rattle.kept.proofs.Data.{phaseOf}
-use Rattle.kept.proofs.Ends.{bad, mark-elim, done-count}
+use Rattle.kept.proofs.Ends.{erring, mark-elim, done-count}
 use Rattle.kept.proofs.DataElim.{partCome, data-read-elim, data-written-elim}
 use Rattle.laws.specs.Interrupt.{drqSet, another, InterruptRule}
 use Rattle.laws.specs.Acts.{DataRead, DataWrite}
 use Rattle.laws.proofs.InterruptLaws.{still, turned, written-end, read-failed, read-well}
 use Rattle.laws.proofs.InterruptEnds.{end-drq}
 
--- ---- a test that fails is a bad end
+-- ---- a test that fails is an end in error
 
 abbrev proper : Tested → Bool
 proper (Passes spot) = true
-proper (Fails e) = bad e
+proper (Fails e) = erring e
 
 read-proper : (s : State) (marks : List ℕ) → proper (sectorTest In s marks) ≡ true
 unfolding sectorTest addressTest

@@ -40,11 +40,11 @@ pub record Steady : Type 0 where
 abbrev pub steadyOf : State → Steady
 steadyOf s = record { settings = settingsOf s; bad = s .bad }
 
-pub settings : {x y : Steady} → x ≡ y → x .settings ≡ y .settings
-settings e = ap (λ (k : Steady). k .settings) e
+pub same-settings : {x y : Steady} → x ≡ y → x .settings ≡ y .settings
+same-settings e = ap (λ (k : Steady). k .settings) e
 
-pub number : {x y : Steady} → x ≡ y → x .bad ≡ y .bad
-number e = ap (λ (k : Steady). k .bad) e
+pub same-number : {x y : Steady} → x ≡ y → x .bad ≡ y .bad
+same-number e = ap (λ (k : Steady). k .bad) e
 
 pub done : (n : ℕ) (s : State) → steadyOf (sectorDone n s) ≡ steadyOf s
 unfolding sectorDone
@@ -99,7 +99,7 @@ sector-written left m =
 
 pub load-written : (l : Load) (m : Machine) → settingsOf (loadWritten l m .state) ≡ settingsOf (m .state)
 load-written Buffer m = refl
-load-written (Sectors left) m = settings (sector-written left m)
+load-written (Sectors left) m = same-settings (sector-written left m)
 
 -- ---- the command table
 
@@ -110,7 +110,7 @@ verified n s marks = verify-elim (λ (x : State). steadyOf x ≡ steadyOf s) (λ
 pub erased : (n : ℕ) (s : State) (store marks : List ℕ) → let e = eraseFrom n s store marks in steadyOf (e .outcome .state) ≡ steadyOf (withBad (e .next .bad) s)
 erased n s store marks =
     erase-elim (λ (x : State) (st mk : List ℕ). settingsOf x ≡ settingsOf s) (λ (k : Left Core StoreMarks). steadyOf (k .outcome .state) ≡ steadyOf (withBad (k .next .bad) s))
-    (λ x st mk h. h) (λ n x st mk h. settings (done n x) ∙ h) (λ e x st mk h. ap (λ (k : Settings). record { settings = k; bad = x .bad }) h) n s store marks refl
+    (λ x st mk h. h) (λ n x st mk h. same-settings (done n x) ∙ h) (λ e x st mk h. ap (λ (k : Settings). record { settings = k; bad = x .bad }) h) n s store marks refl
 
 pub reshaped-ended : (r : Reshaped) (s : State) → steadyOf (reshapedEnded r s .state) ≡ steadyOf s
 reshaped-ended (Reshaped.Taken g) s = refl
@@ -118,14 +118,14 @@ reshaped-ended Reshaped.Refused s = refl
 
 -- s is the state with Error and code 0
 obeys : (c : Command) (s : State) (m : Machine) → settingsOf s ≡ settingsOf (m .state) → settingsOf (obeyed c s m .state) ≡ settingsOf (m .state)
-obeys Read s m h = settings (read-sector (countOf s) (idleWith s m)) ∙ h
-obeys Write s m h = settings (ask-sector (countOf s) First s) ∙ h
-obeys Verify s m h = settings (verified (countOf s) s (m .marks)) ∙ h
-obeys Erase s m h = settings (erased (countOf s) s (m .store) (m .marks)) ∙ h
+obeys Read s m h = same-settings (read-sector (countOf s) (idleWith s m)) ∙ h
+obeys Write s m h = same-settings (ask-sector (countOf s) First s) ∙ h
+obeys Verify s m h = same-settings (verified (countOf s) s (m .marks)) ∙ h
+obeys Erase s m h = same-settings (erased (countOf s) s (m .store) (m .marks)) ∙ h
 obeys Identify s m h = h
 obeys ReadBuffer s m h = h
 obeys WriteBuffer s m h = h
-obeys SetGeometry s m h = settings (reshaped-ended (reshaped (s .registers .count) (s .registers .address .head) (totalIn s)) s) ∙ h
+obeys SetGeometry s m h = same-settings (reshaped-ended (reshaped (s .registers .count) (s .registers .address .head) (totalIn s)) s) ∙ h
 obeys Diagnose s m h = h
 obeys Recalibrate s m h = h
 obeys Seek s m h = h

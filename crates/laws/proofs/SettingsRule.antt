@@ -8,7 +8,6 @@ use Rattle.maps.specs.declared.Register.{Register}
 use Rattle.maps.specs.declared.Register.the-variants.{ErrorFeature, SectorCount, SectorNumber, CylinderLow, CylinderHigh, DriveHead, StatusCommand, AlternateControl, DriveAddress}
 use Rattle.registers.specs.declared.Phase.{Phase}
 use Rattle.registers.specs.declared.State.{State}
-use Rattle.registers.specs.declared.Core.{Core}
 use Rattle.registers.specs.Machine.{Machine, coreOf}
 use Rattle.registers.specs.Resets.{turnOf, optionTurned, controlTurned}
 use Rattle.transfers.specs.Steps.{allMoved}
@@ -16,13 +15,13 @@ use Rattle.port.specs.Data.{Effect}
 use Rattle.card.specs.declared.Meaning.{Meaning}
 use Rattle.card.specs.declared.Meaning.the-variants.{TupleByte, ReadOption, WriteOption, ReadRegister, WriteRegister, ReadData, WriteData}
 use Rattle.card.specs.Access.{Asked, meaning}
-use Rattle.card.specs.Perform.{optionWritten, plainCore, registerWritten, perform}
+use Rattle.card.specs.Perform.{optionWritten, registerWritten, perform}
 use Rattle.card.specs.Step.{step}
 use Rattle.kept.proofs.RegisterElim.{read-elim}
 use Rattle.kept.proofs.DataElim.{partCome, data-read-elim, data-written-elim}
 use Rattle.laws.specs.Bits.{bitSeven, bitTwo, bitOne}
 use Rattle.laws.specs.Settings.{settingsOf, released, settingsAfter}
-use Rattle.laws.proofs.SettingsKept.{settings, plain, load-read, load-written, commanded}
+use Rattle.laws.proofs.SettingsKept.{same-settings, plain, load-read, load-written, commanded}
 
 -- was bit 7 set, and is it set now
 option-turned : (was now : Bool) (v : ℕ) (p : Phase) (s : State) →
@@ -44,16 +43,16 @@ control-turned true true masked p s e = ap (λ (b : Bool). record { option = s .
 
 register-written : (r : Register) (v : ℕ) (m : Machine) → settingsOf (registerWritten r v m .state) ≡ settingsAfter (WriteRegister r v) (m .state)
 unfolding registerWritten
-register-written ErrorFeature v m = settings (plain ErrorFeature v (coreOf m))
-register-written SectorCount v m = settings (plain SectorCount v (coreOf m))
-register-written SectorNumber v m = settings (plain SectorNumber v (coreOf m))
-register-written CylinderLow v m = settings (plain CylinderLow v (coreOf m))
-register-written CylinderHigh v m = settings (plain CylinderHigh v (coreOf m))
-register-written DriveHead v m = settings (plain DriveHead v (coreOf m))
+register-written ErrorFeature v m = same-settings (plain ErrorFeature v (coreOf m))
+register-written SectorCount v m = same-settings (plain SectorCount v (coreOf m))
+register-written SectorNumber v m = same-settings (plain SectorNumber v (coreOf m))
+register-written CylinderLow v m = same-settings (plain CylinderLow v (coreOf m))
+register-written CylinderHigh v m = same-settings (plain CylinderHigh v (coreOf m))
+register-written DriveHead v m = same-settings (plain DriveHead v (coreOf m))
 register-written StatusCommand v m =
     pick-elim (λ (n : Machine). settingsOf (n .state) ≡ settingsOf (m .state)) (m .state .control .held) _ _ (λ h. refl) (λ h. commanded v m)
 register-written AlternateControl v m = control-turned (m .state .control .held) (bitTwo v) (bitOne v) (m .phase) (m .state) refl
-register-written DriveAddress v m = settings (plain DriveAddress v (coreOf m))
+register-written DriveAddress v m = same-settings (plain DriveAddress v (coreOf m))
 
 pub meant-settings : (x : Meaning) (m : Machine) → settingsOf (perform x m .next .state) ≡ settingsAfter x (m .state)
 unfolding perform optionWritten
@@ -64,7 +63,7 @@ meant-settings (WriteOption v) m = option-turned (bitSeven (m .state .option)) (
 meant-settings (ReadRegister r) m = read-elim (λ (x : State). settingsOf x ≡ settingsOf (m .state)) r (m .state) refl refl
 meant-settings (WriteRegister r v) m = register-written r v m
 meant-settings (ReadData port) m =
-    data-read-elim (λ (e : Effect). settingsOf (e .next .state) ≡ settingsOf (m .state)) port m (λ v. refl) refl (λ v part t e. refl) (λ v t e w. refl) (λ v t e. settings (load-read (t .load) (allMoved m)))
+    data-read-elim (λ (e : Effect). settingsOf (e .next .state) ≡ settingsOf (m .state)) port m (λ v. refl) refl (λ v part t e. refl) (λ v t e w. refl) (λ v t e. same-settings (load-read (t .load) (allMoved m)))
 meant-settings (WriteData port v) m =
     data-written-elim (λ (e : Effect). settingsOf (e .next .state) ≡ settingsOf (m .state)) port v m refl refl (λ part t e. refl) (λ part t e w. refl)
     (λ part t e. load-written (t .load) (allMoved (partCome part t v m)))

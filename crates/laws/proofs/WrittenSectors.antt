@@ -28,7 +28,7 @@ use Rattle.port.specs.Halves.{takeOf, withPart}
 use Rattle.port.specs.Data.{wordWritten, takenWritten, phaseWritten}
 use Rattle.kept.specs.Lent.{storeMarksIn}
 use Rattle.laws.specs.Changes.{changed, sectorChanges, loadChanges, takenChanges, phaseChanges}
-use Rattle.laws.proofs.SettingsKept.{number, sector-written}
+use Rattle.laws.proofs.SettingsKept.{same-number, sector-written}
 
 by-mark : (b : Bool) (spot : Spot) (bytes : List ℕ) (k : StoreMarks) →
     storedBy (pick b (Passes spot) (Fails WriteFault)) bytes k .next ≡ changed (pick b (record { index = spot .index; bytes = bytes } ∷ []) []) k
@@ -48,7 +48,7 @@ load-written : (l : Load) (bytes : List ℕ) (m : Machine) → storeMarksIn (loa
 unfolding changed sectorStored sectorTest addressTest
 load-written Buffer bytes m = refl
 load-written (Sectors left) bytes m =
-    ap (storeMarks _ _) (number (sector-written left (allMoved (withBuffer bytes m)))) ∙ by-address (locatedIn (m .state)) bytes (storeMarksIn m)
+    ap (storeMarks _ _) (same-number (sector-written left (allMoved (withBuffer bytes m)))) ∙ by-address (locatedIn (m .state)) bytes (storeMarksIn m)
 
 by-word : (b : Bool) (l : Load) (bytes : List ℕ) (m x : Machine) → storeMarksIn x ≡ storeMarksIn m →
     storeMarksIn (pick b x (loadWritten l (allMoved (withBuffer bytes m)))) ≡ changed (pick b [] (loadChanges l bytes m)) (storeMarksIn m)

@@ -46,7 +46,7 @@ pub record Change : Type 0 where
   pub index : ℕ
   pub bytes : List ℕ
 
--- one after the other: the 512 bytes from 512 times the index, and the mark set to 0
+-- one after the other: the 512 bytes from 512 times the index, the mark set to 0, and the number of marks that are not 0 lowered if it was not
 unfoldable pub changed : List Change → StoreMarks → StoreMarks
 changed [] k = k
 changed (c ∷ l) k = changed l (stored k (c .index) (c .bytes))

@@ -1,4 +1,4 @@
-// The card's state without its buffer: registers, geometries, transfer, the two resets, the interrupt mark; what is well made; what reading and
+// The card's state without its buffer: registers, geometries, transfer, the two resets, the interrupt mark, the number of bad sectors; what is well made; what reading and
 // writing a register does, but for a command.
 use geometry::Address;
 use geometry::Geometry;

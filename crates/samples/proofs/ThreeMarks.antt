@@ -1,6 +1,6 @@
 -- Three marks that are not 0, as Identify tells them, by computing.
 use mathlib.Core.Path.{_≡_, refl}
-use mathlib.Core.List.{[], _∷_, _++_}
+use mathlib.Core.List.{[], _∷_}
 use Rattle.card.specs.Step.{play}
 use Rattle.samples.specs.Parts.{put}
 use Rattle.samples.specs.ThreeMarks.{threeMarks, threeBad, asksOf, wordAt, identifiedAfter, written, erased}

@@ -8,7 +8,8 @@ use lib.Dec.{ltb}
 use lib.ListN.{length, take, drop, getD, List·getD-append}
 use lib.Seq.{length-take-le, getD-append-add, getD-take, getD-drop, getD-set-same, getD-set-other}
 use borrow.Author.Tests.{eq-eqb, ne-eqb, lt-ltb, ltb-true, ltb-false}
-use Rattle.sectors.specs.Marks.{lowered}
+use Rattle.ground.specs.Choice.{pick}
+use Rattle.sectors.specs.Marks.{oneIfBad, lowered}
 use Rattle.sectors.specs.Sectors.{withSector, StoreMarks, stored}
 use Rattle.sectors.specs.Stored.{SectorStored}
 
@@ -46,11 +47,11 @@ module _ (store : List ℕ) (i : ℕ) (bytes : List ℕ) (h : 512 * i + 512 ≤ 
 
 lowered-not : (mark b : ℕ) → mark ≡ 0 → lowered mark b ≡ b
 unfolding lowered
-lowered-not mark b h = rw (eq-eqb mark 0 h) (omega arith)
+lowered-not mark b h = let z : oneIfBad mark ≡ 0 = ap (λ (t : Bool). pick t 0 1) (eq-eqb mark 0 h) in omega arith
 
 lowered-once : (mark b n : ℕ) → (mark ≡ 0 → ⊥) → b ≡ suc n → lowered mark b ≡ n
 unfolding lowered
-lowered-once mark b n h e = rw (ne-eqb mark 0 h) (omega arith)
+lowered-once mark b n h e = let z : oneIfBad mark ≡ 1 = ap (λ (t : Bool). pick t 0 1) (ne-eqb mark 0 h) in omega arith
 
 -- Of a store and marks that have sector i.
 pub stored-sector : (k : StoreMarks) (i : ℕ) (bytes : List ℕ) → 512 * i + 512 ≤ length (k .store) → i < length (k .marks) → length bytes ≡ 512 →
@@ -65,5 +66,5 @@ stored-sector k i bytes h l e =
       otherMarks = λ j d. getD-set-other (k .marks) i j 0 0 d;
       soundBefore = λ z. lowered-not (getD (k .marks) i 0) (k .bad) z;
       badBefore = λ d n z. lowered-once (getD (k .marks) i 0) (k .bad) n d z;
-      never = λ z. omega arith;
+      neverBelow = λ z. omega arith;
     })

@@ -1,5 +1,5 @@
 -- 01, "Commands": "a sector is stored, and its mark set to 0", place by place; and 02, "Eight": the number of marks that are not 0.
-use Prim.Native.Nat.{ℕ, zero, suc, _+_, _*_, _/_, _<_}
+use Prim.Native.Nat.{ℕ, suc, _+_, _*_, _/_, _<_}
 use mathlib.Core.Path.{_≡_}
 use mathlib.Core.List.{List}
 use lib.ListN.{getD}
@@ -15,4 +15,4 @@ pub record SectorStored (i : ℕ) (bytes : List ℕ) (old new : StoreMarks) : Ty
   pub otherMarks : (j : ℕ) → (j ≡ i → ⊥) → getD (new .marks) j 0 ≡ getD (old .marks) j 0
   pub soundBefore : getD (old .marks) i 0 ≡ 0 → new .bad ≡ old .bad
   pub badBefore : (getD (old .marks) i 0 ≡ 0 → ⊥) → (n : ℕ) → old .bad ≡ suc n → new .bad ≡ n
-  pub never : old .bad ≡ 0 → new .bad ≡ 0
+  pub neverBelow : old .bad ≡ 0 → new .bad ≡ 0

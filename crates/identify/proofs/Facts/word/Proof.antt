@@ -50,11 +50,11 @@ past f n h =
     )
     refl
 
-last-word-requires : tie.Need-last-word-requires
-last-word-requires c κs = search needs
+vendor-word-requires : tie.Need-vendor-word-requires
+vendor-word-requires c κs = search needs
 
 returns : tie.Need-returns
-returns c = c .last-word .ensures ∙ sym (past _ _ (c .before .if1 .taken))
+returns c = c .vendor-word .ensures ∙ sym (past _ _ (c .before .if1 .taken))
 
 returns-2 : tie.Need-returns-2
 unfolding identifyWord
@@ -103,7 +103,7 @@ pub word-spec : {M : Type 1} → statement M
 word-spec =
     tie.close
     (tie.spec
-    last-word-requires
+    vendor-word-requires
     returns
     returns-2
     returns-3

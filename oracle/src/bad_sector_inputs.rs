@@ -1,14 +1,14 @@
-//! Trial inputs of the count of the marks that are not 0: worked out at the opening, lowered, set from
-//! outside, kept and shown in Identify.
+//! Trial inputs of the number of bad sectors: worked out at the opening, lowered, set from outside, kept
+//! and shown in Identify.
 
 use crate::card::Access;
-use crate::field_inputs::some_count;
+use crate::field_inputs::some_bad;
 use crate::host::{Host, Style};
 use crate::inputs::{bring, geometry, Case, Group, State};
 use crate::trial_inputs::{finish, open_over_marks, probe, small};
 use crate::trial_kinds as kinds;
 
-pub fn counts(seed: u64, all: &mut Vec<Case>) {
+pub fn bad_sectors(seed: u64, all: &mut Vec<Case>) {
     openings(seed, all);
     runs(seed, all);
     outside(seed, all);
@@ -26,7 +26,7 @@ pub fn counts(seed: u64, all: &mut Vec<Case>) {
 // ---------------------------------------------------------------- what they share
 
 /// Sets the marks that are not so yet.
-fn set_marks(host: &mut Host, mark: impl Fn(usize) -> u8) {
+pub fn set_marks(host: &mut Host, mark: impl Fn(usize) -> u8) {
     for at in 0..host.marks.len() {
         if host.marks[at] != mark(at) {
             host.set_mark(at, mark(at));
@@ -34,19 +34,19 @@ fn set_marks(host: &mut Host, mark: impl Fn(usize) -> u8) {
     }
 }
 
-fn open_over(host: &mut Host, mark: impl Fn(usize) -> u8) {
+pub fn open_over(host: &mut Host, mark: impl Fn(usize) -> u8) {
     set_marks(host, mark);
     host.reopen();
 }
 
 /// Identify read whole, word by word.
-fn whole(host: &mut Host) {
+pub fn whole(host: &mut Host) {
     host.put(7, 0xEC);
     host.rest_of_sector(Style::Words);
 }
 
 /// Of Identify words 128 to 130 and 255 alone are read; the others count as moved.
-fn glance(host: &mut Host) {
+pub fn glance(host: &mut Host) {
     host.put(7, 0xEC);
     host.set_field(21, 128);
     host.transfer(3, Style::Words);
@@ -67,7 +67,8 @@ fn run(host: &mut Host, opcode: u8, first: usize, count: u8, lba: bool) {
 
 // ---------------------------------------------------------------- opened
 
-/// Openings over marks of 0, 1 and 2; one above 2 is refused, and the all-zero card has count 0.
+/// Openings over marks of 0, 1 and 2; one above 2 is refused, and the all-zero card has 0 bad
+/// sectors.
 fn openings(seed: u64, all: &mut Vec<Case>) {
     let patterns: [fn(usize) -> u8; 9] = [
         |_| 0,
@@ -81,7 +82,7 @@ fn openings(seed: u64, all: &mut Vec<Case>) {
         |at| 1 + (at % 2) as u8,
     ];
     for mode in 0..2 {
-        let mut host = small(Group::CountOpenings.seed(seed, mode), mode as u16);
+        let mut host = small(Group::BadOpenings.seed(seed, mode), mode as u16);
         for pattern in patterns {
             open_over(&mut host, pattern);
             probe(&mut host);
@@ -91,7 +92,7 @@ fn openings(seed: u64, all: &mut Vec<Case>) {
             }
             whole(&mut host);
         }
-        finish(format!("count-open-{mode}"), host, all);
+        finish(format!("bad-open-{mode}"), host, all);
     }
 }
 
@@ -104,10 +105,10 @@ fn runs(seed: u64, all: &mut Vec<Case>) {
         for lba in [false, true] {
             for mode in 0..2 {
                 number += 1;
-                let mut host = small(Group::CountRuns.seed(seed, number), mode);
+                let mut host = small(Group::BadRuns.seed(seed, number), mode);
                 runs_of(&mut host, opcode, lba);
                 let way = if lba { "lba" } else { "chs" };
-                finish(format!("count-run-{opcode:02X}-{way}-{mode}"), host, all);
+                finish(format!("bad-run-{opcode:02X}-{way}-{mode}"), host, all);
             }
         }
     }
@@ -132,7 +133,7 @@ fn runs_of(host: &mut Host, opcode: u8, lba: bool) {
         glance(host);
     }
     host.record(&[kinds::SHOW]);
-    // One sector byte by byte: the count falls with the last byte, whichever half that is.
+    // One sector byte by byte: the number falls with the last byte, whichever half that is.
     let opcodes = if opcode == 0xC0 { [0x30, 0x30] } else { [opcode; 2] };
     for (style, opcode) in [Style::Bytes, Style::OddEven].into_iter().zip(opcodes) {
         host.name_sector(13, lba);
@@ -144,14 +145,14 @@ fn runs_of(host: &mut Host, opcode: u8, lba: bool) {
     whole(host);
 }
 
-/// Marks changed from outside: a count that is too high, and one that falls though it never had
+/// Marks changed from outside: a number that is too high, and one that falls though it never had
 /// them, to 0 and no further.
 fn outside(seed: u64, all: &mut Vec<Case>) {
     let mut number = 0;
     for opcode in [0x30, 0xC0] {
         for mode in 0..2 {
             number += 1;
-            let mut host = small(Group::CountOutside.seed(seed, number), mode);
+            let mut host = small(Group::BadOutside.seed(seed, number), mode);
             open_over(&mut host, |at| (at % 6 == 1) as u8);
             for at in [7, 13] {
                 host.set_mark(at, 0);
@@ -171,7 +172,7 @@ fn outside(seed: u64, all: &mut Vec<Case>) {
             run(&mut host, opcode, 3, 1, true);
             run(&mut host, opcode, 0, 0, true);
             whole(&mut host);
-            finish(format!("count-outside-{opcode:02X}-{mode}"), host, all);
+            finish(format!("bad-outside-{opcode:02X}-{mode}"), host, all);
         }
     }
 }
@@ -180,7 +181,7 @@ fn outside(seed: u64, all: &mut Vec<Case>) {
 fn all_marks(seed: u64, all: &mut Vec<Case>) {
     for (number, opcode) in [0x30, 0xC0].into_iter().enumerate() {
         let g = geometry((600, 1, 1));
-        let seed = Group::CountOutside.seed(seed, 10 + number);
+        let seed = Group::BadOutside.seed(seed, 10 + number);
         let mut host = Host::trial(seed, g, number as u16);
         open_over(&mut host, |at| (at >= 300) as u8);
         for round in 0..2 {
@@ -191,7 +192,7 @@ fn all_marks(seed: u64, all: &mut Vec<Case>) {
             run(&mut host, opcode, round, 0, true);
             glance(&mut host);
         }
-        finish(format!("count-marks-{opcode:02X}"), host, all);
+        finish(format!("bad-marks-{opcode:02X}"), host, all);
     }
 }
 
@@ -200,7 +201,7 @@ fn large(seed: u64, all: &mut Vec<Case>) {
     let cards = [(257, 1, 1), (4, 16, 16), (256, 1, 1), (1, 4, 255)];
     for (number, g) in cards.into_iter().enumerate() {
         for (k, opcode) in [0x30, 0xC0].into_iter().enumerate() {
-            let seed = Group::CountLarge.seed(seed, 2 * number + k);
+            let seed = Group::BadLarge.seed(seed, 2 * number + k);
             let mut host = Host::trial(seed, geometry(g), (number % 2) as u16);
             let n = host.marks.len();
             open_over(&mut host, |at| if at == n - 1 { 2 } else { 1 });
@@ -216,14 +217,14 @@ fn large(seed: u64, all: &mut Vec<Case>) {
             host.set_mark(n - 1, 1);
             run(&mut host, opcode, n - 1, 1, true);
             whole(&mut host);
-            finish(format!("count-large-{}-{}-{}-{opcode:02X}", g.0, g.1, g.2), host, all);
+            finish(format!("bad-large-{}-{}-{}-{opcode:02X}", g.0, g.1, g.2), host, all);
         }
     }
 }
 
 // ---------------------------------------------------------------- set
 
-/// Counts at and about N in every map: 12 above N, whatever the access and the card's state.
+/// Numbers at and about N in every map: 12 above N, whatever the access and the card's state.
 fn limits(seed: u64, all: &mut Vec<Case>) {
     let mut number = 0;
     for map in 0..5u8 {
@@ -232,17 +233,17 @@ fn limits(seed: u64, all: &mut Vec<Case>) {
                 continue;
             }
             number += 1;
-            let mut host = small(Group::CountLimits.seed(seed, number), (map == 4) as u16);
-            for count in [32, 33, 0, 65535, 31, 288] {
+            let mut host = small(Group::BadLimits.seed(seed, number), (map == 4) as u16);
+            for bad in [32, 33, 0, 65535, 31, 288] {
                 bring(&mut host, map, state);
-                host.set_field(26, count);
+                host.set_field(26, bad);
                 every_access(&mut host);
-                host.set_field(26, count.min(32));
+                host.set_field(26, bad.min(32));
                 probe(&mut host);
             }
             bring(&mut host, map, State::Idle);
             glance(&mut host);
-            finish(format!("count-limit-map{map}-{state:?}"), host, all);
+            finish(format!("bad-limit-map{map}-{state:?}"), host, all);
         }
     }
 }
@@ -258,16 +259,16 @@ fn every_access(host: &mut Host) {
     }
 }
 
-/// The count is bounded by N: not by the current capacity, which 91H makes 30, and by N as it is,
+/// The number is bounded by N: not by the current capacity, which 91H makes 30, and by N as it is,
 /// though the store has another length then.
 fn totals(seed: u64, all: &mut Vec<Case>) {
     for mode in 0..2 {
-        let mut host = small(Group::CountLimits.seed(seed, 100 + mode), mode as u16);
+        let mut host = small(Group::BadLimits.seed(seed, 100 + mode), mode as u16);
         host.put(2, 5);
         host.put(6, 2);
         host.put(7, 0x91);
-        for count in [29, 30, 31, 32, 33] {
-            host.set_field(26, count);
+        for bad in [29, 30, 31, 32, 33] {
+            host.set_field(26, bad);
             probe(&mut host);
             glance(&mut host);
         }
@@ -276,29 +277,29 @@ fn totals(seed: u64, all: &mut Vec<Case>) {
                 host.set_field(field, value);
             }
             let n = c * h * s;
-            for count in [0, n - 1, n, n.saturating_add(1), 65535] {
-                host.set_field(26, count);
+            for bad in [0, n - 1, n, n.saturating_add(1), 65535] {
+                host.set_field(26, bad);
                 probe(&mut host);
             }
         }
         for (field, value) in (1..).zip([4, 2, 4, 4, 2, 4]) {
             host.set_field(field, value);
         }
-        for count in [65535, 33, 32] {
-            host.set_field(26, count);
+        for bad in [65535, 33, 32] {
+            host.set_field(26, bad);
             whole(&mut host);
         }
         run(&mut host, 0x30, 0, 1, true);
         host.set_mark(0, 1);
         run(&mut host, 0x30, 0, 1, true);
         glance(&mut host);
-        finish(format!("count-total-{mode}"), host, all);
+        finish(format!("bad-total-{mode}"), host, all);
     }
 }
 
 // ---------------------------------------------------------------- kept
 
-/// Does one of the things that leave the count.
+/// Does one of the things that leave the number.
 fn keep(host: &mut Host, which: usize) {
     match which {
         0 if host.true_ide() => host.silent_space(),
@@ -338,11 +339,11 @@ fn keep(host: &mut Host, which: usize) {
 
 const KEEPERS: usize = 16;
 
-/// Each of them with as many marks as are counted, fewer and more; then Identify.
+/// Each of them with as many bad sectors as the card says, fewer and more; then Identify.
 fn kept(seed: u64, all: &mut Vec<Case>) {
     for which in 0..KEEPERS {
         for mode in 0..2 {
-            let seed = Group::CountKept.seed(seed, 2 * which + mode);
+            let seed = Group::BadKept.seed(seed, 2 * which + mode);
             let mut host = small(seed, mode as u16);
             open_over(&mut host, |at| [0, 0, 0, 1, 0, 1, 0, 0, 2][at % 9]);
             for changes in [&[] as &[(usize, u8)], &[(3, 0)], &[(10, 1), (11, 200), (20, 2)]] {
@@ -353,15 +354,15 @@ fn kept(seed: u64, all: &mut Vec<Case>) {
                 keep(&mut host, which);
                 whole(&mut host);
             }
-            finish(format!("count-kept-{which}-{mode}"), host, all);
+            finish(format!("bad-kept-{which}-{mode}"), host, all);
         }
     }
 }
 
-/// Writes broken off before their last byte by commands and resets: the count stays.
+/// Writes broken off before their last byte by commands and resets: the number stays.
 fn drops(seed: u64, all: &mut Vec<Case>) {
     for mode in 0..2 {
-        let mut host = small(Group::CountDrops.seed(seed, mode), mode as u16);
+        let mut host = small(Group::BadDrops.seed(seed, mode), mode as u16);
         open_over(&mut host, |at| (at % 3 == 0) as u8);
         for mark in [1, 77] {
             host.set_mark(6, mark);
@@ -376,7 +377,7 @@ fn drops(seed: u64, all: &mut Vec<Case>) {
                     glance(&mut host);
                 }
             }
-            // The marks are others than those counted from now on.
+            // From now on there are more bad sectors than the card says.
             host.set_mark(7, mark);
             host.set_mark(8, mark);
         }
@@ -390,7 +391,7 @@ fn drops(seed: u64, all: &mut Vec<Case>) {
         host.rest_of_sector(Style::Words);
         host.put(7, 0xC0);
         glance(&mut host);
-        finish(format!("count-drop-{mode}"), host, all);
+        finish(format!("bad-drop-{mode}"), host, all);
     }
 }
 
@@ -407,38 +408,38 @@ fn drop_by(host: &mut Host, way: usize) {
 
 // ---------------------------------------------------------------- shown
 
-/// Counts of 0 to 255, and so every integrity byte; then counts of two bytes.
+/// Numbers of 0 to 255, and so every integrity byte; then numbers of two bytes.
 fn integrity_bytes(seed: u64, all: &mut Vec<Case>) {
     for mode in 0..2 {
         let g = geometry(if mode == 0 { (255, 1, 1) } else { (4, 16, 16) });
-        let mut host = Host::trial(Group::CountShown.seed(seed, mode), g, mode as u16);
-        for count in 0..=255 {
-            host.set_field(26, count);
+        let mut host = Host::trial(Group::BadShown.seed(seed, mode), g, mode as u16);
+        for bad in 0..=255 {
+            host.set_field(26, bad);
             glance(&mut host);
         }
-        for count in [256, 257, 511, 512, 513, 0x300, 0x3FF, 0x400, 0x401] {
-            host.set_field(26, count);
+        for bad in [256, 257, 511, 512, 513, 0x300, 0x3FF, 0x400, 0x401] {
+            host.set_field(26, bad);
             glance(&mut host);
         }
-        finish(format!("count-integrity-{mode}"), host, all);
+        finish(format!("bad-integrity-{mode}"), host, all);
     }
 }
 
-/// Word 129 is the count as it is when ECH is written, whatever it is when the word is read.
+/// Word 129 is the number as it is when ECH is written, whatever it is when the word is read.
 fn set_since(seed: u64, all: &mut Vec<Case>) {
     for mode in 0..2 {
-        let mut host = small(Group::CountShown.seed(seed, 10 + mode), mode as u16);
+        let mut host = small(Group::BadShown.seed(seed, 10 + mode), mode as u16);
         open_over(&mut host, |at| (at % 4) as u8 / 2);
-        for count in [3, 0, 32, 31] {
+        for bad in [3, 0, 32, 31] {
             host.put(7, 0xEC);
-            host.set_field(26, count);
+            host.set_field(26, bad);
             host.rest_of_sector(Style::Words);
             host.put(7, 0xE4);
             host.set_field(21, 128);
             host.transfer(3, Style::Words);
         }
         host.whole_identify();
-        finish(format!("count-since-{mode}"), host, all);
+        finish(format!("bad-since-{mode}"), host, all);
     }
 }
 
@@ -449,13 +450,13 @@ fn wanderings(seed: u64, all: &mut Vec<Case>) {
     let cards = [(4, 2, 4), (257, 1, 1), (3, 3, 40), (1, 1, 1), (16, 16, 1)];
     for number in 0..30 {
         let g = geometry(cards[number % cards.len()]);
-        let seed = Group::CountWanderings.seed(seed, number);
+        let seed = Group::BadWanderings.seed(seed, number);
         let mut host = Host::trial(seed, g, (number % 2) as u16);
         open_over_marks(&mut host);
         while !host.full {
             step(&mut host);
         }
-        finish(format!("count-wander-{number}"), host, all);
+        finish(format!("bad-wander-{number}"), host, all);
     }
 }
 
@@ -479,11 +480,11 @@ fn step(host: &mut Host) {
             host.set_mark(at, mark);
         }
         9 => {
-            let count = some_count(host);
-            host.set_field(26, count);
+            let bad = some_bad(host);
+            host.set_field(26, bad);
             probe(host);
             host.random_access();
-            host.set_field(26, count.min(n as u16));
+            host.set_field(26, bad.min(n as u16));
         }
         10 => {
             let which = host.rng.below(KEEPERS);
