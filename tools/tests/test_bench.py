@@ -173,11 +173,12 @@ def test_the_page_of_results_is_such_a_report():
 
 
 def test_results_are_written():
-    """--write, to another folder; two short sessions of each kind are counted for it."""
+    """--write, to another folder; two short sessions of each kind are counted for it, too short for the bound to be of them."""
     before, printed = text_of("bench/RESULTS.md"), io.StringIO()
     with tempfile.TemporaryDirectory() as folder:
         shutil.copy("bench/RESULTS.md", folder)
-        with contextlib.redirect_stdout(printed), mock.patch.object(sessions, "lengths", lambda kind: [0, 1]):
+        loose = {kind: 2 * most for kind, most in limits.MOST.items()}
+        with contextlib.redirect_stdout(printed), mock.patch.object(sessions, "lengths", lambda kind: [0, 1]), mock.patch.object(limits, "MOST", loose):
             assert bench.main(["--write", "--rounds", "2"], folder) == 0
         assert sorted(os.listdir(folder)) == ["RESULTS.md", "cost.svg"]
         after, svg = (text_of(os.path.join(folder, name)) for name in ("RESULTS.md", "cost.svg"))

@@ -62,21 +62,21 @@ means-no-host-needed m v k e = rw (command-given v m (k .free)) (asks-not v m e)
 pub no-host-needed : (m : Machine) (a : Asked) (v : ℕ) → AcceptedCommand m a v → dataless (rowOf v) ≡ true → Moves (step m a .next) []
 no-host-needed m a v w e = by-meaning (λ x. asks x ≡ false) m a v (w .accepted) (means-no-host-needed m v (able m a v w) e)
 
--- A read never changes the store or the marks.
-pub ends-store : (e : Finish) (p : Plain) → (ends e p .store ≡ p .store) × (ends e p .marks ≡ p .marks)
-ends-store Well p = (refl, refl)
-ends-store (NotFound code) p = (refl, refl)
-ends-store Unreadable p = (refl, refl)
-ends-store WriteFault p = (refl, refl)
-ends-store (Aborted code) p = (refl, refl)
+-- A read never changes the store, the marks or the number of bad sectors.
+pub ends-store : (e : Finish) (p : Plain) → (ends e p .store ≡ p .store) × (ends e p .marks ≡ p .marks) × (ends e p .bad ≡ p .bad)
+ends-store Well p = (refl, refl, refl)
+ends-store (NotFound code) p = (refl, refl, refl)
+ends-store Unreadable p = (refl, refl, refl)
+ends-store WriteFault p = (refl, refl, refl)
+ends-store (Aborted code) p = (refl, refl, refl)
 
 abbrev pub Untouched : Plain → Plain → Type 0
-Untouched p q = (q .store ≡ p .store) × (q .marks ≡ p .marks)
+Untouched p q = (q .store ≡ p .store) × (q .marks ≡ p .marks) × (q .bad ≡ p .bad)
 
 read-untouched : (l : Addressed) (n : ℕ) (p : Plain) → Untouched p (fromFirst l silent (λ i. readSectors (courseOf p) i n p) p .left)
 unfolding readSectors
 read-untouched (At i) n p = ends-store (readSweep (courseOf p) (p .marks) i n .finish) _
-read-untouched (Bad code) n p = (refl, refl)
+read-untouched (Bad code) n p = (refl, refl, refl)
 
 reads-untouched : (p : Plain) (d : List ℕ) → Untouched p (account Reads p d .left)
 unfolding account
@@ -86,8 +86,9 @@ pub reads-agree : (p : Plain) (v : ℕ) (h : Hosted) → rowOf v ≡ Reads → A
 reads-agree p v h e g =
     let u = ap (λ (r : CommandRow). account r p (h .notes .done)) e in
     let z = reads-untouched p (h .notes .done) in
-    (ap (λ (y : Account). y .left .store) (sym (g .account) ∙ u) ∙ z .0, ap (λ (y : Account). y .left .marks) (sym (g .account) ∙ u) ∙ z .1)
+    let q = sym (g .account) ∙ u in
+    (ap (λ (y : Account). y .left .store) q ∙ z .0, ap (λ (y : Account). y .left .marks) q ∙ z .1, ap (λ (y : Account). y .left .bad) q ∙ z .2)
 
 pub read-changes-no-sector : (m : Machine) (a : Asked) (v : ℕ) (l : List Asked) → AcceptedCommand m a v → rowOf v ≡ Reads → Moves (step m a .next) l →
-    (after m a v l .machine .store ≡ m .store) × (after m a v l .machine .marks ≡ m .marks)
+    let n = after m a v l .machine in (n .store ≡ m .store) × (n .marks ≡ m .marks) × (n .state .bad ≡ m .state .bad)
 read-changes-no-sector m a v l w e x = reads-agree (plainOf m) v (after m a v l) e (agreed m a v l w x)

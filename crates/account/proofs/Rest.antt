@@ -82,7 +82,7 @@ Pending Half.High None w b = ⊥
 Pending Half.High (LowByte v) w b = ⊥
 Pending Half.High (HighByte v) w b = v ≡ getD b (2 * w + 1) 0
 
--- without buffer, store, marks and their number
+-- without buffer, store, marks and the number of bad sectors
 abbrev pub bare : Plain → Plain
 bare p = withBuffer [] (withStore [] [] 0 p)
 

@@ -37,7 +37,7 @@ unfolding eraseFrom
 erase-end zero s store marks h = refl
 erase-end (suc n) s store marks h = absurd (not-suc-le-zero h)
 
--- the store, the marks and their number after a sector's test are given by what the test and the storing promise
+-- the store, the marks and the number of bad sectors after a sector's test are given by what the test and the storing promise
 pub erase-fails : (n : ℕ) (s : State) (store marks store′ marks′ : List ℕ) (b : ℕ) (e : End) → 0 < n →
     leaving (Fails e) (storeMarks store′ marks′ b) ≡ sectorStored s allFF store marks →
     eraseFrom n s store marks ≡ leaving (ended e (withBad b s)) (storeMarks store′ marks′ b)

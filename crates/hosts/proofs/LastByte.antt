@@ -1,4 +1,4 @@
--- The store, the marks and their number change at a sector's last byte only, whichever sector it is.
+-- The store, the marks and the number of bad sectors change at a sector's last byte only, whichever sector it is.
 use native.Mathlib.Nat.{min-le-left, min-le-right}
 use Prim.Native.Nat.{ℕ, min, zero, suc, _+_, _*_, _≤_}
 use mathlib.Core.Path.{_≡_, refl, sym, ap, _∙_, subst}
@@ -87,7 +87,7 @@ more way (y ∷ l) m q =
     let z = more way l (perform y m .next) n in
     (x .0 ++ z .0, z .1 ∙ ap (λ (t : List ℕ). t ++ z .0) (x .1) ∙ append-assoc (q .done) (x .0) (z .0))
 
--- More of them, after which no more sectors have moved whole, leave the store, the marks and their number.
+-- More of them, after which no more sectors have moved whole, leave the store, the marks and the number of bad sectors.
 pub means-only-at-a-last-byte : (m : Machine) (v : ℕ) (l k : List Meaning) → Able m → CalmBy (commanded v m) (l ++ k) →
     wholeOf (afterBy m v (l ++ k) .notes .done) ≡ wholeOf (afterBy m v l .notes .done) → storeMarksIn (afterBy m v (l ++ k) .machine) ≡ storeMarksIn (afterBy m v l .machine)
 means-only-at-a-last-byte m v l k b c e =

@@ -1,4 +1,4 @@
--- At every moment of a command the store, the marks and their number are those of the data that has moved.
+-- At every moment of a command the store, the marks and the number of bad sectors are those of the data that has moved.
 use Prim.Native.Nat.{ℕ}
 use mathlib.Core.Bool.{Bool, true, false, true≢false}
 use mathlib.Core.Path.{_≡_, refl, sym, ap, _∙_, subst}
@@ -49,7 +49,7 @@ module _ (row : CommandRow) (p : Plain) where
   calm-on (x ∷ l) m q false e y z c =
       over-on (storeMarksIn m) (x ∷ l) m q (is-idle (m .phase) e, y .ground .3, y .ground .4, refl) (λ d. moment row p m q y z d (λ t. absurd (true≢false (sym t ∙ e)))) c
 
--- After a command that is given to a sound card in neither reset, and anything that is no command and no reset: the store, the marks and their number are those of the
+-- After a command that is given to a sound card in neither reset, and anything that is no command and no reset: the store, the marks and the number of bad sectors are those of the
 -- sectors whose last byte has moved, and of no other.
 pub means-at-every-moment : (m : Machine) (v : ℕ) (l : List Meaning) → Able m → CalmBy (commanded v m) l →
     storeMarksIn (afterBy m v l .machine) ≡ soFar (rowOf v) (plainOf m) (afterBy m v l .notes .done)

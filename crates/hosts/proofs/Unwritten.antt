@@ -1,4 +1,4 @@
--- A command that writes no sector: its store, marks and their number are those of its account, at any moment.
+-- A command that writes no sector: its store, marks and the number of bad sectors are those of its account, at any moment.
 use Prim.Native.Nat.{ℕ, _+_, _-_, _*_, _%_}
 use mathlib.Core.Bool.{Bool, true, false, _||_, true≢false}
 use mathlib.Core.Path.{_≡_, refl, sym, ap, _∙_, subst}
@@ -58,7 +58,7 @@ rest-left-alone Idle o p h b s l d z = refl
 rest-left-alone (DataIn t) o p h b s l d z = read-left-alone (t .load) p
 rest-left-alone (DataOut t) o p h b s l d z = out-left-alone (t .load) o p h (t .words) b s l _ _ z
 
--- the account's store, marks and number, of a command that writes none
+-- the account's store, marks and number of bad sectors, of a command that writes none
 from-left-alone : (l : Addressed) (p : Plain) (f : ℕ → Account) → ((i : ℕ) → storeMarksOf (f i .left) ≡ storeMarksOf p) → storeMarksOf (fromFirst l silent f p .left) ≡ storeMarksOf p
 from-left-alone (At i) p f h = h i
 from-left-alone (Bad code) p f h = refl

@@ -40,7 +40,7 @@ verify-elim I P f g zero s marks h = g End.Good s h
 verify-elim I P f g (suc n) s marks h =
     unless-elim P (sectorTest In s marks) (λ k. k) s (verifyFrom n (sectorDone n s) marks) (λ e. g e s h) (verify-elim I P f g n (sectorDone n s) marks (f n s h))
 
--- … and Erase, with the store, the marks and their number
+-- … and Erase, with the store, the marks and the number of bad sectors
 pub erase-elim : (I : State → List ℕ → List ℕ → Type 0) (P : Left Core StoreMarks → Type 0) →
     ((s : State) (store marks : List ℕ) → I s store marks →
     let k = sectorStored s allFF store marks .next in I (withBad (k .bad) s) (k .store) (k .marks)) →

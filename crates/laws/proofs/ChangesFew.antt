@@ -79,7 +79,7 @@ no-change (WriteRegister r v) m e = of-register r v m e
 no-change (ReadData port) m e = refl
 no-change (WriteData port v) m e = absurd (true≢false e)
 
--- an access that is neither a data write nor the command C0H leaves the store, the marks and their number
+-- an access that is neither a data write nor the command C0H leaves the store, the marks and the number of bad sectors
 pub meant-untouched : (x : Meaning) (m : Machine) → mayChange x ≡ false → storeMarksIn (perform x m .next) ≡ storeMarksIn m
 unfolding changed
 meant-untouched x m e = meant-sectors x m ∙ ap (λ (l : List Change). changed l (storeMarksIn m)) (no-change x m e)

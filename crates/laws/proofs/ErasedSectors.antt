@@ -1,4 +1,4 @@
--- C0H changes the store, the marks and their number by the sectors that its definition lists.
+-- C0H changes the store, the marks and the number of bad sectors by the sectors that its definition lists.
 use Prim.Native.Nat.{ℕ, zero, suc, _/_, _<_}
 use mathlib.Core.Path.{_≡_, refl, sym, ap, subst, _∙_}
 use mathlib.Core.Bool.{Bool, true, false}
@@ -48,7 +48,7 @@ same-stored k marks0 bytes i h w =
 
 -- ---- one sector, and the rest
 
--- the rest of the run, from whatever store, marks and number
+-- the rest of the run, from whatever store, marks and number of bad sectors
 abbrev Rest : ℕ → State → List Change → List ℕ → List ℕ → Type 0
 Rest n s rest store marks = eraseFrom n s store marks .next ≡ changed rest (storeMarks store marks (s .bad))
 

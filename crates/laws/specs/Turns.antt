@@ -51,7 +51,7 @@ restingState m = withInterrupt false (withStatus (pick (runs (m .phase)) statusI
 abbrev pub sresetEntered : ℕ → Machine → Machine
 sresetEntered v m = idleWith (withOption v (restingState m)) m
 
--- "clearing it after that is power-on with the index just written"; store, marks and their number as they were
+-- "clearing it after that is power-on with the index just written"; store, marks and the number of bad sectors as they were
 abbrev pub sresetLeft : ℕ → Machine → Machine
 sresetLeft v m =
     let c = poweredOf m in

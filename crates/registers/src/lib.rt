@@ -1,5 +1,5 @@
-// The card's state without its buffer: registers, geometries, transfer, the two resets, the interrupt mark, the number of bad sectors; what is well made; what reading and
-// writing a register does, but for a command.
+// The card's state without its buffer: registers, geometries, transfer, the two resets, the interrupt mark, the number of bad sectors; what is well
+// made; what reading and writing a register does, but for a command.
 use geometry::Address;
 use geometry::Geometry;
 use maps::Mode;

@@ -21,12 +21,15 @@ unfoldable pub asksOf : List Line → List Asked
 asksOf [] = []
 asksOf (l ∷ more) = l .access ∷ asksOf more
 
--- the buffer after some accesses and ECH: its word 129, and its integrity word
+-- the card after some accesses; and its buffer after these and ECH, word by word
 abbrev pub wordAt : ℕ → List ℕ → ℕ
 wordAt n buffer = getD buffer (2 * n) 0 + 256 * getD buffer (2 * n + 1) 0
 
+unfoldable pub leftAfter : List Line → Machine
+leftAfter lines = play threeBad (asksOf lines) .last
+
 unfoldable pub identifiedAfter : List Line → List ℕ
-identifiedAfter lines = play threeBad (asksOf (lines ++ (put 7 0xEC ∷ []))) .last .buffer
+identifiedAfter lines = leftAfter (lines ++ (put 7 0xEC ∷ [])) .buffer
 
 -- sector i is written, by words; sectors from LBA i on are erased
 abbrev pub written : ℕ → List Line

@@ -1,5 +1,5 @@
--- The card value as a row of 31 numbers: 0 to 2 are for an answer, 3 to 21 are the card's as the A line of oracle/TRIAL.md shows them, the rest are what it does not show: default C is the last of them, and not beside
--- default H and S, since the number of bad sectors had to come after the last place that was shown.
+-- The card value as a row of 31 numbers: 0 to 2 are for an answer, 3 to 21 are the card's as the A line of oracle/TRIAL.md shows them, the rest are
+-- what it does not show. Default C is the last of these, and not beside default H and S: the A line's last field had to come after the others of it.
 use Prim.Native.Nat.{ℕ, _+_, _*_, _/_, _%_}
 use mathlib.Core.Bool.{Bool, true, false}
 use mathlib.Core.List.{List}
