@@ -6,3 +6,4 @@ pub mod PlaceRows
 pub mod RowTests
 pub mod Said
 pub mod Verdicts
+pub mod Written

@@ -1,5 +1,6 @@
 -- What an access does, once it is known what it means.
 use Prim.Native.Nat.{ℕ}
+use mathlib.Core.Bool.{Bool, true, false}
 use Rattle.ground.specs.Choice.{pick}
 use Rattle.answers.specs.declared.Outcome.{Outcome}
 use Rattle.maps.specs.declared.Register.{Register}
@@ -29,6 +30,29 @@ plainCore r v k =
 
 abbrev pub plainWritten : Register → ℕ → Machine → Machine
 plainWritten r v m = withCore (plainCore r v (coreOf m)) m
+
+-- the two registers that are written by rules of their own
+abbrev pub isCommand : Register → Bool
+isCommand ErrorFeature = false
+isCommand SectorCount = false
+isCommand SectorNumber = false
+isCommand CylinderLow = false
+isCommand CylinderHigh = false
+isCommand DriveHead = false
+isCommand StatusCommand = true
+isCommand AlternateControl = false
+isCommand DriveAddress = false
+
+abbrev pub isControl : Register → Bool
+isControl ErrorFeature = false
+isControl SectorCount = false
+isControl SectorNumber = false
+isControl CylinderLow = false
+isControl CylinderHigh = false
+isControl DriveHead = false
+isControl StatusCommand = false
+isControl AlternateControl = true
+isControl DriveAddress = false
 
 unfoldable pub registerWritten : Register → ℕ → Machine → Machine
 registerWritten ErrorFeature v m = plainWritten ErrorFeature v m

@@ -2,7 +2,7 @@
 use Prim.Native.Nat.{ℕ, _/_, _%_}
 use mathlib.Core.List.{List, [], _∷_}
 use lib.Dec.{eqb}
-use lib.ListN.{drop}
+use lib.ListN.{take, drop}
 use Rattle.ground.specs.Choice.{pick}
 use Rattle.ground.specs.Lists.{listed}
 use Rattle.ground.specs.Tables.{Numbered, At, Through, lookup}
@@ -41,23 +41,26 @@ wordTable f =
     ∷ At 129 (f .bad)
     ∷ []
 
--- the table from word 10 on, from word 49 on and from word 129 on, as the code looks it up
+-- the table to word 61, and of it what is from word 10 on and from word 49 on, as the code looks it up; it puts word 129 in by itself
+abbrev pub toWord61 : Facts → List (Numbered ℕ)
+toWord61 f = take 18 (wordTable f)
+
 abbrev pub fromWord10 : Facts → List (Numbered ℕ)
-fromWord10 f = drop 6 (wordTable f)
+fromWord10 f = drop 6 (toWord61 f)
 
 abbrev pub fromWord49 : Facts → List (Numbered ℕ)
-fromWord49 f = drop 9 (wordTable f)
-
-abbrev pub fromWord129 : Facts → List (Numbered ℕ)
-fromWord129 f = drop 18 (wordTable f)
+fromWord49 f = drop 9 (toWord61 f)
 
 -- words 0 to 254: "the rest 0"
 unfoldable pub identifyWord : Facts → ℕ → ℕ
 identifyWord f n = lookup (wordTable f) n 0
 
 -- byte i: "A sector moves as 256 words, low byte first."
+abbrev pub byteOf : ℕ → ℕ → ℕ
+byteOf i word = pick (eqb (i % 2) 0) (word % 256) (word / 256)
+
 unfoldable pub identifyByte : Facts → ℕ → ℕ
-identifyByte f i = pick (eqb (i % 2) 0) (identifyWord f (i / 2) % 256) (identifyWord f (i / 2) / 256)
+identifyByte f i = byteOf i (identifyWord f (i / 2))
 
 -- the bytes of words 0 to 254, and all 512
 unfoldable pub toldBytes : Facts → List ℕ

@@ -1,15 +1,22 @@
 // Identify: 256 words, from the default and the current geometry and the number of marks that are not 0; the last of them is the integrity word.
 use geometry::Geometry;
+use ground::SECTOR_BYTES;
 use ground::Sector;
 ghost use mathlib.Core.Path.{_≡_};
+ghost use Prim.Native.Nat.{_/_};
 ghost use Rattle.ground.specs.Choice.{within};
 ghost use Rattle.ground.specs.Tables.{lookup};
 ghost use Rattle.geometry.specs.Limits.{totalOf, capacityOf};
-ghost use Rattle.identify.specs.Words.{lowHalf, highHalf, fromWord10, fromWord49, fromWord129, identifyWord, identifyByte, identifyBytes};
+ghost use Rattle.identify.specs.Words.{lowHalf, highHalf, toWord61, fromWord10, fromWord49, byteOf, identifyBytes};
 
 mod integrity;
 
-// 02: the place of the low byte of word 255.
+// The bytes of words 0 to 61; after them only words 129 and 255 are told, and the rest is 0.
+const TABLE_BYTES: usize = 124;
+
+// 02: the places of the low bytes of words 129 and 255.
+const BAD_AT: usize = 258;
+
 const INTEGRITY_AT: usize = 510;
 
 // What Identify tells.
@@ -58,17 +65,7 @@ impl Facts {
         current.capacity()
     }
 
-    // The table's rows from word 129 on: 02 calls it a vendor word.
-    fn vendor_word(self, n: usize) -> u16
-        ensures { λ r. ⌜ r ≡ lookup (fromWord129 self) n 0 ⌝ }
-    {
-        if n == 129 {
-            return self.bad;
-        }
-        0
-    }
-
-    // The table's rows from word 49 on.
+    // The table's rows from word 49 to word 61.
     fn later_word(self, n: usize) -> u16
         ensures { λ r. ⌜ r ≡ lookup (fromWord49 self) n 0 ⌝ }
     {
@@ -100,10 +97,10 @@ impl Facts {
         if n == 61 {
             return high_half(self.total());
         }
-        self.vendor_word(n)
+        0
     }
 
-    // The table's rows from word 10 on.
+    // The table's rows from word 10 to word 61.
     fn blank_word(self, n: usize) -> u16
         ensures { λ r. ⌜ r ≡ lookup (fromWord10 self) n 0 ⌝ }
     {
@@ -119,14 +116,11 @@ impl Facts {
         self.later_word(n)
     }
 
-    // Word n, but for word 255.
+    // The table's rows to word 61.
     fn word(self, n: usize) -> u16
-        ensures { λ r. ⌜ r ≡ identifyWord self n ⌝ }
+        ensures { λ r. ⌜ r ≡ lookup (toWord61 self) n 0 ⌝ }
     {
         let default = self.default;
-        if 61 < n {
-            return self.vendor_word(n);
-        }
         if n == 0 {
             return 0x848A;
         }
@@ -148,9 +142,9 @@ impl Facts {
         self.blank_word(n)
     }
 
-    // Byte i of words 0 to 254, low half first.
+    // Byte i of words 0 to 61, low half first.
     fn byte(self, i: usize) -> u8
-        ensures { λ r. ⌜ r ≡ identifyByte self i ⌝ }
+        ensures { λ r. ⌜ r ≡ byteOf i (lookup (toWord61 self) (i / 2) 0) ⌝ }
     {
         let word = self.word(i / 2);
         if i % 2 == 0 {
@@ -163,12 +157,14 @@ impl Facts {
     pub fn identify(self, buffer: &mut Sector)
         ensures { λ _. ⌜ now (buffer .exit) ≡ identifyBytes self ⌝ }
     {
-        ground::length_known(buffer);
+        *buffer = [0u8; SECTOR_BYTES];
         let mut i = 0;
-        while i < INTEGRITY_AT {
+        while i < TABLE_BYTES {
             buffer[i] = self.byte(i);
             i += 1;
         }
+        buffer[BAD_AT] = (self.bad % 256) as u8;
+        buffer[BAD_AT + 1] = (self.bad / 256) as u8;
         integrity::put_integrity(buffer);
     }
 }

@@ -58,9 +58,9 @@ pub enum Phase {
 }
 
 pub struct Registers {
-    pub error: u8,
     pub count: u8,
     pub status: u8,
+    pub error: u8,
     pub address: Address,
 }
 
@@ -78,8 +78,8 @@ pub struct Control {
 
 // All of the card but its phase and its buffer.
 pub struct State {
-    pub bad: u16, // 02, "Eight": the number of marks that are not 0
     pub control: Control,
+    pub bad: u16, // 02, "Eight": the number of marks that are not 0
     pub interrupt: bool,
     pub made: Made,
     pub code: u8,

@@ -2,9 +2,11 @@
 use super::Core;
 use super::Phase;
 use super::State;
+use geometry::Address;
 use maps::Register;
 ghost use mathlib.Core.Path.{_≡_};
 ghost use Prim.Native.Nat.{_<_};
+ghost use Rattle.registers.specs.State.{withCount, withAddress};
 ghost use Rattle.registers.specs.Values.{headBits, headRead, writingBit, driveBits, driveAddress, registerValue, valueRead, afterRead, registerSet};
 
 fn head_bits(value: u8) -> u8
@@ -102,32 +104,43 @@ impl State {
         }
     }
 
+    // Sector Count and the address registers, which alone keep what is written to them.
+    fn with_registers(mut self, count: u8, address: Address) -> State
+        ensures { λ r. ⌜ r ≡ withCount count (withAddress address self) ⌝ }
+    {
+        let mut registers = self.registers;
+        registers.count = count;
+        registers.address = address;
+        self.registers = registers;
+        self
+    }
+
     // A register is written.
-    pub fn register_set(mut self, register: Register, value: u8) -> State
+    pub fn register_set(self, register: Register, value: u8) -> State
         ensures { λ r. ⌜ r ≡ registerSet register value self ⌝ }
     {
+        let registers = self.registers;
+        let count = registers.count;
+        let mut address = registers.address;
         match register {
             Register::ErrorFeature => self,
-            Register::SectorCount => {
-                self.registers.count = value;
-                self
-            }
+            Register::SectorCount => self.with_registers(value, address),
             Register::SectorNumber => {
-                self.registers.address.sector = value;
-                self
+                address.sector = value;
+                self.with_registers(count, address)
             }
             Register::CylinderLow => {
-                self.registers.address.low = value;
-                self
+                address.low = value;
+                self.with_registers(count, address)
             }
             Register::CylinderHigh => {
-                self.registers.address.high = value;
-                self
+                address.high = value;
+                self.with_registers(count, address)
             }
             Register::DriveHead => {
                 let head = head_bits(value);
-                self.registers.address.head = head;
-                self
+                address.head = head;
+                self.with_registers(count, address)
             }
             Register::StatusCommand => self,
             Register::AlternateControl => self,

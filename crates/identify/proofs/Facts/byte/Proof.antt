@@ -1,5 +1,4 @@
 use Rattle.ground.proofs.Tests.{tests}
-use Rattle.identify.specs.Words.{identifyByte}
 use borrow.Author.Needs.{needs}
 use Rattle.identify.proofs.Facts.byte.Statement.{statement}
 use Rattle.identify.proofs.Facts.byte.Tie as tie
@@ -11,14 +10,12 @@ cast-result : tie.Need-cast-result
 cast-result c = search needs
 
 returns : tie.Need-returns
-unfolding identifyByte
 returns c = search (tests, c .before .word .ensures)
 
 cast-result-2 : tie.Need-cast-result-2
 cast-result-2 c = search needs
 
 returns-2 : tie.Need-returns-2
-unfolding identifyByte
 returns-2 c = search (tests, c .before .word .ensures)
 
 pub byte-spec : {M : Type 1} → statement M

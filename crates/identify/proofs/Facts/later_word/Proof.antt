@@ -54,11 +54,8 @@ high-half-requires-2 c κs = search needs
 returns-9 : tie.Need-returns-9
 returns-9 c = search (tests, c .high-half2 .ensures, c .before .total2 .ensures)
 
-vendor-word-requires : tie.Need-vendor-word-requires
-vendor-word-requires c κs = search needs
-
 returns-10 : tie.Need-returns-10
-returns-10 c = search (tests, c .vendor-word .ensures)
+returns-10 c = search tests
 
 pub later-word-spec : {M : Type 1} → statement M
 later-word-spec =
@@ -81,5 +78,4 @@ later-word-spec =
     total-requires-2
     high-half-requires-2
     returns-9
-    vendor-word-requires
     returns-10)
