@@ -31,7 +31,7 @@ plainCore r v k =
 abbrev pub plainWritten : Register → ℕ → Machine → Machine
 plainWritten r v m = withCore (plainCore r v (coreOf m)) m
 
--- the two registers that are written by rules of their own
+-- the two registers that are written by rules of their own, as the code asks for them first; `registerWritten` has them by its rows
 abbrev pub isCommand : Register → Bool
 isCommand ErrorFeature = false
 isCommand SectorCount = false

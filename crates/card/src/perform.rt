@@ -100,7 +100,7 @@ fn is_control(register: Register) -> bool
     }
 }
 
-// A register is written: Command and Device Control are tested for first, so that each has one place here (D160).
+// A register is written. Command and Device Control are tested for first, so that what writes any other register is called at one place (D160).
 fn write_register(
     core: Core,
     register: Register,

@@ -1,5 +1,4 @@
 // 02, "Fourteen": the integrity word, word 255 of Identify.
-use super::INTEGRITY_AT;
 use ground::Sector;
 use std::num::wrapping_add_u8;
 use std::num::wrapping_sub_u8;
@@ -8,7 +7,9 @@ ghost use Prim.Native.Nat.{_%_};
 ghost use lib.ListN.{take};
 ghost use Rattle.identify.specs.Integrity.{integrityAt, sumOf, withIntegrity};
 
-// Its low byte.
+// The place of its low byte, and that byte.
+const INTEGRITY_AT: usize = 510;
+
 const INTEGRITY_LOW: u8 = 0xA5;
 
 // Bytes summed with wrap-around in eight bits.

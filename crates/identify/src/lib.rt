@@ -14,10 +14,8 @@ mod integrity;
 // The bytes of words 0 to 61; after them only words 129 and 255 are told, and the rest is 0.
 const TABLE_BYTES: usize = 124;
 
-// 02: the places of the low bytes of words 129 and 255.
+// 02: the place of the low byte of word 129.
 const BAD_AT: usize = 258;
-
-const INTEGRITY_AT: usize = 510;
 
 // What Identify tells.
 pub struct Facts {

@@ -52,6 +52,14 @@ opening-counts g mode store marks tuples =
     let z : (q : Refusal) → P (openRefused q) = λ q e. accepts-not 0 q (sym e) in
     opened-elim P g mode store marks tuples (z _) (z _) (z _) (z _) (z _) (λ f s k e. counted marks)
 
+-- 01: "a refused opening gives the all-zero card": none
+pub refused-opening-none : (g : Geometry) (mode : ℕ) (store marks tuples : List ℕ) (r : Refusal) → opened g mode store marks tuples .outcome ≡ Outcome.Refused r →
+    opened g mode store marks tuples .card .state .bad ≡ 0
+refused-opening-none g mode store marks tuples r =
+    let P : Answer → Type 0 = λ x. x .outcome ≡ Outcome.Refused r → x .card .state .bad ≡ 0 in
+    let z : (q : Refusal) → P (openRefused q) = λ q e. refl in
+    opened-elim P g mode store marks tuples (z _) (z _) (z _) (z _) (z _) (λ f s k e. accepts-not 0 r e)
+
 -- ---- one access
 
 -- a mark set to 0 is one bad sector less, where it was not 0

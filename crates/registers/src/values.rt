@@ -104,8 +104,8 @@ impl State {
         }
     }
 
-    // Sector Count and the address registers, which alone keep what is written to them.
-    fn with_registers(mut self, count: u8, address: Address) -> State
+    // Of the registers that are set here, Sector Count and the address registers alone keep what is written to them.
+    fn with_place(mut self, count: u8, address: Address) -> State
         ensures { λ r. ⌜ r ≡ withCount count (withAddress address self) ⌝ }
     {
         let mut registers = self.registers;
@@ -124,23 +124,23 @@ impl State {
         let mut address = registers.address;
         match register {
             Register::ErrorFeature => self,
-            Register::SectorCount => self.with_registers(value, address),
+            Register::SectorCount => self.with_place(value, address),
             Register::SectorNumber => {
                 address.sector = value;
-                self.with_registers(count, address)
+                self.with_place(count, address)
             }
             Register::CylinderLow => {
                 address.low = value;
-                self.with_registers(count, address)
+                self.with_place(count, address)
             }
             Register::CylinderHigh => {
                 address.high = value;
-                self.with_registers(count, address)
+                self.with_place(count, address)
             }
             Register::DriveHead => {
                 let head = head_bits(value);
                 address.head = head;
-                self.with_registers(count, address)
+                self.with_place(count, address)
             }
             Register::StatusCommand => self,
             Register::AlternateControl => self,
