@@ -104,7 +104,7 @@ impl State {
         }
     }
 
-    // Of the registers that are set here, Sector Count and the address registers alone keep what is written to them.
+    // Sector Count and the address registers, put back as a whole (D159); of the registers set below no other keeps anything of what is written.
     fn with_place(mut self, count: u8, address: Address) -> State
         ensures { λ r. ⌜ r ≡ withCount count (withAddress address self) ⌝ }
     {
