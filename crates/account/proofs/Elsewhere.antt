@@ -12,7 +12,8 @@ use Rattle.ground.specs.Choice.{pick}
 use Rattle.account.specs.Numbers.{codeCylinderOrLba}
 use Rattle.account.specs.Plain.{Finish, Well, NotFound, Unreadable, WriteFault, Aborted}
 use Rattle.account.specs.Course.{Course}
-use Rattle.account.specs.Sweeps.{Sweep, tried, sweepFrom, tests, putSector, replaced, blanked, cleared}
+use Rattle.account.specs.Sweeps.{Sweep, tried, sweepFrom, tests}
+use Rattle.account.specs.WholeSectors.{putSector, replaced, blanked, cleared}
 use Rattle.account.specs.Follows.{SameOutside}
 use Rattle.account.proofs.Stored.{put-length}
 

@@ -16,7 +16,8 @@ use Rattle.transfers.specs.Steps.{sectorDone}
 use Rattle.commands.specs.Sweeps.{eraseFrom, allFF}
 use Rattle.account.specs.Plain.{Plain, Finish, Well, WriteFault}
 use Rattle.account.specs.Course.{Course}
-use Rattle.account.specs.Sweeps.{tried, stopped, sweepFrom, tests, unwritable, putSector, badAt, blanked, cleared, eraseSectors, eraseDone}
+use Rattle.account.specs.Sweeps.{tried, stopped, sweepFrom, tests, unwritable, eraseSectors, eraseDone}
+use Rattle.account.specs.WholeSectors.{putSector, badAt, blanked, cleared}
 use Rattle.account.specs.Host.{plainIn}
 use Rattle.account.proofs.Seats.{Shaped, Seated, Where, onward, done-on, seat-next, room-total}
 use Rattle.account.proofs.Tried.{stops-sweep, stops-ends, store-tested}

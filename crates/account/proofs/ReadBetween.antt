@@ -27,7 +27,7 @@ use Rattle.sectors.specs.Sectors.{sectorOf}
 use Rattle.kept.proofs.Lent.{sector-length}
 use Rattle.account.specs.Plain.{Finish}
 use Rattle.account.specs.Course.{Course}
-use Rattle.account.specs.Sweeps.{sectorAt}
+use Rattle.account.specs.WholeSectors.{sectorAt}
 use Rattle.account.specs.Host.{plainOf}
 use Rattle.account.specs.Notes.{None, Waiting}
 use Rattle.account.specs.Claim.{AllBytes}

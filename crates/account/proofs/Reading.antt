@@ -26,7 +26,8 @@ use Rattle.port.specs.Halves.{nextWord}
 use Rattle.port.specs.Data.{withPhase}
 use Rattle.account.specs.Plain.{Plain, Finish, Unreadable, moving, withBuffer}
 use Rattle.account.specs.Course.{Course}
-use Rattle.account.specs.Sweeps.{tried, sweepFrom, tests, unreadable, sectorsFrom, lastSector, sectorAt, readDone, readSectors}
+use Rattle.account.specs.Sweeps.{tried, sweepFrom, tests, unreadable, readDone, readSectors}
+use Rattle.account.specs.WholeSectors.{sectorsFrom, lastSector, sectorAt}
 use Rattle.account.specs.Host.{plainOf}
 use Rattle.account.proofs.Seats.{Shaped, Seated, Where, courseIn, onward, done-on, seat-next, room-total}
 use Rattle.account.proofs.Tried.{stops-sweep, stops-ends, read-tested}

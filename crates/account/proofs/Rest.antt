@@ -21,7 +21,8 @@ use Rattle.transfers.specs.declared.Way.{Way}
 use Rattle.transfers.specs.declared.Way.the-variants.{In, Out}
 use Rattle.account.specs.Plain.{Plain, withBuffer, withStore, withStatus, Finish, Well, NotFound, Unreadable, WriteFault, Aborted, ends, Account, silent, moving}
 use Rattle.account.specs.Course.{Course, courseOf, named}
-use Rattle.account.specs.Sweeps.{Sweep, stopped, sweepEnds, unwritable, putSector, badAt, readSectors, writeSectors}
+use Rattle.account.specs.Sweeps.{Sweep, stopped, sweepEnds, unwritable, readSectors, writeSectors}
+use Rattle.account.specs.WholeSectors.{putSector, badAt}
 use Rattle.account.specs.Host.{plainOf, plainIn}
 use Rattle.account.specs.Notes.{Waiting, None, LowByte, HighByte, Notes}
 use Rattle.account.specs.Claim.{AllBytes}

@@ -12,7 +12,8 @@ use Rattle.sectors.specs.Marks.{lowered}
 use Rattle.sectors.specs.Sectors.{storeMarks, stored, withSector}
 use Rattle.account.specs.Plain.{Finish}
 use Rattle.account.specs.Course.{Course}
-use Rattle.account.specs.Sweeps.{sweepFrom, tests, putSector, badAt, badFrom}
+use Rattle.account.specs.Sweeps.{sweepFrom, tests}
+use Rattle.account.specs.WholeSectors.{putSector, badAt, badFrom}
 
 -- a store and marks of n sectors
 abbrev pub LentFor : ℕ → List ℕ → List ℕ → Type 0

@@ -31,7 +31,7 @@ use Rattle.port.specs.Data.{withPhase}
 use Rattle.transfers.specs.declared.Way.the-variants.{Out}
 use Rattle.account.specs.Course.{Course}
 use Rattle.kept.specs.Lent.{storeMarksIn}
-use Rattle.account.specs.Sweeps.{putSector, badAt}
+use Rattle.account.specs.WholeSectors.{putSector, badAt}
 use Rattle.account.specs.Host.{plainOf}
 use Rattle.account.specs.Notes.{None, Waiting}
 use Rattle.account.proofs.Seats.{Seated, Where, pastEnd, courseIn, onward, done-on, seat-next}

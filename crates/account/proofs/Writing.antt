@@ -28,7 +28,8 @@ use Rattle.kept.specs.Lent.{storeMarksIn}
 use Rattle.account.specs.Numbers.{codeCylinderOrLba}
 use Rattle.account.specs.Plain.{Plain, withBuffer, Finish, Well, NotFound, Unreadable, WriteFault, Aborted, withStatus, withStore, moving}
 use Rattle.account.specs.Course.{Course}
-use Rattle.account.specs.Sweeps.{tried, sweepFrom, tests, unwritable, firstSectors, lastSectors, replaced, cleared, movedBy, putSector, badAt, badFrom, writeDone, writeSectors}
+use Rattle.account.specs.Sweeps.{tried, sweepFrom, tests, unwritable, movedBy, writeDone, writeSectors}
+use Rattle.account.specs.WholeSectors.{firstSectors, lastSectors, replaced, cleared, putSector, badAt, badFrom}
 use Rattle.account.specs.Host.{plainOf, plainIn}
 use Rattle.account.proofs.Seats.{Shaped, Seated, Where, pastEnd, onward, done-on, seat-next}
 use Rattle.account.proofs.Tried.{stops-ends}

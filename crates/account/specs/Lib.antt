@@ -3,6 +3,7 @@ pub mod Numbers
 pub mod Plain
 pub mod Addressed
 pub mod Course
+pub mod WholeSectors
 pub mod Sweeps
 pub mod Words
 pub mod Intact

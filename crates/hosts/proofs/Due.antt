@@ -12,7 +12,8 @@ use Rattle.account.specs.Plain.{Plain, starts, Finish, Well, NotFound, Unreadab
 use Rattle.account.specs.Addressed.{Addressed, At, Bad}
 use Rattle.account.specs.CommandRows.{CommandRow, Reads, Writes, Verifies, Erases, Identifies, ReadsBuffer, WritesBuffer, SetsGeometry, Diagnoses, Recalibrates, Seeks, Senses, Others}
 use Rattle.account.specs.Course.{courseOf}
-use Rattle.account.specs.Sweeps.{Sweep, tried, sweepFrom, tests, unwritable, writeSweep, firstSectors, movedBy, writeSectors}
+use Rattle.account.specs.Sweeps.{Sweep, tried, sweepFrom, tests, unwritable, writeSweep, movedBy, writeSectors}
+use Rattle.account.specs.WholeSectors.{firstSectors}
 use Rattle.account.specs.Table.{asked, first, fromFirst, account}
 use Rattle.hosts.specs.Live.{plenty, due}
 

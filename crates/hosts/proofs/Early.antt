@@ -17,7 +17,8 @@ use Rattle.account.specs.Plain.{Plain}
 use Rattle.account.specs.Addressed.{Addressed, At, Bad}
 use Rattle.account.specs.CommandRows.{CommandRow, Reads, Writes, Verifies, Erases, Identifies, ReadsBuffer, WritesBuffer, SetsGeometry, Diagnoses, Recalibrates, Seeks, Senses, Others, rowOf}
 use Rattle.account.specs.Course.{courseOf}
-use Rattle.account.specs.Sweeps.{writeSweep, replaced, cleared}
+use Rattle.account.specs.Sweeps.{writeSweep}
+use Rattle.account.specs.WholeSectors.{replaced, cleared}
 use Rattle.account.specs.Table.{asked, first}
 use Rattle.account.specs.Host.{plainOf}
 use Rattle.account.specs.Follows.{Able, commanded, afterBy, AcceptedCommand, after, dataless}

@@ -20,7 +20,8 @@ use Rattle.account.specs.Plain.{Plain, WriteFault}
 use Rattle.account.specs.Addressed.{At}
 use Rattle.account.specs.CommandRows.{CommandRow, Writes, rowOf}
 use Rattle.account.specs.Course.{courseOf}
-use Rattle.account.specs.Sweeps.{unwritable, writeSweep, putSector, replaced, cleared, badAt, badFrom}
+use Rattle.account.specs.Sweeps.{unwritable, writeSweep}
+use Rattle.account.specs.WholeSectors.{putSector, replaced, cleared, badAt, badFrom}
 use Rattle.account.specs.Table.{asked, first}
 use Rattle.account.specs.Host.{plainOf, meanings, hosted}
 use Rattle.account.specs.Notes.{noNotes, wayOf}

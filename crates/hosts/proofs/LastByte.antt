@@ -18,7 +18,8 @@ use Rattle.account.specs.Plain.{Plain}
 use Rattle.account.specs.Addressed.{Addressed, At, Bad}
 use Rattle.account.specs.CommandRows.{CommandRow, Reads, Writes, Verifies, Erases, Identifies, ReadsBuffer, WritesBuffer, SetsGeometry, Diagnoses, Recalibrates, Seeks, Senses, Others, rowOf}
 use Rattle.account.specs.Course.{courseOf}
-use Rattle.account.specs.Sweeps.{writeSweep, putSector, replaced}
+use Rattle.account.specs.Sweeps.{writeSweep}
+use Rattle.account.specs.WholeSectors.{putSector, replaced}
 use Rattle.account.specs.Table.{asked, first, account}
 use Rattle.account.specs.Host.{plainOf, Hosted, hostedBy, meanings, hosted}
 use Rattle.account.specs.Notes.{Notes, noNotes, note, wayOf}

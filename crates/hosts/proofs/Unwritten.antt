@@ -19,7 +19,8 @@ use Rattle.account.specs.Plain.{Plain, withBuffer, withPlace, withCurrent, star
 use Rattle.account.specs.Addressed.{Addressed, At, Bad}
 use Rattle.account.specs.CommandRows.{CommandRow, Reads, Writes, Verifies, Erases, Identifies, ReadsBuffer, WritesBuffer, SetsGeometry, Diagnoses, Recalibrates, Seeks, Senses, Others}
 use Rattle.account.specs.Course.{Course, courseOf, named}
-use Rattle.account.specs.Sweeps.{Sweep, sweepEnds, lastNamed, lastSector, readSweep, readSectors, verifySectors}
+use Rattle.account.specs.Sweeps.{Sweep, sweepEnds, lastNamed, readSweep, readSectors, verifySectors}
+use Rattle.account.specs.WholeSectors.{lastSector}
 use Rattle.account.specs.Table.{asked, total, shaped, first, fromFirst, setsGeometry, seeks, account}
 use Rattle.account.specs.Host.{plainOf}
 use Rattle.account.specs.Notes.{Notes}

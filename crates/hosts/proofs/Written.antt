@@ -13,7 +13,7 @@ use Rattle.registers.specs.Machine.{Machine}
 use Rattle.sectors.specs.Sectors.{StoreMarks, storeMarks}
 use Rattle.kept.specs.Lent.{storeMarksIn}
 use Rattle.account.specs.Plain.{Plain}
-use Rattle.account.specs.Sweeps.{putSector, replaced, cleared, badAt, badFrom, badLeft}
+use Rattle.account.specs.WholeSectors.{putSector, replaced, cleared, badAt, badFrom, badLeft}
 use Rattle.account.proofs.Stored.{bad-on}
 use Rattle.account.proofs.Rest.{here}
 

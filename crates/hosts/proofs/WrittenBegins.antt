@@ -17,7 +17,7 @@ use Rattle.transfers.specs.declared.Way.the-variants.{In}
 use Rattle.account.specs.Plain.{Plain, starts, Account}
 use Rattle.account.specs.Addressed.{Addressed, At, Bad}
 use Rattle.account.specs.CommandRows.{CommandRow, Reads, Writes, Verifies, Erases, Identifies, ReadsBuffer, WritesBuffer, SetsGeometry, Diagnoses, Recalibrates, Seeks, Senses, Others}
-use Rattle.account.specs.Sweeps.{replaced, cleared, badFrom}
+use Rattle.account.specs.WholeSectors.{replaced, cleared, badFrom}
 use Rattle.account.specs.Table.{asked, first}
 use Rattle.account.specs.Host.{plainOf}
 use Rattle.account.specs.Notes.{Notes, noNotes}

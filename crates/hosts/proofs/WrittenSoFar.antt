@@ -21,7 +21,8 @@ use Rattle.account.specs.Plain.{Plain, withBuffer, withStore, starts, Finish, W
 use Rattle.account.specs.Addressed.{Addressed, At, Bad}
 use Rattle.account.specs.CommandRows.{CommandRow, Reads, Writes, Verifies, Erases, Identifies, ReadsBuffer, WritesBuffer, SetsGeometry, Diagnoses, Recalibrates, Seeks, Senses, Others}
 use Rattle.account.specs.Course.{Course, courseOf}
-use Rattle.account.specs.Sweeps.{Sweep, writeSweep, writeSectors, writeDone, firstSectors, lastSectors, movedBy, replaced, cleared, badLeft}
+use Rattle.account.specs.Sweeps.{Sweep, writeSweep, writeSectors, writeDone, movedBy}
+use Rattle.account.specs.WholeSectors.{firstSectors, lastSectors, replaced, cleared, badLeft}
 use Rattle.account.proofs.Stored.{bad-none}
 use Rattle.account.specs.Table.{asked, first, fromFirst, account}
 use Rattle.account.specs.Host.{plainOf, asks}

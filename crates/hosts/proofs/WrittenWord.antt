@@ -33,7 +33,7 @@ use Rattle.account.specs.Plain.{Plain}
 use Rattle.account.specs.Course.{Course}
 use Rattle.sectors.specs.Sectors.{StoreMarks, storeMarks}
 use Rattle.kept.specs.Lent.{storeMarksIn}
-use Rattle.account.specs.Sweeps.{putSector, badAt}
+use Rattle.account.specs.WholeSectors.{putSector, badAt}
 use Rattle.account.specs.Host.{plainOf}
 use Rattle.account.proofs.Seats.{Shaped, Where, pastEnd, courseIn, onward, done-on, seat-next}
 use Rattle.account.proofs.Stored.{stored-is}

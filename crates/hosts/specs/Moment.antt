@@ -16,7 +16,8 @@ use Rattle.account.specs.Plain.{Plain, bytesPerSector}
 use Rattle.account.specs.Addressed.{Addressed, At, Bad}
 use Rattle.account.specs.CommandRows.{CommandRow, Reads, Writes, Verifies, Erases, Identifies, ReadsBuffer, WritesBuffer, SetsGeometry, Diagnoses, Recalibrates, Seeks, Senses, Others}
 use Rattle.account.specs.Course.{courseOf}
-use Rattle.account.specs.Sweeps.{writeSweep, replaced, cleared, badLeft}
+use Rattle.account.specs.Sweeps.{writeSweep}
+use Rattle.account.specs.WholeSectors.{replaced, cleared, badLeft}
 use Rattle.account.specs.Table.{asked, first, account}
 use Rattle.account.specs.Host.{calm, meanings}
 use Rattle.account.specs.Follows.{SameOutside}

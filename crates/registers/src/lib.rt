@@ -44,7 +44,7 @@ pub enum Load {
     Buffer,
 }
 
-// The order of the fields here and below is the one that takes the fewest instructions in a run (bench/); it means nothing else.
+// The order of the fields here and below is the one of those tried that takes the fewest instructions in a run (bench/); it means nothing else.
 pub struct Transfer {
     pub words: u16,
     pub load: Load,

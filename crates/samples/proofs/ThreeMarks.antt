@@ -12,7 +12,7 @@ pub three-told : (wordAt 129 (identifiedAfter []) ≡ 3) × (wordAt 255 (identif
 unfolding computing play threeMarks threeBad asksOf leftAfter identifiedAfter
 three-told = (refl, refl)
 
--- "after a write to one of them 2"
+-- after a write to one of them 2
 pub written-told : (wordAt 129 (identifiedAfter (written 3)) ≡ 2) × (wordAt 255 (identifiedAfter (written 3)) ≡ 0x54A5)
 unfolding computing play threeMarks threeBad asksOf leftAfter identifiedAfter
 written-told = (refl, refl)
@@ -27,7 +27,7 @@ pub fault-told : (wordAt 129 (identifiedAfter (written 7)) ≡ 3) × (leftAfter 
 unfolding computing play threeMarks threeBad asksOf leftAfter identifiedAfter
 fault-told = (refl, refl, refl)
 
--- Erase of sectors 0 to 4 heals one; of 0 to 9 it stops at sector 7
+-- Erase of sectors 0 to 4 clears one mark; of 0 to 9 it stops at sector 7
 pub erased-told : (wordAt 129 (identifiedAfter (erased 5 0)) ≡ 2) × (wordAt 129 (identifiedAfter (erased 10 0)) ≡ 2)
 unfolding computing play threeMarks threeBad asksOf leftAfter identifiedAfter
 erased-told = (refl, refl)

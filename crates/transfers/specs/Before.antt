@@ -43,7 +43,7 @@ markEnd Out = End.WriteFault
 unfoldable pub sectorTest : Way → State → List ℕ → Tested
 sectorTest way s marks = markTested (allows way) (markEnd way) (addressTest s) marks
 
--- a sector is stored, its mark set to 0 and the number of marks that are not 0 lowered with it, unless a test fails
+-- a sector is stored and its mark set to 0, and if that was not 0 the number of such marks lowered with it, unless a test fails
 abbrev pub storedBy : Tested → List ℕ → StoreMarks → Left Tested StoreMarks
 storedBy (Passes spot) bytes k = leaving (Passes spot) (stored k (spot .index) bytes)
 storedBy (Fails e) bytes k = leaving (Fails e) k

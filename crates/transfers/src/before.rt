@@ -57,7 +57,7 @@ pub fn sector_test(state: State, way: Way, marks: &[u8]) -> Tested
     }
 }
 
-// The sector is stored, its mark cleared and the number of marks that are not 0 lowered with it, unless a test fails: for a write and for Erase.
+// The sector is stored and its mark cleared, and if that was not 0 the number of such marks lowered with it, unless a test fails: for a write and for Erase.
 pub fn sector_stored(state: State, bytes: &Sector, store: &mut [u8], marks: &mut [u8]) -> Stored
     ensures { λ r. ⌜ leaving (r .tested) (storeMarks (now (store .exit)) (now (marks .exit)) (r .bad)) ≡ sectorStored state (now (bytes .entry)) (now (store .entry)) (now (marks .entry)) ⌝ }
 {
