@@ -3,7 +3,16 @@ import sessions
 
 OFF_LINE = 0.005  # of the rise from the shortest session to the longest
 # Instructions an access, by session: none more than before the card kept the number of bad sectors (02, "Eight"), the fraction dropped.
-MOST = {"words": 141, "bytes": 165, "polling": 129, "errors": 181}
+MOST = {
+    "words": 141,
+    "bytes": 165,
+    "polling": 129,
+    "errors": 181,
+    "words-read": 137,
+    "bytes-read": 160,
+    "words-written": 145,
+    "bytes-written": 170,
+}
 
 
 class Fault(Exception):

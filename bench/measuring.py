@@ -58,11 +58,15 @@ def answered(printed):
 
 # ---- counts
 
-def instructions(command, path, folder):
+# What a counted program is given of the environment: where the stack begins goes by its length, and with that what filling an array takes.
+GIVEN = {"PATH": os.defpath}
+
+
+def instructions(valgrind, command, path, folder):
     """By callgrind; the whole run, its start too."""
     with open(path, "rb") as given:
-        done = subprocess.run(["valgrind", "--tool=callgrind", f"--callgrind-out-file={folder}/callgrind", *command],
-                              stdin=given, stdout=subprocess.DEVNULL, stderr=subprocess.PIPE, text=True, check=False)
+        done = subprocess.run([valgrind, "--tool=callgrind", f"--callgrind-out-file={folder}/callgrind", *command],
+                              stdin=given, stdout=subprocess.DEVNULL, stderr=subprocess.PIPE, text=True, check=False, env=GIVEN)
     for line in done.stderr.splitlines():
         if "Collected :" in line:
             return int(line.split(":")[-1])
@@ -104,7 +108,7 @@ class Bench:
     def cost(self, name, kind, blocks):
         path, command = self.path(kind, blocks), self.programs[name]
         if self.callgrind:
-            return instructions(command, path, self.folder)
+            return instructions(self.callgrind, command, path, self.folder)
         if self.trace:
             return traced(path, self.folder)
         return answered(output_of(command, path))

@@ -1,7 +1,7 @@
 """A plot of lines through points, as SVG text."""
 
-WIDE, HIGH, LEFT, LOW = 760, 460, 90, 50
-COLOURS = ("#1b6ca8", "#c0392b", "#2e8b57", "#8e44ad")
+WIDE, HIGH, LEFT, RIGHT, LOW = 790, 460, 90, 230, 50
+COLOURS = ("#1b6ca8", "#c0392b", "#2e8b57", "#8e44ad", "#d68910", "#16a085", "#7f8c8d", "#5d4037")
 
 
 def steps(most, count=5):
@@ -19,7 +19,7 @@ def svg(title, across, up, lines):
     names = list(dict.fromkeys(name.split(",")[0] for name, _, _ in lines))
 
     def at(x, y):
-        return LEFT + x / most_x * (WIDE - LEFT - 200), HIGH - LOW - y / most_y * (HIGH - LOW - 40)
+        return LEFT + x / most_x * (WIDE - LEFT - RIGHT), HIGH - LOW - y / most_y * (HIGH - LOW - 40)
 
     out = [f'<svg xmlns="http://www.w3.org/2000/svg" width="{WIDE}" height="{HIGH}" font-family="sans-serif" font-size="12">',
            f'<rect width="{WIDE}" height="{HIGH}" fill="white"/>', f'<text x="{LEFT}" y="22" font-size="15">{title}</text>']

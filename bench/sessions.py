@@ -22,24 +22,44 @@ def command(space, base, lba, code):
     return [write(space, base + offset, value) for offset, value in registers]
 
 
-def words(block):
-    """A sector written and another read by words, in True IDE mode."""
+def words_written(block):
+    """A sector written by words, in True IDE mode."""
     yield from command(IDE, 0, block % 32, 0x30)
     yield from (write(IDE, 0, (block * 257 + word * 3) % 65536, 2) for word in range(256))
     yield read(IDE, 7)
-    yield from command(IDE, 0, (block + 1) % 32, 0x20)
+
+
+def words_read(block):
+    """A sector read by words, in True IDE mode."""
+    yield from command(IDE, 0, block % 32, 0x20)
     yield from [read(IDE, 0, 2)] * 256
     yield read(IDE, 7)
 
 
-def bytes_(block):
-    """A sector written and another read by bytes, through the memory window: even and odd addresses in turn."""
+def words(block):
+    """A sector written and another read."""
+    yield from words_written(block)
+    yield from words_read(block + 1)
+
+
+def bytes_written(block):
+    """A sector written by bytes, through the memory window: even and odd addresses in turn."""
     yield from command(MEMORY, 0, block % 32, 0x30)
     yield from (write(MEMORY, 0x400 + byte, (block + byte * 5) % 256) for byte in range(512))
     yield read(MEMORY, 7)
-    yield from command(MEMORY, 0, (block + 1) % 32, 0x20)
+
+
+def bytes_read(block):
+    """A sector read by bytes, through the memory window: even and odd addresses in turn."""
+    yield from command(MEMORY, 0, block % 32, 0x20)
     yield from (read(MEMORY, 0x400 + byte) for byte in range(512))
     yield read(MEMORY, 7)
+
+
+def bytes_(block):
+    """A sector written and another read."""
+    yield from bytes_written(block)
+    yield from bytes_read(block + 1)
 
 
 def polling(block):
@@ -63,6 +83,10 @@ KINDS = {
     "bytes": (PC_CARD, None, bytes_),
     "polling": (PC_CARD, 2, polling),
     "errors": (PC_CARD, 1, errors),
+    "words-read": (TRUE_IDE, None, words_read),
+    "bytes-read": (PC_CARD, None, bytes_read),
+    "words-written": (TRUE_IDE, None, words_written),
+    "bytes-written": (PC_CARD, None, bytes_written),
 }
 
 

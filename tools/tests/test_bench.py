@@ -152,10 +152,10 @@ def well_reported(text, rounds, native):
     assert re.search(r"^- date: \d{4}-\d\d-\d\d$", text, re.M), text
     for name, holds in (("machine", "processors"), ("load", "processes"), ("Rattle", "rattle"), ("Rust", "rustc "), ("counts", "valgrind-" if native else "the trace of ")):
         assert re.search(rf"^- {name}: .*{holds}", text, re.M), (name, text)
-    counts = re.findall(r"^\| (\w+) \| [\d,]+ \| [\d,.]+ \| \S+ \| \S+ \| [\d.]+ % \|$", text, re.M)
+    counts = re.findall(r"^\| ([\w-]+) \| [\d,]+ \| [\d,.]+ \| \S+ \| \S+ \| [\d.]+ % \|$", text, re.M)
     assert "**Instructions an access**" in text and counts == list(sessions.KINDS), text
     if native:
-        times = re.findall(r"^\| (\w+) \| [^|]+ \| [^|]+ \| \S+ \|$", text, re.M)
+        times = re.findall(r"^\| ([\w-]+) \| [^|]+ \| [^|]+ \| \S+ \|$", text, re.M)
         assert f"the best of {rounds} turns" in text and times == list(sessions.KINDS), text
     else:
         assert text.endswith("must emulate x86-64 to run cardrun: times mean nothing here, so none are given.\n") and "a second" not in text, text
@@ -187,6 +187,19 @@ def test_results_are_written():
     names = [f"{kind}, {name}" for kind in sessions.KINDS for name in (["cardrun", "independent"] if measuring.native() else ["cardrun"])]
     assert xml.etree.ElementTree.fromstring(svg).tag.endswith("svg") and svg.count("<polyline") == len(names)
     assert all(f">{name}</text>" in svg for name in names) and ">instructions</text>" in svg, svg
+
+
+def test_callgrind_counts_the_same_in_any_environment():
+    with tempfile.TemporaryDirectory() as folder:
+        made = measuring.Bench(None, folder)
+        if not made.callgrind:
+            print("       callgrind is not here: not asked")
+            return
+        counts = set()
+        for length in range(0, 64, 8):
+            with mock.patch.dict(os.environ, {"LONGER": "x" * length}):
+                counts.add(made.cost("cardrun", "errors", 1))
+    assert len(counts) == 1, counts
 
 
 def test_cardrun_keeps_to_the_line_and_the_bound():
