@@ -28,9 +28,10 @@ def build(name):
 def split(command):
     """The words of a command that can be run."""
     words = calls.words_of("bench", "--cardrun", command)
-    if not words or not shutil.which(words[0]):
+    program = words and shutil.which(words[0])
+    if not program:
         fail(f"--cardrun {command}: no such program")
-    return words
+    return [program, *words[1:]]
 
 
 def programs(given):

@@ -177,7 +177,7 @@ fn outside(seed: u64, all: &mut Vec<Case>) {
     }
 }
 
-/// Marks of every value above 2, put in after the opening and healed in one run, twice.
+/// Marks of every value above 2, put in after the opening and cleared in one run, twice.
 fn all_marks(seed: u64, all: &mut Vec<Case>) {
     for (number, opcode) in [0x30, 0xC0].into_iter().enumerate() {
         let g = geometry((600, 1, 1));

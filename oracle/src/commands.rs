@@ -61,7 +61,7 @@ impl Card {
             self.store_buffer(lent);
         }
         self.keep_dropped(Kept::Dropped, lent);
-        if on(Change::DropLowersBad) && self.would_heal(lent) {
+        if on(Change::DropLowersBad) && self.would_clear(lent) {
             self.lower_bad();
         }
         self.mark = false;
@@ -312,7 +312,7 @@ impl Card {
                 self.sectors = true;
                 self.ask();
                 self.trace.asked = self.then(lent);
-                if on(Change::BadLoweredEarly) && self.would_heal(lent) {
+                if on(Change::BadLoweredEarly) && self.would_clear(lent) {
                     self.lower_bad();
                 }
             }
@@ -380,7 +380,7 @@ impl Card {
         cover::mark(row, mark);
         cover::stored(row, mark, self.bad, lent.marks);
         cover::changed(&self.trace, at, mark);
-        let [faulting, healing] = self.deciding(at, mark);
+        let [faulting, clearing] = self.deciding(at, mark);
         if faulting == 2 {
             if on(Change::FaultLowersBad) {
                 self.lower_bad();
@@ -389,7 +389,7 @@ impl Card {
             return false;
         }
         lent.store[512 * at..512 * at + 512].copy_from_slice(bytes);
-        self.healed(row, healing);
+        self.cleared(row, clearing);
         if !on(Change::WriteLeavesMark) {
             lent.marks[at] = 0;
         }
@@ -488,7 +488,7 @@ impl Card {
 impl Card {
     /// A stored sector's mark, not yet 0: "writes and Erase can lower it". The stored mark decides;
     /// a sound sector's leaves it.
-    fn healed(&mut self, row: Row, mark: u8) {
+    fn cleared(&mut self, row: Row, mark: u8) {
         let lowers = match mark {
             0 => on(Change::SoundLowersBad),
             3.. => !on(Change::AboveLeavesBad),
@@ -514,7 +514,7 @@ impl Card {
     }
 
     /// The last byte of the sector that is being written would turn its mark into 0.
-    fn would_heal(&self, lent: &Lent) -> bool {
+    fn would_clear(&self, lent: &Lent) -> bool {
         let writing = self.phase == Phase::Out && self.sectors;
         writing && self.locate().is_ok_and(|at| !matches!(lent.marks[at], 0 | 2))
     }
@@ -532,7 +532,7 @@ impl Card {
 
     /// The same of a write that is broken off where its last byte would lower it.
     pub fn keep_dropped(&mut self, what: Kept, lent: &Lent) {
-        if self.would_heal(lent) {
+        if self.would_clear(lent) {
             self.keep_bad(what, lent);
         }
     }

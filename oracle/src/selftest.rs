@@ -367,7 +367,7 @@ fn bad_shown() -> bool {
     told("Identify, the number of bad sectors", good && bad_words(&mut marked(&[])) == [0, 0x56A5])
 }
 
-/// Marks from outside take off a number that never had them, to 0 and no further; a mark healed from
+/// Marks from outside take off a number that never had them, to 0 and no further; a mark cleared from
 /// outside is not missed.
 fn bad_to_zero() -> bool {
     let mut host = marked(&[(3, 1), (4, 1), (5, 2)]);

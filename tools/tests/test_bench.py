@@ -76,7 +76,7 @@ def test_each_session_keeps_to_its_bound():
 
 
 def test_the_help_names_the_bounds():
-    told = re.search(r"^access may take: (.*)\.$", bench.help_text(), re.M)
+    told = re.search(r"^The most instructions that an access may take: (.*)\.$", bench.help_text(), re.M)
     assert dict(bound.split() for bound in told[1].split(", ")) == {kind: str(most) for kind, most in limits.MOST.items()}, told[1]
 
 
@@ -117,6 +117,9 @@ def test_wrong_calls_are_told():
 
 def test_a_program_is_looked_for_as_a_shell_does():
     assert measuring.run_once(["sh", "-c", "exit 0"], "README.md") > 0
+    with tempfile.TemporaryDirectory() as folder, mock.patch.dict(os.environ, {"PATH": folder}):
+        assert measuring.split(f"{os.path.basename(program(folder, 'other', 'exit 0'))} -x") == [os.path.join(folder, "other"), "-x"]
+    assert measuring.split("bench/run --help") == ["bench/run", "--help"]
 
 
 def test_what_stands_by_hand_on_the_page_is_kept():
