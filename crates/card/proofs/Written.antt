@@ -1,7 +1,7 @@
 -- A write to a register: Command and Device Control by their tests; each other one changes registers alone, and none where it has no effect.
 use Prim.Native.Nat.{ℕ}
-use mathlib.Core.Bool.{Bool, true, false, true≢false, false≢true}
-use mathlib.Core.Path.{_≡_, refl, ap}
+use mathlib.Core.Bool.{Bool, true, false}
+use mathlib.Core.Path.{_≡_, refl, sym, ap}
 use Rattle.ground.specs.Choice.{pick}
 use Rattle.ground.proofs.Picks.{pick-elim}
 use Rattle.maps.specs.declared.Register.{Register}
@@ -9,45 +9,32 @@ use Rattle.maps.specs.declared.Register.the-variants.{ErrorFeature, SectorCount
 use Rattle.registers.specs.declared.State.{State}
 use Rattle.registers.specs.declared.Core.{Core}
 use Rattle.registers.specs.State.{runs, withRegisters}
-use Rattle.registers.specs.Machine.{Machine, core}
+use Rattle.registers.specs.Machine.{Machine, core, withCore}
+use Rattle.registers.specs.Resets.{controlWritten}
 use Rattle.registers.specs.Values.{registerSet}
 use Rattle.card.specs.Perform.{isCommand, isControl, plainCore, plainWritten, registerWritten}
 
 -- ---- which register it is
 
-pub command-is : (r : Register) → isCommand r ≡ true → r ≡ StatusCommand
-command-is ErrorFeature e = absurd (false≢true e)
-command-is SectorCount e = absurd (false≢true e)
-command-is SectorNumber e = absurd (false≢true e)
-command-is CylinderLow e = absurd (false≢true e)
-command-is CylinderHigh e = absurd (false≢true e)
-command-is DriveHead e = absurd (false≢true e)
-command-is StatusCommand e = refl
-command-is AlternateControl e = absurd (false≢true e)
-command-is DriveAddress e = absurd (false≢true e)
+abbrev pub chosenWrite : Bool → Bool → Register → ℕ → Machine → Machine
+chosenWrite command control r v m =
+    pick command (registerWritten StatusCommand v m) (pick control (withCore (controlWritten v (m .phase) (m .state)) m) (plainWritten r v m))
 
-pub control-is : (r : Register) → isControl r ≡ true → r ≡ AlternateControl
-control-is ErrorFeature e = absurd (false≢true e)
-control-is SectorCount e = absurd (false≢true e)
-control-is SectorNumber e = absurd (false≢true e)
-control-is CylinderLow e = absurd (false≢true e)
-control-is CylinderHigh e = absurd (false≢true e)
-control-is DriveHead e = absurd (false≢true e)
-control-is StatusCommand e = absurd (false≢true e)
-control-is AlternateControl e = refl
-control-is DriveAddress e = absurd (false≢true e)
-
-pub plain-is : (r : Register) (v : ℕ) (m : Machine) → isCommand r ≡ false → isControl r ≡ false → registerWritten r v m ≡ plainWritten r v m
+by-tests : (r : Register) (v : ℕ) (m : Machine) → registerWritten r v m ≡ chosenWrite (isCommand r) (isControl r) r v m
 unfolding registerWritten
-plain-is ErrorFeature v m c d = refl
-plain-is SectorCount v m c d = refl
-plain-is SectorNumber v m c d = refl
-plain-is CylinderLow v m c d = refl
-plain-is CylinderHigh v m c d = refl
-plain-is DriveHead v m c d = refl
-plain-is StatusCommand v m c d = absurd (true≢false c)
-plain-is AlternateControl v m c d = absurd (true≢false d)
-plain-is DriveAddress v m c d = refl
+by-tests ErrorFeature v m = refl
+by-tests SectorCount v m = refl
+by-tests SectorNumber v m = refl
+by-tests CylinderLow v m = refl
+by-tests CylinderHigh v m = refl
+by-tests DriveHead v m = refl
+by-tests StatusCommand v m = refl
+by-tests AlternateControl v m = refl
+by-tests DriveAddress v m = refl
+
+-- by what the two tests say
+pub tested : (b d : Bool) (r : Register) (v : ℕ) (m : Machine) → isCommand r ≡ b → isControl r ≡ d → registerWritten r v m ≡ chosenWrite b d r v m
+tested b d r v m e f = rw (sym e, sym f) (by-tests r v m)
 
 -- ---- what it changes
 

@@ -1,6 +1,6 @@
-use mathlib.Core.Path.{sym, _∙_}
-use Rattle.card.specs.Perform.{registerWritten}
-use Rattle.card.proofs.Written.{command-is, control-is, plain-is}
+use mathlib.Core.Bool.{true, false}
+use mathlib.Core.Path.{refl, sym, _∙_}
+use Rattle.card.proofs.Written.{tested}
 use borrow.Author.Needs.{needs}
 use Rattle.card.proofs.perform.write_register.Statement.{statement}
 use Rattle.card.proofs.perform.write_register.Tie as tie
@@ -21,8 +21,7 @@ returns : tie.Need-returns
 returns c =
     let c4 = c .before .before .before .before in
     let c8 = c4 .before .before .before .before in
-    let a = c8 .before .before .before .before .args in
-    simp (command-is (a .register) (sym (c8 .before .is-command .ensures) ∙ c8 .if1 .taken)) (c4 .command-written .ensures)
+    c4 .command-written .ensures ∙ sym (tested true _ _ _ _ (sym (c8 .before .is-command .ensures) ∙ c8 .if1 .taken) refl)
 
 is-control-requires : tie.Need-is-control-requires
 is-control-requires c κs = search needs
@@ -31,11 +30,10 @@ write-control-requires : tie.Need-write-control-requires
 write-control-requires c κs = search needs
 
 returns-2 : tie.Need-returns-2
-unfolding registerWritten
 returns-2 c =
     let c2 = c .before .before in
-    let a = c2 .before .before .before .before .before .args in
-    simp (control-is (a .register) (sym (c2 .is-control .ensures) ∙ c .before .if2 .taken), c .write-control .ensures)
+    let not-command = sym (c2 .before .before .is-command .ensures) ∙ c2 .before .if1 .left in
+    simp (c .write-control .ensures) (sym (tested false true _ _ _ not-command (sym (c2 .is-control .ensures) ∙ c .before .if2 .taken)))
 
 plain-core-requires : tie.Need-plain-core-requires
 plain-core-requires c κs = search needs
@@ -43,10 +41,8 @@ plain-core-requires c κs = search needs
 returns-3 : tie.Need-returns-3
 returns-3 c =
     let c2 = c .before .before in
-    let c4 = c2 .before .before in
-    let a = c4 .before .before .before .args in
-    simp (c .plain-core .ensures)
-    (sym (plain-is (a .register) (a .value) _ (sym (c4 .is-command .ensures) ∙ c2 .before .if1 .left) (sym (c2 .is-control .ensures) ∙ c .before .if2 .left)))
+    let not-command = sym (c2 .before .before .is-command .ensures) ∙ c2 .before .if1 .left in
+    simp (c .plain-core .ensures) (sym (tested false false _ _ _ not-command (sym (c2 .is-control .ensures) ∙ c .before .if2 .left)))
 
 pub write-register-spec : {M : Type 1} → statement M
 write-register-spec =
