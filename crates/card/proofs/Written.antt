@@ -20,21 +20,21 @@ abbrev pub chosenWrite : Bool → Bool → Register → ℕ → Machine → Mach
 chosenWrite command control r v m =
     pick command (registerWritten StatusCommand v m) (pick control (withCore (controlWritten v (m .phase) (m .state)) m) (plainWritten r v m))
 
-by-tests : (r : Register) (v : ℕ) (m : Machine) → registerWritten r v m ≡ chosenWrite (isCommand r) (isControl r) r v m
+each-register : (r : Register) (v : ℕ) (m : Machine) → registerWritten r v m ≡ chosenWrite (isCommand r) (isControl r) r v m
 unfolding registerWritten
-by-tests ErrorFeature v m = refl
-by-tests SectorCount v m = refl
-by-tests SectorNumber v m = refl
-by-tests CylinderLow v m = refl
-by-tests CylinderHigh v m = refl
-by-tests DriveHead v m = refl
-by-tests StatusCommand v m = refl
-by-tests AlternateControl v m = refl
-by-tests DriveAddress v m = refl
+each-register ErrorFeature v m = refl
+each-register SectorCount v m = refl
+each-register SectorNumber v m = refl
+each-register CylinderLow v m = refl
+each-register CylinderHigh v m = refl
+each-register DriveHead v m = refl
+each-register StatusCommand v m = refl
+each-register AlternateControl v m = refl
+each-register DriveAddress v m = refl
 
 -- by what the two tests say
-pub tested : (b d : Bool) (r : Register) (v : ℕ) (m : Machine) → isCommand r ≡ b → isControl r ≡ d → registerWritten r v m ≡ chosenWrite b d r v m
-tested b d r v m e f = rw (sym e, sym f) (by-tests r v m)
+pub by-tests : (b d : Bool) (r : Register) (v : ℕ) (m : Machine) → isCommand r ≡ b → isControl r ≡ d → registerWritten r v m ≡ chosenWrite b d r v m
+by-tests b d r v m e f = rw (sym e, sym f) (each-register r v m)
 
 -- ---- what it changes
 
