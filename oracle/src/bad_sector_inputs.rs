@@ -98,7 +98,8 @@ fn openings(seed: u64, all: &mut Vec<Case>) {
 
 // ---------------------------------------------------------------- lowered
 
-/// Writes and Erases over runs of mixed marks: to a good end, a mark of 2, the end of the card.
+/// Writes and Erases over runs of mixed marks: to a good end, a mark of 2, the end of the card, and past
+/// it, where an Erase leaves the number.
 fn runs(seed: u64, all: &mut Vec<Case>) {
     let mut number = 0;
     for opcode in [0x30, 0x31, 0xC0] {
@@ -118,8 +119,8 @@ fn runs_of(host: &mut Host, opcode: u8, lba: bool) {
     const MARKS: [u8; 8] = [0, 1, 1, 0, 2, 1, 0, 1];
     open_over(host, |at| MARKS[at % 8]);
     whole(host);
-    for (first, count) in [(1, 1), (0, 1), (1, 1), (4, 1), (2, 3), (5, 2), (8, 8), (29, 5), (0, 0)]
-    {
+    let runs = [(1, 1), (0, 1), (1, 1), (4, 1), (2, 3), (5, 2), (8, 8), (29, 5), (29, 3), (0, 0)];
+    for (first, count) in runs {
         run(host, opcode, first, count, lba);
         // As the last Identify left it, unless a write has gone through the buffer.
         host.put(7, 0xE4);
@@ -171,6 +172,7 @@ fn outside(seed: u64, all: &mut Vec<Case>) {
             }
             run(&mut host, opcode, 3, 1, true);
             run(&mut host, opcode, 0, 0, true);
+            run(&mut host, opcode, 0, 32, true);
             whole(&mut host);
             finish(format!("bad-outside-{opcode:02X}-{mode}"), host, all);
         }
@@ -211,7 +213,9 @@ fn large(seed: u64, all: &mut Vec<Case>) {
                 glance(&mut host);
             }
             for first in (2..n).step_by(256) {
-                run(&mut host, opcode, first, 0, number % 2 == 0);
+                // All that remain, or 256 by Count 0.
+                let count = (n - first).min(256) as u8;
+                run(&mut host, opcode, first, count, number % 2 == 0);
                 glance(&mut host);
             }
             host.set_mark(n - 1, 1);
@@ -333,11 +337,12 @@ fn keep(host: &mut Host, which: usize) {
         12 => run(host, 0x20, 5, 2, true),
         13 => run(host, 0x40, 4, 9, true),
         14 => drop(host.put(7, 0xFF)),
+        15 => run(host, 0xC0, 3, 200, true),
         _ => host.refused(),
     }
 }
 
-const KEEPERS: usize = 16;
+const KEEPERS: usize = 17;
 
 /// Each of them with as many bad sectors as the card says, fewer and more; then Identify.
 fn kept(seed: u64, all: &mut Vec<Case>) {
@@ -471,7 +476,8 @@ fn step(host: &mut Host) {
             run(host, opcode, at, count, lba);
         }
         4 | 5 => {
-            let count = host.rng.pick(&[1, 3, 8, 0]);
+            // As far as the end, sometimes, if 255 sectors get there.
+            let count = host.rng.pick(&[1, 3, 8, 0, (n - at).min(255) as u8]);
             run(host, 0xC0, at, count, lba);
         }
         6..=8 => {

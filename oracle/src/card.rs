@@ -131,11 +131,24 @@ pub struct Trace {
     pub kept: Option<Kept>,
     /// How often the present command has lowered it.
     pub lowered: u16,
+    /// How many sectors the present command has done.
+    pub done: u16,
+    /// The transfer that the present command has dropped, if one ran.
+    pub dropped: Option<Phase>,
     /// A write that runs: when its command was given.
     pub given: Then,
     /// The same: when its present sector was asked for, and whether that is the command's first.
     pub asked: Then,
     pub first: bool,
+}
+
+impl Trace {
+    /// A command begins in this phase.
+    pub fn begin(&mut self, phase: Phase) {
+        self.lowered = 0;
+        self.done = 0;
+        self.dropped = Some(phase).filter(|&phase| phase != Phase::Idle);
+    }
 }
 
 /// The marks and the number of bad sectors as they were once; no marks, if it is not known.

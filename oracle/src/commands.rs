@@ -1,9 +1,11 @@
 //! The commands of 01's table, and what follows the last byte of a sector.
 
+use crate::addresses::Located;
 use crate::card::{bad_sectors, Card, Geometry, Lent, Phase, Then, DATA, FAILED, FAULT, IDLE};
 use crate::cover;
 use crate::mutants::{on, Change};
 use crate::points::Kept;
+use crate::run_cover;
 
 pub const ABRT: u8 = 0x04;
 pub const IDNF: u8 = 0x10;
@@ -65,7 +67,7 @@ impl Card {
             self.lower_bad();
         }
         self.mark = false;
-        self.trace.lowered = 0;
+        self.trace.begin(self.phase);
         self.stop_transfer();
         if row == Row::Sense {
             return self.sense();
@@ -94,7 +96,7 @@ impl Card {
         self.mark = true;
     }
 
-    fn fail(&mut self, row: Row, status: u8, error: u8, code: u8) {
+    pub fn fail(&mut self, row: Row, status: u8, error: u8, code: u8) {
         self.error = error;
         self.code = code;
         self.end(row, error, code);
@@ -105,7 +107,9 @@ impl Card {
     fn end(&mut self, row: Row, error: u8, code: u8) {
         cover::end(row, self.lba(), error, code);
         cover::run(row, self.trace.lowered, error, code);
+        run_cover::ended(row, self.lba(), self.trace.done, error, code);
         self.trace.lowered = 0;
+        self.trace.done = 0;
         self.stop_transfer();
     }
 
@@ -199,79 +203,6 @@ impl Card {
     }
 }
 
-// ---------------------------------------------------------------- addresses
-
-impl Card {
-    fn cylinder(&self) -> u16 {
-        u16::from_le_bytes([self.cyl_low, self.cyl_high])
-    }
-
-    fn set_cylinder(&mut self, c: u16) {
-        [self.cyl_low, self.cyl_high] = c.to_le_bytes();
-    }
-
-    fn lba_number(&self) -> u32 {
-        u32::from_le_bytes([self.sector, self.cyl_low, self.cyl_high, self.head & 0x0F])
-    }
-
-    /// The sector that the registers name, or the code of the address error.
-    pub fn locate(&self) -> Result<usize, u8> {
-        if self.lba() {
-            let of = if on(Change::LbaByCurrent) { self.current } else { self.default };
-            let lba = self.lba_number();
-            return if (lba as u64) < of.sectors() { Ok(lba as usize) } else { Err(0x2F) };
-        }
-        let g = if on(Change::ChsByDefault) { self.default } else { self.current };
-        let (c, h, s) = (self.cylinder(), (self.head & 0x0F) as u16, self.sector as u16);
-        if on(Change::CylinderFirst) && c >= g.c {
-            return Err(0x2F);
-        }
-        if h >= g.h || s < 1 || s > g.s {
-            return Err(0x21);
-        }
-        if c >= g.c {
-            return Err(0x2F);
-        }
-        Ok((c as usize * g.h as usize + h as usize) * g.s as usize + s as usize - 1)
-    }
-
-    /// The next address: LBA by one; CHS advances sector, head, cylinder.
-    fn advance(&mut self) {
-        if self.lba() {
-            let next = self.lba_number() + 1;
-            cover::lba_carry(next);
-            let [sector, low, high, head] = next.to_le_bytes();
-            self.sector = sector;
-            if !on(Change::NoLbaCarry) {
-                (self.cyl_low, self.cyl_high) = (low, high);
-            }
-            self.head = self.head & 0xF0 | head & 0x0F;
-            return;
-        }
-        if (self.sector as u16) < self.current.s {
-            self.sector += 1;
-            return;
-        }
-        self.sector = 1;
-        self.advance_track();
-    }
-
-    fn advance_track(&mut self) {
-        let h = (self.head & 0x0F) as u16;
-        if h + 1 < self.current.h {
-            self.head += 1;
-            return;
-        }
-        self.head &= if on(Change::CylinderClearsDrive) { 0xE0 } else { 0xF0 };
-        let high = self.cyl_high;
-        self.set_cylinder(self.cylinder().wrapping_add(1));
-        cover::cylinder_carry(high, self.cyl_high);
-        if on(Change::NoCylinderCarry) {
-            self.cyl_high = high;
-        }
-    }
-}
-
 // ---------------------------------------------------------------- sector commands
 
 impl Card {
@@ -281,6 +212,10 @@ impl Card {
             0 => 256,
             n => n as u16,
         };
+        run_cover::begun(self, row, lent.marks);
+        if self.runs_past(row, lent) {
+            return self.end_past(row, lent);
+        }
         match row {
             Row::Read => self.read_sector(lent),
             Row::Write => self.ask_first(lent),
@@ -330,7 +265,7 @@ impl Card {
 
     fn erase_sector(&mut self, lent: &mut Lent) -> bool {
         let at = match self.locate() {
-            Ok(at) => at,
+            Ok(found) => found.at,
             Err(code) => {
                 self.fail(Row::Erase, FAILED, IDNF, code);
                 return false;
@@ -346,7 +281,7 @@ impl Card {
     fn sound(&mut self, row: Row, lent: &Lent) -> Option<usize> {
         match self.locate() {
             Err(code) => self.fail(row, FAILED, IDNF, code),
-            Ok(at) => {
+            Ok(Located { at, .. }) => {
                 cover::mark(row, lent.marks[at]);
                 let bad = match lent.marks[at] {
                     0 => false,
@@ -416,6 +351,7 @@ impl Card {
     /// true; else the registers name the next sector.
     fn one_done(&mut self, row: Row) -> bool {
         self.left = self.left.saturating_sub(1);
+        self.trace.done += 1;
         self.count = self.left as u8;
         if self.left == 0 {
             self.good_sectors(row);
@@ -477,7 +413,7 @@ impl Card {
     fn store_buffer(&mut self, lent: &mut Lent) -> bool {
         let bytes = self.buffer;
         match self.locate() {
-            Ok(at) => self.put_sector(Row::Write, at, &bytes, lent),
+            Ok(found) => self.put_sector(Row::Write, found.at, &bytes, lent),
             Err(_) => false,
         }
     }
@@ -504,7 +440,7 @@ impl Card {
     }
 
     /// "never below 0".
-    fn lower_bad(&mut self) {
+    pub fn lower_bad(&mut self) {
         self.trace.kept = None;
         self.trace.lowered += (self.bad > 0) as u16;
         self.bad = match self.bad {
@@ -516,7 +452,7 @@ impl Card {
     /// The last byte of the sector that is being written would turn its mark into 0.
     fn would_clear(&self, lent: &Lent) -> bool {
         let writing = self.phase == Phase::Out && self.sectors;
-        writing && self.locate().is_ok_and(|at| !matches!(lent.marks[at], 0 | 2))
+        writing && self.locate().is_ok_and(|found| !matches!(lent.marks[found.at], 0 | 2))
     }
 
     /// The marks and the number as they are.

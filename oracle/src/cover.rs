@@ -38,7 +38,7 @@ pub fn reached() -> Vec<Point> {
     COUNTS.with_borrow(|counts| counts.keys().copied().collect())
 }
 
-fn hit(point: Point) {
+pub fn hit(point: Point) {
     if let Some(by) = FOR.get() {
         COUNTS.with_borrow_mut(|counts| counts.entry(point).or_default()[by as usize] += 1);
     }
@@ -57,7 +57,7 @@ pub fn end(row: Row, lba: bool, error: u8, code: u8) {
     hit(Point::End(row, ending(error, code), lba && row.addressed()));
 }
 
-fn ending(error: u8, code: u8) -> Ending {
+pub fn ending(error: u8, code: u8) -> Ending {
     match (error, code) {
         (0x10, 0x21) => Ending::Idnf21,
         (0x10, _) => Ending::Idnf2F,
@@ -96,7 +96,7 @@ pub fn mark(row: Row, mark: u8) {
     hit(Point::Mark(row, sort(mark)));
 }
 
-fn sort(mark: u8) -> Mark {
+pub fn sort(mark: u8) -> Mark {
     match mark {
         0 => Mark::Zero,
         1 => Mark::One,
@@ -120,7 +120,7 @@ pub fn cylinder_carry(before: u8, after: u8) {
 // ---------------------------------------------------------------- the number of bad sectors
 
 /// Those of the points that are met.
-fn hit_all<T, const K: usize>(point: impl Fn(T) -> Point, met: [(T, bool); K]) {
+pub fn hit_all<T, const K: usize>(point: impl Fn(T) -> Point, met: [(T, bool); K]) {
     for (what, _) in met.into_iter().filter(|(_, met)| *met) {
         hit(point(what));
     }

@@ -4,6 +4,7 @@ use crate::card::{Half, Phase, Touch};
 use crate::commands::Row;
 use crate::cover::{self, By};
 use crate::points::*;
+use crate::run_cover;
 
 struct Group {
     title: &'static str,
@@ -11,18 +12,18 @@ struct Group {
 }
 
 /// A row: the point, what is said of it, and who has to reach it.
-struct Reached {
+pub struct Reached {
     point: Point,
     says: String,
     by: By,
 }
 
-fn row(point: Point, says: impl Into<String>, by: By) -> Reached {
+pub fn row(point: Point, says: impl Into<String>, by: By) -> Reached {
     Reached { point, says: says.into(), by }
 }
 
 /// Who has to reach a point: trials, where they alone can.
-fn by(trials_alone: bool) -> By {
+pub fn by(trials_alone: bool) -> By {
     if trials_alone {
         By::Trials
     } else {
@@ -49,6 +50,11 @@ fn groups() -> Vec<Group> {
         group("Command writes by opcode", opcodes()),
         group("Commands that drop a transfer", drops()),
         group("Command ends", ends()),
+        group("Command ends in error after sectors were done", run_cover::midway()),
+        group("Runs of Verify and Erase, by the sectors that remain", run_cover::lengths()),
+        group("Bad starts of runs longer than the card", run_cover::bad_starts()),
+        group("Marks in runs past the end, by the first that is not 0", run_cover::past_marks()),
+        group("Runs past the end", run_cover::past_states()),
         group("Codes told by 03H", codes()),
         group("Identify", by_sessions(Identity::TABLE, Point::Identify)),
         group("Identify's integrity byte", integrity_bytes()),
@@ -104,7 +110,7 @@ fn opcodes() -> Vec<Reached> {
     (0..=255).map(|i| row(Point::Opcode(i), format!("{i:02X}"), By::Sessions)).collect()
 }
 
-const PHASES: [(Phase, &str); 2] = [(Phase::In, "in data in"), (Phase::Out, "in data out")];
+pub const PHASES: [(Phase, &str); 2] = [(Phase::In, "in data in"), (Phase::Out, "in data out")];
 
 fn drops() -> Vec<Reached> {
     let mut rows = Vec::new();
@@ -136,7 +142,7 @@ fn ends() -> Vec<Reached> {
 }
 
 /// Is there such an end at all?
-fn can_end(command: Row, ending: Ending, lba: bool) -> bool {
+pub fn can_end(command: Row, ending: Ending, lba: bool) -> bool {
     let addressed = command.addressed();
     match ending {
         Ending::Good => (addressed || !lba) && command != Row::Other,
@@ -194,8 +200,7 @@ fn runs() -> Vec<Reached> {
     let mut rows = Vec::new();
     for (command, name) in STORING {
         for &(ending, says) in Ending::TABLE {
-            // The sector after a good one has a good head and a good sector number.
-            if can_end(command, ending, true) {
+            if ending == Ending::Good || run_cover::stops(command, ending) {
                 rows.push(row(Point::Run(command, ending), format!("{name} {says}"), By::Trials));
             }
         }

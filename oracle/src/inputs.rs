@@ -55,6 +55,15 @@ pub enum Group {
     BadOnTheWay = 41,
     BadWhole = 42,
     BadMixed = 43,
+    Runs = 44,
+    RunData = 45,
+    RunWanderings = 46,
+    RunCounts = 47,
+    RunMarks = 48,
+    RunEveryMark = 49,
+    RunFields = 50,
+    RunLines = 51,
+    RunTrialWanderings = 52,
 }
 
 impl Group {

@@ -1,6 +1,7 @@
 //! An independent program for the card of document 01: it plays sessions and trials, makes inputs from
 //! a seed, and compares other programs with itself.
 
+mod addresses;
 mod bad_sector_inputs;
 mod broken_inputs;
 mod card;
@@ -18,6 +19,11 @@ mod names;
 mod points;
 mod registers;
 mod rng;
+mod run_cover;
+mod run_selftest;
+mod run_session_inputs;
+mod run_trial_inputs;
+mod runs;
 mod selftest;
 mod session_inputs;
 mod session_player;

@@ -3,6 +3,7 @@
 use crate::card::{Half, Phase, Touch};
 use crate::commands::Row;
 use crate::names::named;
+use crate::run_cover::{Length, Marked};
 
 /// One point. Each group of the table has its own sort.
 #[derive(Clone, Copy, PartialEq, Eq, Hash, Debug)]
@@ -13,6 +14,18 @@ pub enum Point {
     Drop(Row, Phase),
     /// A command's end; in LBA, if it has an address.
     End(Row, Ending, bool),
+    /// A sector command's end in error after sectors were done; in LBA, or not.
+    Midway(Row, Ending, bool),
+    /// A run of Verify or Erase from a good start; in LBA, or not.
+    Length(Row, Length, bool),
+    /// A bad start of a run longer than the card; in LBA, or not.
+    BadStart(Row, Ending, bool),
+    /// The first mark that is not 0 in a run past the end; in LBA, or not.
+    PastMark(Row, Marked, Mark, bool),
+    /// A run past the end while a transfer of this phase runs.
+    PastDrop(Row, Phase),
+    /// The line at a run past the end; true, if it is masked.
+    PastLine(Row, bool),
     /// This code told by 03H.
     Sense(u8),
     Identify(Identity),
@@ -203,6 +216,7 @@ named! {
         DroppedBySreset: "write dropped by SRESET",
         DroppedByHold: "write dropped by a hold",
         Unreadable: "UNC",
+        ErasePast: "Erase past the end",
     }
 }
 

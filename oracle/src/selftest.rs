@@ -1,8 +1,9 @@
-//! 01's sample session, its thirteen samples, the old model's errors, Identify's integrity word and
-//! the number of bad sectors, checked on this program.
+//! 01's sample session, its thirteen samples, the old model's errors, Identify's integrity word, the
+//! number of bad sectors and (`run_selftest`) runs past the end, checked on this program.
 
 use crate::card::{Access, Geometry};
 use crate::host::{push_access, push_opening, Host, Style};
+use crate::run_selftest;
 use crate::session_player;
 use crate::trial_player;
 use crate::tuples::{self, Entry};
@@ -78,13 +79,13 @@ impl Talk {
     }
 }
 
-fn told(name: &str, good: bool) -> bool {
+pub fn told(name: &str, good: bool) -> bool {
     println!("{} {name}", if good { "good" } else { "BAD " });
     good
 }
 
 pub fn run() -> bool {
-    let checks = [
+    let mut checks = vec![
         sample_session(),
         ends(),
         chs_is_31(),
@@ -108,6 +109,7 @@ pub fn run() -> bool {
         sense_twice(),
         alternate_status(),
     ];
+    checks.extend(run_selftest::checks());
     let passed = checks.iter().filter(|&&c| c).count();
     println!("{passed} passed, {} failed", checks.len() - passed);
     passed == checks.len()
@@ -194,10 +196,11 @@ fn verify_all() -> bool {
     let mut t = Talk::new(3);
     t.lba(0, 0);
     t.put(7, 0x40);
-    t.get(2, 224);
-    t.get(3, 32);
+    for (address, value) in (2..).zip([0, 0, 0, 0, 0xE0]) {
+        t.get(address, value);
+    }
     t.ended(0x51, 0x10, 0x2F);
-    t.check("7: Verify of 256 sectors")
+    t.check("7: Verify of 256 sectors, past the end")
 }
 
 fn new_geometry() -> bool {

@@ -4,10 +4,11 @@ use crate::broken_inputs;
 use crate::card::{Access, Geometry};
 use crate::host::{Host, Style, STYLES};
 use crate::inputs::{bring, geometry, Case, Group, State};
+use crate::run_session_inputs;
 use crate::stray::EDGES;
 
 /// Geometries of at most 32 sectors.
-const SMALL: [(u16, u16, u16); 12] = [
+pub const SMALL: [(u16, u16, u16); 12] = [
     (4, 2, 4),
     (1, 1, 1),
     (32, 1, 1),
@@ -34,17 +35,18 @@ pub fn sessions(seed: u64) -> Vec<Case> {
     addresses(seed, &mut all);
     parameters(seed, &mut all);
     identities(seed, &mut all);
+    run_session_inputs::runs(seed, &mut all);
     wanderings(seed, &mut all);
     broken_inputs::files(seed, &mut all);
     all
 }
 
-fn finish(name: String, host: Host, all: &mut Vec<Case>) {
+pub fn finish(name: String, host: Host, all: &mut Vec<Case>) {
     all.push(Case::new(name, host.out));
 }
 
 /// A host in one of the five maps; 4 is True IDE.
-fn host_in(map: u8, g: Geometry, seed: u64) -> Host {
+pub fn host_in(map: u8, g: Geometry, seed: u64) -> Host {
     let mut host = Host::session(seed, g, (map == 4) as u16);
     host.go_to(map);
     host

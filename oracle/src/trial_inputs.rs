@@ -6,6 +6,7 @@ use crate::changed_mark_inputs;
 use crate::field_inputs;
 use crate::host::{Host, Style};
 use crate::inputs::{geometry, Case, Group};
+use crate::run_trial_inputs;
 use crate::trial_kinds as kinds;
 use crate::tuple_inputs;
 
@@ -40,6 +41,7 @@ pub fn trials(seed: u64) -> Vec<Case> {
     identities(seed, &mut all);
     bad_sector_inputs::bad_sectors(seed, &mut all);
     changed_mark_inputs::changed_marks(seed, &mut all);
+    run_trial_inputs::runs(seed, &mut all);
     wanderings(seed, &mut all);
     field_inputs::breaks(seed, &mut all);
     field_inputs::made_up(seed, &mut all);
@@ -329,7 +331,7 @@ pub fn open_over_marks(host: &mut Host) {
 }
 
 /// Sets some marks, near the end and anywhere, and fills a sector.
-fn sprinkle(host: &mut Host) {
+pub fn sprinkle(host: &mut Host) {
     let n = host.marks.len();
     for _ in 0..host.rng.below(4) {
         let near = n - 1 - host.rng.below(n.min(4));

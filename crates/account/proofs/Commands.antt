@@ -6,7 +6,6 @@ use mathlib.Core.List.{List}
 use lib.Dec.{ltb, eqb}
 use lib.ListN.{length}
 use Rattle.ground.specs.Choice.{pick}
-use Rattle.geometry.specs.Address.{goodAt}
 use Rattle.geometry.specs.declared.Geometry.{Geometry}
 use Rattle.geometry.specs.declared.Reshaped.{Reshaped}
 use Rattle.geometry.specs.Limits.{totalOf, currentFor}
@@ -20,19 +19,19 @@ use Rattle.transfers.specs.declared.Order.the-variants.{First}
 use Rattle.transfers.specs.declared.Way.{Way}
 use Rattle.transfers.specs.declared.Way.the-variants.{In, Out}
 use Rattle.transfers.specs.Steps.{readSector, askSector}
-use Rattle.commands.specs.Sweeps.{verifyFrom, eraseFrom}
+use Rattle.commands.specs.Sweeps.{verifyRun, eraseRun}
 use Rattle.commands.specs.Table.{countOf, reshapedEnded}
 use Rattle.account.specs.Numbers.{codeGeometry}
 use Rattle.account.specs.Plain.{sectorsOf, withCurrent, Well, Aborted, ends, Account, silent}
 use Rattle.account.specs.Addressed.{At}
 use Rattle.account.specs.Course.{courseOf}
-use Rattle.account.specs.Sweeps.{readSectors, writeSectors, verifySectors, eraseSectors}
+use Rattle.account.specs.Sweeps.{readSectors, writeSectors, wholeRun, verifySectors, eraseSectors}
 use Rattle.account.specs.Table.{asked, first, fromFirst, reads, writes, verifies, erases, shaped, setsGeometry, account}
 use Rattle.account.specs.Host.{plainOf, plainIn}
 use Rattle.account.specs.Notes.{None, noNotes}
 use Rattle.account.specs.Claim.{AllBytes}
 use Rattle.account.proofs.Addressed.{asAddressed, good-at, addressed-is}
-use Rattle.account.proofs.Seats.{Shaped}
+use Rattle.account.proofs.Seats.{Shaped, courseIn, goodOn, seat-good}
 use Rattle.account.proofs.Stored.{LentFor}
 use Rattle.account.proofs.Settled.{Settled}
 use Rattle.account.proofs.Rest.{ByteWise, restAt, rest, Ground, Rel, Between}
@@ -67,8 +66,8 @@ settled-ground way s k b t x y z w h g l q = rw (h .1, h .2, h .3, h .4) (g .0, 
 pub first-is : (m : Machine) → Shaped (m .state .made) (m .state .current) → first (plainOf m) ≡ asAddressed (locatedIn (m .state))
 first-is m h = rw (h .1) (addressed-is (m .state .registers .address) (m .state .current) (sectorsOf (m .state .made .default)))
 
-pub first-at : (m : Machine) (i : ℕ) → Shaped (m .state .made) (m .state .current) → first (plainOf m) ≡ At i → locatedIn (m .state) ≡ goodAt i
-first-at m i h e = good-at (locatedIn (m .state)) i (sym (first-is m h) ∙ e)
+pub first-at : (m : Machine) (i : ℕ) → Shaped (m .state .made) (m .state .current) → first (plainOf m) ≡ At i → locatedIn (m .state) ≡ goodOn (courseIn (m .state)) i
+first-at m i h e = good-at (locatedIn (m .state)) (courseIn (m .state) .room) i (sym (first-is m h) ∙ e) (λ p f. seat-good (m .state) p h f)
 
 count-is : (s : State) → countOf s ≡ asked (s .registers .count)
 unfolding countOf asked
@@ -100,22 +99,22 @@ write-all-between m f g h =
     (asked-elim (λ (n : ℕ). Between Out (withCore (askSector n First (m .state)) m) None) (m .state .registers .count) (h .0)
     (λ n e. write-begins-between n m (h .1) e (locatedIn (m .state)) f g refl))
 
-pub verify-all : (m : Machine) → Ground In m → Eight (m .state) → verifies (plainOf m) ≡ plainIn (verifyFrom (countOf (m .state)) (m .state) (m .marks) .state) (m .buffer) (m .store) (m .marks)
+pub verify-all : (m : Machine) → Ground In m → Eight (m .state) → verifies (plainOf m) ≡ plainIn (verifyRun (countOf (m .state)) (m .state) (m .marks) .state) (m .buffer) (m .store) (m .marks)
 verify-all m g h =
     rw (count-is (m .state), first-is m (g .0))
-    (asked-elim (λ (n : ℕ). fromFirst (asAddressed (locatedIn (m .state))) (λ q. q) (λ i. verifySectors (courseOf (plainOf m)) i n (plainOf m)) (plainOf m)
-    ≡ plainIn (verifyFrom n (m .state) (m .marks) .state) (m .buffer) (m .store) (m .marks))
+    (asked-elim (λ (n : ℕ). fromFirst (asAddressed (locatedIn (m .state))) (λ q. q) (λ i. wholeRun (courseOf (plainOf m)) i n (plainOf m) (verifySectors (courseOf (plainOf m)) i n (plainOf m))) (plainOf m)
+    ≡ plainIn (verifyRun n (m .state) (m .marks) .state) (m .buffer) (m .store) (m .marks))
     (m .state .registers .count) (h .0)
     (λ n e. sym (verify-begins n m (h .1) e (locatedIn (m .state)) g refl)))
 
 pub erase-all : (m : Machine) → Ground In m → Eight (m .state) →
     erases (plainOf m)
-    ≡ plainIn (eraseFrom (countOf (m .state)) (m .state) (m .store) (m .marks) .outcome .state) (m .buffer)
-    (eraseFrom (countOf (m .state)) (m .state) (m .store) (m .marks) .next .store) (eraseFrom (countOf (m .state)) (m .state) (m .store) (m .marks) .next .marks)
+    ≡ plainIn (eraseRun (countOf (m .state)) (m .state) (m .store) (m .marks) .outcome .state) (m .buffer)
+    (eraseRun (countOf (m .state)) (m .state) (m .store) (m .marks) .next .store) (eraseRun (countOf (m .state)) (m .state) (m .store) (m .marks) .next .marks)
 erase-all m g h =
     rw (count-is (m .state), first-is m (g .0))
-    (asked-elim (λ (n : ℕ). fromFirst (asAddressed (locatedIn (m .state))) (λ q. q) (λ i. eraseSectors (courseOf (plainOf m)) i n (plainOf m)) (plainOf m)
-    ≡ plainIn (eraseFrom n (m .state) (m .store) (m .marks) .outcome .state) (m .buffer) (eraseFrom n (m .state) (m .store) (m .marks) .next .store) (eraseFrom n (m .state) (m .store) (m .marks) .next .marks))
+    (asked-elim (λ (n : ℕ). fromFirst (asAddressed (locatedIn (m .state))) (λ q. q) (λ i. wholeRun (courseOf (plainOf m)) i n (plainOf m) (eraseSectors (courseOf (plainOf m)) i n (plainOf m))) (plainOf m)
+    ≡ plainIn (eraseRun n (m .state) (m .store) (m .marks) .outcome .state) (m .buffer) (eraseRun n (m .state) (m .store) (m .marks) .next .store) (eraseRun n (m .state) (m .store) (m .marks) .next .marks))
     (m .state .registers .count) (h .0)
     (λ n e. sym (erase-begins n m (h .1) e (locatedIn (m .state)) g refl)))
 

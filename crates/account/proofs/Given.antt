@@ -16,7 +16,7 @@ use Rattle.commands.specs.declared.Command.the-variants.{Read, Write, Verify, E
 use Rattle.transfers.specs.declared.End.{End}
 use Rattle.transfers.specs.declared.Way.the-variants.{In, Out}
 use Rattle.transfers.specs.Steps.{idleWith}
-use Rattle.commands.specs.Sweeps.{verifyFrom, eraseFrom}
+use Rattle.commands.specs.Sweeps.{verifyRun, eraseRun}
 use Rattle.commands.specs.Table.{commandOf, started, countOf, factsOf, reshapedEnded, soughtEnd, obeyed}
 use Rattle.account.specs.Plain.{withBuffer, starts, ends, Finish, Well, silent, moving}
 use Rattle.account.specs.CommandRows.{CommandRow, rowOf}
@@ -45,13 +45,13 @@ begins Write m h =
     record { account = λ d. write-all x d (outward m (h .0)) (h .1); ground = z .0; waits = z .1 }
 begins Verify m h =
     let x = idleWith (started (m .state)) m in
-    let k = verifyFrom (countOf (x .state)) (x .state) (m .marks) in
+    let k = verifyRun (countOf (x .state)) (x .state) (m .marks) in
     let z = verify-settled (countOf (x .state)) (x .state) (m .marks) in
     over _ In k (m .buffer) (m .store) (m .marks) (z .0) (settled-ground In (x .state) k (m .buffer) (m .store) (m .marks) (m .buffer) (m .store) (m .marks) z (h .0) (h .0 .1) (h .0 .2))
     (λ d. ap silent (verify-all x (h .0) (h .1)))
 begins Erase m h =
     let x = idleWith (started (m .state)) m in
-    let k = eraseFrom (countOf (x .state)) (x .state) (m .store) (m .marks) in
+    let k = eraseRun (countOf (x .state)) (x .state) (m .store) (m .marks) in
     let z = erase-settled (countOf (x .state)) (totalOf (m .state .made .default)) (x .state) (m .store) (m .marks) (h .0 .1) in
     over _ Out (k .outcome) (m .buffer) (k .next .store) (k .next .marks) (z .0 .0)
     (settled-ground Out (x .state) (k .outcome) (m .buffer) (m .store) (m .marks) (m .buffer) (k .next .store) (k .next .marks) (z .0) (outward m (h .0)) (z .1) tt)

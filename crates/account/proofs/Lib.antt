@@ -30,3 +30,4 @@ pub mod Corollaries
 pub mod Intact
 pub mod Elsewhere
 pub mod OnlyNamed
+pub mod Fits

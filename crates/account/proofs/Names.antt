@@ -13,11 +13,11 @@ use Rattle.geometry.specs.declared.Geometry.{Geometry}
 use Rattle.geometry.specs.declared.Address.{Address}
 use Rattle.geometry.specs.declared.Spot.{Spot}
 use Rattle.geometry.specs.declared.Located.{Located}
-use Rattle.geometry.specs.Limits.{currentFor}
-use Rattle.geometry.specs.Address.{byLba, headOf, cylinderOf, lbaOf, chsIndex, locateLba, locateChs, locate}
+use Rattle.geometry.specs.Limits.{capacityOf, currentFor}
+use Rattle.geometry.specs.Address.{byLba, headOf, cylinderOf, lbaOf, chsIndex, roomOf, locate}
 use Rattle.geometry.specs.Next.{atLba, atChs, nextChs, nextOf}
 use Rattle.geometry.proofs.LimitFacts.{Small, current-small}
-use Rattle.geometry.proofs.Inside.{Chs, chs-facts, lba-facts}
+use Rattle.geometry.proofs.Inside.{Chs, chs-facts, lba-facts, locateBy}
 use Rattle.geometry.proofs.Kept.{Bytes}
 use Rattle.geometry.proofs.Bounds.{row-more}
 use Rattle.account.specs.Course.{lbaNamed, chsNamed}
@@ -69,15 +69,15 @@ by b top g i = pick b (lbaNamed top i) (chsNamed top g i)
 
 self-by : (b : Bool) (a : Address) (g : Geometry) (n : ℕ) (p : Spot) →
     Bytes a →
-    pick b (locateLba (lbaOf a) n) (locateChs (cylinderOf a) (headOf a) (a .sector) g) ≡ Located.Good p →
+    locateBy b a g n ≡ Located.Good p →
     by b (a .head / 16) g (p .index) ≡ a
 self-by true a g n p y e = rw (lba-facts (lbaOf a) n p e .1) (lba-self a y)
 self-by false a g n p y e =
-    let f = chs-facts (cylinderOf a) (headOf a) (a .sector) g p e in
+    let f = chs-facts (cylinderOf a) (headOf a) (a .sector) g (capacityOf g) p e in
     chs-spelled (a .head / 16) g (p .index) (cylinderOf a) (headOf a) (a .sector) (f .0 .0) (f .0 .1) (f .0 .2) (f .1) ∙ chs-self a y
 
 pub named-self : (a : Address) (g : Geometry) (n : ℕ) (p : Spot) → Bytes a → locate a g n ≡ Located.Good p → by (byLba a) (a .head / 16) g (p .index) ≡ a
-unfolding locate
+unfolding locate roomOf
 named-self a g n p y e = self-by (byLba a) a g n p y e
 
 -- a cylinder, head and sector as the next address has them
@@ -126,11 +126,11 @@ next-chs a g i l f q =
 next-by : (b : Bool) (a : Address) (g : Geometry) (n : ℕ) (p : Spot) →
     currentFor g n ≡ true →
     n ≤ 65535 →
-    pick b (locateLba (lbaOf a) n) (locateChs (cylinderOf a) (headOf a) (a .sector) g) ≡ Located.Good p →
+    locateBy b a g n ≡ Located.Good p →
     pick b (atLba a (lbaOf a + 1)) (nextChs a g) ≡ by b (a .head / 16) g (p .index + 1)
 next-by true a g n p c m e = rw (lba-facts (lbaOf a) n p e .1)
 next-by false a g n p c m e =
-    let f = chs-facts (cylinderOf a) (headOf a) (a .sector) g p e in
+    let f = chs-facts (cylinderOf a) (headOf a) (a .sector) g (capacityOf g) p e in
     next-chs a g (p .index) (current-small g n c m) (f .0) (f .1)
 
 pub next-named : (a : Address) (g : Geometry) (n : ℕ) (p : Spot) →
@@ -138,5 +138,5 @@ pub next-named : (a : Address) (g : Geometry) (n : ℕ) (p : Spot) →
     n ≤ 65535 →
     locate a g n ≡ Located.Good p →
     nextOf a g ≡ by (byLba a) (a .head / 16) g (p .index + 1)
-unfolding locate nextOf
+unfolding locate nextOf roomOf
 next-named a g n p c m e = next-by (byLba a) a g n p c m e

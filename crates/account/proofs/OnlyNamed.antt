@@ -3,7 +3,9 @@ use Prim.Native.Nat.{ℕ, _+_, _*_, _≤_, _<_}
 use mathlib.Core.Path.{_≡_, refl, sym, ap, _∙_, subst}
 use mathlib.Core.List.{List, _++_}
 use native.Mathlib.Omega.{arith}
+use lib.Dec.{leb}
 use lib.ListN.{length, replicate, length-append, length-replicate}
+use Rattle.ground.proofs.Picks.{pick-elim}
 use Rattle.geometry.specs.Limits.{totalOf}
 use Rattle.registers.specs.Machine.{Machine}
 use Rattle.transfers.specs.declared.Way.the-variants.{In}
@@ -13,12 +15,12 @@ use Rattle.account.specs.Plain.{Plain, starts, WriteFault, Account, sile
 use Rattle.account.specs.Addressed.{Addressed, At, Bad}
 use Rattle.account.specs.CommandRows.{CommandRow, Writes, Erases, rowOf}
 use Rattle.account.specs.Course.{courseOf}
-use Rattle.account.specs.Sweeps.{Sweep, tests, unwritable, writeSweep, writeSectors, eraseSectors}
+use Rattle.account.specs.Sweeps.{Sweep, tests, unwritable, writeSweep, writeSectors, wholeRun, eraseSectors}
 use Rattle.account.specs.Table.{asked, first, fromFirst, account}
 use Rattle.account.specs.Host.{plainOf, Hosted, Moves}
 use Rattle.account.specs.Claim.{Agrees}
 use Rattle.account.specs.Follows.{Able, AcceptedCommand, after, SameOutside, OnlyNamed}
-use Rattle.account.proofs.Seats.{courseIn, seat-room, room-total}
+use Rattle.account.proofs.Seats.{courseIn, spotOn, seat-room, room-total}
 use Rattle.account.proofs.Rest.{Ground}
 use Rattle.account.proofs.Commands.{first-at}
 use Rattle.account.proofs.Accepted.{given, able}
@@ -29,6 +31,9 @@ use Rattle.account.proofs.Elsewhere.{replaced-same, blanked-same, clear
 -- fewer sectors than those named
 wider : (s t u : List ℕ) (low high more : ℕ) → high ≤ more → u ≡ t → SameOutside low high s t → SameOutside low more s u
 wider s t u low high more h e z = rw e (z .0, λ k y. z .1 k (omega arith), z .2)
+
+all-same : (low high : ℕ) (s : List ℕ) → SameOutside low high s s
+all-same low high s = (λ k h. refl, λ k h. refl, refl)
 
 module _ (n total : ℕ) (o : Plain) (s : length (o .store) ≡ 512 * total) (r : courseOf o .room ≤ total) where
   -- as the command starts
@@ -53,22 +58,27 @@ module _ (n total : ℕ) (o : Plain) (s : length (o .store) ≡ 512 * total) (r 
       )
   write-named (Bad code) d h = (refl, refl)
 
-  erase-named : (l : Addressed) → ((i : ℕ) → l ≡ At i → i ≤ courseOf p .room) → OnlyNamed l n o (fromFirst l (λ q. q) (λ i. eraseSectors (courseOf p) i n p) p)
+  erased-inside : (i : ℕ) → i ≤ courseOf p .room → OnlyNamed (At i) n o (eraseSectors (courseOf p) i n p)
   unfolding eraseSectors
-  erase-named (At i) h =
+  erased-inside i h =
       let k = sweepOf i in
-      let x = sweep-inside unwritable WriteFault (courseOf p) (p .marks) n i (h i refl) in
+      let x = sweep-inside unwritable WriteFault (courseOf p) (p .marks) n i h in
       let y = sweep-most (tests unwritable WriteFault (courseOf p) (p .marks)) n i in
       let e = ends-store (k .finish) _ in (
         wider (p .store) _ _ (512 * i) (512 * (i + k .done)) (512 * (i + n)) (omega arith) (e .0)
             (blanked-same (k .done) i total (p .store) (omega arith) s),
         wider (p .marks) _ _ i (i + k .done) (i + n) (omega arith) (e .1) (cleared-same (k .done) i (p .marks)),
       )
+
+  erase-named : (l : Addressed) → ((i : ℕ) → l ≡ At i → i ≤ courseOf p .room) →
+      OnlyNamed l n o (fromFirst l (λ q. q) (λ i. wholeRun (courseOf p) i n p (eraseSectors (courseOf p) i n p)) p)
+  erase-named (At i) h =
+      pick-elim (OnlyNamed (At i) n o) (leb (i + n) (courseOf p .room)) _ _ (λ e. erased-inside i (h i refl)) (λ e. (all-same (512 * i) (512 * (i + n)) (p .store), all-same i (i + n) (p .marks)))
   erase-named (Bad code) h = (refl, refl)
 
 -- the first index is one of the room, and the room is inside the store
 first-inside : (m : Machine) (i : ℕ) → Ground In m → first (plainOf m) ≡ At i → i < courseIn (m .state) .room
-first-inside m i g e = seat-room (m .state) i (g .0) (first-at m i (g .0) e)
+first-inside m i g e = seat-room (m .state) (spotOn (courseIn (m .state)) i) (g .0) (first-at m i (g .0) e) .0
 
 writes-named : (m : Machine) (done : List ℕ) → Ground In m →
     let n = asked (m .state .registers .count) in

@@ -10,7 +10,6 @@ use lib.ListN.{length, take, drop}
 use lib.Seq.{getD-drop}
 use borrow.Author.Tests.{ltb-true, ne-eqb}
 use Rattle.ground.specs.Choice.{pick}
-use Rattle.geometry.specs.Address.{goodAt}
 use Rattle.geometry.specs.Limits.{totalOf}
 use Rattle.registers.specs.declared.Load.{Load}
 use Rattle.registers.specs.declared.Load.the-variants.{Sectors, Buffer}
@@ -31,7 +30,7 @@ use Rattle.account.specs.WholeSectors.{sectorAt}
 use Rattle.account.specs.Host.{plainOf}
 use Rattle.account.specs.Notes.{None, Waiting}
 use Rattle.account.specs.Claim.{AllBytes}
-use Rattle.account.proofs.Seats.{Seated, Where, courseIn, onward, done-on, seat-next, room-total}
+use Rattle.account.proofs.Seats.{Seated, Where, courseIn, onward, done-on, seat-next, room-total, goodOn}
 use Rattle.account.proofs.Tried.{read-tested}
 use Rattle.account.proofs.Verifying.{where-good}
 use Rattle.account.proofs.Rest.{bare, here, Ground, Running, Between, Loaded, loaded-of}
@@ -63,7 +62,7 @@ read-between n c i m g q w =
     (g, (omega arith, sector-length (m .store) i y, sector-bytes i (m .store) (g .2), tt, loaded-of c i n (m .state) q (where-good c i (m .state) w r))))
     (λ f z. (g, refl))
 
-next-between : (n : ℕ) (c : Course) (i : ℕ) (m : Machine) → Ground In m → Seated c i (suc n) (m .state) → locatedIn (m .state) ≡ goodAt i → Between In (nextRead n m) None
+next-between : (n : ℕ) (c : Course) (i : ℕ) (m : Machine) → Ground In m → Seated c i (suc n) (m .state) → locatedIn (m .state) ≡ goodOn c i → Between In (nextRead n m) None
 unfolding nextRead
 next-between zero c i m g q e = unfold sectorDone in (g, refl)
 next-between (suc n) c i m g q e =

@@ -10,7 +10,6 @@ use lib.ListN.{length, drop, getD, drop-of-length-le}
 use Rattle.ground.proofs.Lists.{drop-two}
 use borrow.Author.Tests.{ltb-true, ltb-false, lt-ltb, ne-eqb}
 use Rattle.ground.specs.Choice.{pick}
-use Rattle.geometry.specs.Address.{goodAt}
 use Rattle.geometry.specs.Limits.{totalOf}
 use Rattle.sectors.specs.Sectors.{sectorOf, bufferRead}
 use Rattle.registers.specs.declared.Load.{Load}
@@ -29,7 +28,7 @@ use Rattle.account.specs.Course.{Course}
 use Rattle.account.specs.Sweeps.{tried, sweepFrom, tests, unreadable, readDone, readSectors}
 use Rattle.account.specs.WholeSectors.{sectorsFrom, lastSector, sectorAt}
 use Rattle.account.specs.Host.{plainOf}
-use Rattle.account.proofs.Seats.{Shaped, Seated, Where, courseIn, onward, done-on, seat-next, room-total}
+use Rattle.account.proofs.Seats.{Shaped, Seated, Where, courseIn, onward, done-on, seat-next, room-total, goodOn}
 use Rattle.account.proofs.Tried.{stops-sweep, stops-ends, read-tested}
 use Rattle.account.proofs.Stored.{LentFor}
 use Rattle.account.proofs.Verifying.{where-good, seated-last}
@@ -59,7 +58,7 @@ read-rest n c i m d h l q w =
 
 -- the last byte of sector i has gone
 next-rest : (n : ℕ) (c : Course) (i : ℕ) (m : Machine) (d : List ℕ) → Shaped (m .state .made) (m .state .current) → LentFor (totalOf (m .state .made .default)) (m .store) (m .marks) →
-    Seated c i (suc n) (m .state) → locatedIn (m .state) ≡ goodAt i → rest (nextRead n m) d ≡ readSectors c (i + 1) n (plainOf m)
+    Seated c i (suc n) (m .state) → locatedIn (m .state) ≡ goodOn c i → rest (nextRead n m) d ≡ readSectors c (i + 1) n (plainOf m)
 unfolding nextRead
 next-rest zero c i m d h l q e = unfold sectorDone restAt readSectors sweepFrom sectorsFrom lastSector in rw (seated-last c i 1 (m .state) q)
 next-rest (suc n) c i m d h l q e =

@@ -1,12 +1,12 @@
 -- The plain account of the rest: what a card in the middle of a transfer still has to move, and how it will end. Each access keeps it.
 use Prim.Native.Nat.{ℕ, suc, _+_, _-_, _*_, _%_, _≤_, _<_}
 use mathlib.Core.Bool.{Bool, true, false}
-use mathlib.Core.Path.{_≡_, refl, ap, _∙_}
+use mathlib.Core.Path.{_≡_, refl, sym, ap, _∙_}
 use mathlib.Core.List.{List, [], _∷_, _++_, append-assoc}
 use native.Mathlib.Omega.{arith}
 use lib.ListN.{length, take, drop, set, getD}
 use Rattle.geometry.specs.declared.Located.{Located}
-use Rattle.geometry.specs.Address.{indexOf, locate, goodAt}
+use Rattle.geometry.specs.Address.{indexOf, locate}
 use Rattle.geometry.specs.Limits.{totalOf}
 use Rattle.registers.specs.declared.Half.{Half}
 use Rattle.registers.specs.declared.Load.{Load}
@@ -26,7 +26,7 @@ use Rattle.account.specs.WholeSectors.{putSector, badAt}
 use Rattle.account.specs.Host.{plainOf, plainIn}
 use Rattle.account.specs.Notes.{Waiting, None, LowByte, HighByte, Notes}
 use Rattle.account.specs.Claim.{AllBytes}
-use Rattle.account.proofs.Seats.{Shaped, Seated}
+use Rattle.account.proofs.Seats.{Shaped, Seated, goodOn}
 use Rattle.account.proofs.Stored.{LentFor}
 
 -- the sector at hand
@@ -91,7 +91,7 @@ bare p = withBuffer [] (withStore [] [] 0 p)
 abbrev pub Loaded : Load → Plain → Type 0
 Loaded Buffer p = Unit {0}
 Loaded (Sectors left) p =
-    (located p ≡ goodAt (indexOf (located p))) × (1 ≤ left) × (p .registers .count ≡ left % 256) × (p .registers .address ≡ named (courseOf p) (indexOf (located p)))
+    (located p ≡ goodOn (courseOf p) (indexOf (located p))) × (1 ≤ left) × (p .registers .count ≡ left % 256) × (p .registers .address ≡ named (courseOf p) (indexOf (located p)))
 
 -- the geometries, what is lent, and no reset
 abbrev pub Ground : Way → Machine → Type 0
@@ -134,8 +134,8 @@ sweep-status c r v p = ends-status (r .finish) v _
 abbrev pub Between : Way → Machine → Waiting → Type 0
 Between way m q = Ground way m × Waits way (m .phase) (plainOf m) q
 
-pub loaded-of : (c : Course) (i n : ℕ) (s : State) → Seated c i (suc n) s → locatedIn s ≡ goodAt i → Loaded (Sectors (suc n)) (plainIn s [] [] [])
-loaded-of c i n s q e = (rw e refl, omega arith, q .0, rw (q .2, e) (q .1))
+pub loaded-of : (c : Course) (i n : ℕ) (s : State) → Seated c i (suc n) s → locatedIn s ≡ goodOn c i → Loaded (Sectors (suc n)) (plainIn s [] [] [])
+loaded-of c i n s q e = (rw e (ap (λ (d : Course). goodOn d i) (sym (q .2))), omega arith, q .0, rw (q .2, e) (q .1))
 
 abbrev pub notes : List ℕ → Waiting → Notes
 notes l w = record { done = l; waiting = w }

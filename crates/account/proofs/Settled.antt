@@ -13,7 +13,7 @@ use Rattle.registers.specs.declared.Core.{Core}
 use Rattle.registers.specs.State.{withCount, withAddress}
 use Rattle.geometry.specs.Next.{nextOf}
 use Rattle.transfers.specs.Steps.{sectorDone}
-use Rattle.commands.specs.Sweeps.{verifyFrom, eraseFrom, allFF}
+use Rattle.commands.specs.Sweeps.{verifyRun, eraseRun, allFF}
 use Rattle.kept.proofs.Steps.{sector-stored}
 use Rattle.kept.proofs.Sweeps.{verify-elim, erase-elim, all-FF-length}
 use Rattle.account.proofs.Stored.{LentFor}
@@ -36,13 +36,13 @@ done-same n s = done-by (eqb n 0) n s
 done-keeps : (s : State) (n : ℕ) (x : State) → SameSetup s x → SameSetup s (sectorDone n x)
 done-keeps s n x h = let p = done-same n x in (p .0 ∙ h .0, p .1 ∙ h .1, p .2 ∙ h .2, p .3 ∙ h .3)
 
-pub verify-settled : (n : ℕ) (s : State) (marks : List ℕ) → Settled s (verifyFrom n s marks)
+pub verify-settled : (n : ℕ) (s : State) (marks : List ℕ) → Settled s (verifyRun n s marks)
 verify-settled n s marks = verify-elim (SameSetup s) (Settled s) (done-keeps s) (λ e x h. (refl, h .0, h .1, h .2, h .3)) n s marks (refl, refl, refl, refl)
 
 -- ---- Erase
 
 pub erase-settled : (r n : ℕ) (s : State) (store marks : List ℕ) → LentFor n store marks →
-    Settled s (eraseFrom r s store marks .outcome) × LentFor n (eraseFrom r s store marks .next .store) (eraseFrom r s store marks .next .marks)
+    Settled s (eraseRun r s store marks .outcome) × LentFor n (eraseRun r s store marks .next .store) (eraseRun r s store marks .next .marks)
 erase-settled r n s store marks l =
     erase-elim (λ (x : State) (st mk : List ℕ). SameSetup s x × LentFor n st mk) (λ (k : Left Core StoreMarks). Settled s (k .outcome) × LentFor n (k .next .store) (k .next .marks))
     (λ x st mk h. let w = sector-stored x allFF st mk all-FF-length in (h .0, (w .0 ∙ h .1 .0, w .1 ∙ h .1 .1)))
@@ -51,6 +51,6 @@ erase-settled r n s store marks l =
     r s store marks ((refl, refl, refl, refl), l)
 
 -- no transfer runs after Erase, whatever the lengths
-pub erase-idle : (r : ℕ) (s : State) (store marks : List ℕ) → eraseFrom r s store marks .outcome .phase ≡ Idle
+pub erase-idle : (r : ℕ) (s : State) (store marks : List ℕ) → eraseRun r s store marks .outcome .phase ≡ Idle
 erase-idle r s store marks =
     erase-elim (λ (x : State) (st mk : List ℕ). Unit {0}) (λ (k : Left Core StoreMarks). k .outcome .phase ≡ Idle) (λ x st mk u. tt) (λ n x st mk u. tt) (λ e x st mk u. refl) r s store marks tt

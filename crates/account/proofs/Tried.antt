@@ -7,7 +7,6 @@ use lib.Dec.{ltb, eqb}
 use lib.ListN.{getD}
 use borrow.Author.Tests.{ltb-true}
 use Rattle.ground.specs.Choice.{pick}
-use Rattle.geometry.specs.Address.{spotAt, goodAt}
 use Rattle.geometry.specs.declared.Located.{Located}
 use Rattle.sectors.specs.Marks.{readable, writable}
 use Rattle.registers.specs.declared.State.{State}
@@ -23,7 +22,7 @@ use Rattle.account.specs.Plain.{Plain, Finish, Well, NotFound, Unreadabl
 use Rattle.account.specs.Course.{Course, named}
 use Rattle.account.specs.Sweeps.{Sweep, tried, stopped, tests, unreadable, unwritable, sweepEnds}
 use Rattle.account.specs.Host.{plainIn}
-use Rattle.account.proofs.Seats.{Seated, Where, pastEnd, place-seated}
+use Rattle.account.proofs.Seats.{Seated, Where, pastEnd, place-seated, spotOn, goodOn}
 
 -- an end of the machine in the account's words
 abbrev pub finishOf : End → Finish
@@ -31,6 +30,7 @@ finishOf End.Good = Well
 finishOf End.BadHeadOrSector = NotFound codeHeadOrSector
 finishOf End.BadCylinder = NotFound codeCylinderOrLba
 finishOf End.BadLba = NotFound codeCylinderOrLba
+finishOf End.PastEnd = NotFound codeCylinderOrLba
 finishOf End.Unreadable = Unreadable
 finishOf End.WriteFault = WriteFault
 finishOf End.BadGeometry = Aborted codeGeometry
@@ -41,6 +41,7 @@ ended-ends End.Good s b t k = refl
 ended-ends End.BadHeadOrSector s b t k = refl
 ended-ends End.BadCylinder s b t k = refl
 ended-ends End.BadLba s b t k = refl
+ended-ends End.PastEnd s b t k = refl
 ended-ends End.Unreadable s b t k = refl
 ended-ends End.WriteFault s b t k = refl
 ended-ends End.BadGeometry s b t k = refl
@@ -53,6 +54,7 @@ stops End.Good h c n i rest p = absurd (false≢true h)
 stops End.BadHeadOrSector h c n i rest p = (refl, refl)
 stops End.BadCylinder h c n i rest p = (refl, refl)
 stops End.BadLba h c n i rest p = (refl, refl)
+stops End.PastEnd h c n i rest p = (refl, refl)
 stops End.Unreadable h c n i rest p = (refl, refl)
 stops End.WriteFault h c n i rest p = (refl, refl)
 stops End.BadGeometry h c n i rest p = (refl, refl)
@@ -81,22 +83,22 @@ past-marked : (l : Bool) (allows : ℕ → Bool) (e : End) (marks : List ℕ) �
 past-marked true allows e marks = refl
 past-marked false allows e marks = refl
 
-marked : (u v : Bool) (i : ℕ) (e : End) (P : Tested → Finish → Type 0) → erring e ≡ true → v ≡ not u → P (Passes (spotAt i)) Well → ((f : End) → erring f ≡ true → P (Fails f) (finishOf f)) →
-    P (pick u (Passes (spotAt i)) (Fails e)) (pick v (finishOf e) Well)
-marked true true i e P h q x f = absurd (true≢false q)
-marked true false i e P h q x f = x
-marked false true i e P h q x f = f e h
-marked false false i e P h q x f = absurd (false≢true q)
+marked : (u v : Bool) (c : Course) (i : ℕ) (e : End) (P : Tested → Finish → Type 0) → erring e ≡ true → v ≡ not u → P (Passes (spotOn c i)) Well → ((f : End) → erring f ≡ true → P (Fails f) (finishOf f)) →
+    P (pick u (Passes (spotOn c i)) (Fails e)) (pick v (finishOf e) Well)
+marked true true c i e P h q x f = absurd (true≢false q)
+marked true false c i e P h q x f = x
+marked false true c i e P h q x f = f e h
+marked false false c i e P h q x f = absurd (false≢true q)
 
 module _ (allows forbids : ℕ → Bool) (e : End) (h : erring e ≡ true) (opposite : (m : ℕ) → forbids m ≡ not (allows m)) where
   placed : (b : Bool) (c : Course) (i : ℕ) (marks : List ℕ) (P : Tested → Finish → Type 0) → ltb i (c .room) ≡ b →
-      (i < c .room → P (Passes (spotAt i)) Well) → ((f : End) → erring f ≡ true → P (Fails f) (finishOf f)) →
-      P (markTested allows e (testedOf (pick b (goodAt i) (pastEnd c))) marks) (pick b (pick (forbids (getD marks i 0)) (finishOf e) Well) (NotFound codeCylinderOrLba))
-  placed true c i marks P q x f = marked (allows (getD marks i 0)) (forbids (getD marks i 0)) i e P h (opposite (getD marks i 0)) (x (ltb-true i (c .room) q)) f
+      (i < c .room → P (Passes (spotOn c i)) Well) → ((f : End) → erring f ≡ true → P (Fails f) (finishOf f)) →
+      P (markTested allows e (testedOf (pick b (goodOn c i) (pastEnd c))) marks) (pick b (pick (forbids (getD marks i 0)) (finishOf e) Well) (NotFound codeCylinderOrLba))
+  placed true c i marks P q x f = marked (allows (getD marks i 0)) (forbids (getD marks i 0)) c i e P h (opposite (getD marks i 0)) (x (ltb-true i (c .room) q)) f
   placed false c i marks P q x f = rw (past-marked (c .lba) allows e marks) (past-end (c .lba) P f)
 
   tested : (c : Course) (i : ℕ) (s : State) (marks : List ℕ) (P : Tested → Finish → Type 0) → Where c i s →
-      (i < c .room → P (Passes (spotAt i)) Well) → ((f : End) → erring f ≡ true → P (Fails f) (finishOf f)) →
+      (i < c .room → P (Passes (spotOn c i)) Well) → ((f : End) → erring f ≡ true → P (Fails f) (finishOf f)) →
       P (markTested allows e (addressTest s) marks) (tests forbids (finishOf e) c marks i)
   unfolding addressTest tests
   tested c i s marks P w x f =
@@ -120,14 +122,14 @@ unwrite-opposite m = go (eqb m 2)
 
 -- what holds of a sound sector and of each failed test, holds of a sector to be read
 pub read-tested : (c : Course) (i : ℕ) (s : State) (marks : List ℕ) (P : Tested → Finish → Type 0) → Where c i s →
-    (i < c .room → P (Passes (spotAt i)) Well) → ((f : End) → erring f ≡ true → P (Fails f) (finishOf f)) →
+    (i < c .room → P (Passes (spotOn c i)) Well) → ((f : End) → erring f ≡ true → P (Fails f) (finishOf f)) →
     P (sectorTest In s marks) (tests unreadable Unreadable c marks i)
 unfolding sectorTest
 read-tested c i s marks P w x f = tested readable unreadable End.Unreadable refl unread-opposite c i s marks P w x f
 
 -- and of a sector to be stored
 pub store-tested : (c : Course) (i : ℕ) (s : State) (marks : List ℕ) (P : Tested → Finish → Type 0) → Where c i s →
-    (i < c .room → P (Passes (spotAt i)) Well) → ((f : End) → erring f ≡ true → P (Fails f) (finishOf f)) →
+    (i < c .room → P (Passes (spotOn c i)) Well) → ((f : End) → erring f ≡ true → P (Fails f) (finishOf f)) →
     P (sectorTest Out s marks) (tests unwritable WriteFault c marks i)
 unfolding sectorTest
 store-tested c i s marks P w x f = tested writable unwritable End.WriteFault refl unwrite-opposite c i s marks P w x f

@@ -4,7 +4,6 @@ use mathlib.Core.Path.{_≡_, _∙_}
 use mathlib.Core.List.{List}
 use native.Mathlib.Omega.{arith}
 use borrow.Author.Tests.{lt-ltb}
-use Rattle.geometry.specs.Address.{goodAt}
 use Rattle.registers.specs.declared.State.{State}
 use Rattle.registers.specs.State.{locatedIn}
 use Rattle.transfers.specs.declared.Tested.{Tested}
@@ -14,11 +13,11 @@ use Rattle.account.specs.Plain.{Finish, Well, Unreadable}
 use Rattle.account.specs.Course.{Course, named}
 use Rattle.account.specs.Sweeps.{tried, stopped, sweepFrom, tests, unreadable, sweepEnds, verifySectors}
 use Rattle.account.specs.Host.{plainIn}
-use Rattle.account.proofs.Seats.{Shaped, Seated, Where, onward, done-on, seat-next}
+use Rattle.account.proofs.Seats.{Shaped, Seated, Where, onward, done-on, seat-next, goodOn}
 use Rattle.account.proofs.Tried.{stops-sweep, stops-ends, read-tested}
 
 -- where the registers point at sector i
-pub where-good : (c : Course) (i : ℕ) (s : State) → Where c i s → i < c .room → locatedIn s ≡ goodAt i
+pub where-good : (c : Course) (i : ℕ) (s : State) → Where c i s → i < c .room → locatedIn s ≡ goodOn c i
 where-good c i s w h = w ∙ (rw (lt-ltb i (c .room) h))
 
 -- a good end: Count is 0 and the address is the last sector's

@@ -10,7 +10,8 @@ use lib.ListN.{length, take, set, getD, length-set}
 use lib.Seq.{take-all, take-suc-set, take-suc, take-set-le, getD-set-same, getD-set-other}
 use borrow.Author.Tests.{ltb-true, ltb-false}
 use Rattle.ground.specs.Choice.{pick}
-use Rattle.geometry.specs.Address.{spotAt, goodAt}
+use Rattle.geometry.specs.declared.Spot.{Spot}
+use Rattle.geometry.specs.declared.Located.{Located}
 use Rattle.geometry.specs.Limits.{totalOf}
 use Rattle.sectors.specs.Marks.{writable}
 use Rattle.registers.specs.declared.Load.{Load}
@@ -30,22 +31,22 @@ use Rattle.port.specs.Data.{withPhase}
 use Rattle.account.specs.Plain.{moving}
 use Rattle.account.specs.Sweeps.{unwritable}
 use Rattle.account.specs.Host.{plainOf}
-use Rattle.account.proofs.Seats.{Shaped, courseIn, seat-room, room-total}
+use Rattle.account.proofs.Seats.{Shaped, courseIn, spotOn, goodOn, seat-room, room-total}
 use Rattle.account.proofs.Tried.{unwrite-opposite}
 use Rattle.account.proofs.Stored.{LentFor}
 use Rattle.account.proofs.Rest.{bare, here, doneOut, restAt, rest, Loaded}
 use Rattle.account.proofs.Writing.{done-over, marked-rest}
 
 -- the tests at the last byte, of a valid address
-pub sector-test : (i : ℕ) (s : State) (marks : List ℕ) → locatedIn s ≡ goodAt i →
-    sectorTest Out s marks ≡ pick (writable (getD marks i 0)) (Passes (spotAt i)) (Fails End.WriteFault)
+pub sector-test : (p : Spot) (s : State) (marks : List ℕ) → locatedIn s ≡ Located.Good p →
+    sectorTest Out s marks ≡ pick (writable (getD marks (p .index) 0)) (Passes p) (Fails End.WriteFault)
 unfolding sectorTest addressTest
-sector-test i s marks e = rw e
+sector-test p s marks e = rw e
 
 -- a valid address lies in the store
-pub here-inside : (s : State) → Shaped (s .made) (s .current) → locatedIn s ≡ goodAt (here s) → here s < totalOf (s .made .default)
+pub here-inside : (s : State) → Shaped (s .made) (s .current) → locatedIn s ≡ goodOn (courseIn s) (here s) → here s < totalOf (s .made .default)
 here-inside s h e =
-    let x = seat-room s (here s) h e in
+    let x = seat-room s (spotOn (courseIn s) (here s)) h e .0 in
     let y = room-total (courseIn s) s h refl in
     omega arith
 
@@ -55,7 +56,7 @@ unfolding doneOut sectorStored
 written-rest Buffer m d h l k = unfold restAt in refl
 written-rest (Sectors zero) m d h l k = absurd (omega (arith, k .1))
 written-rest (Sectors (suc n)) m d h l k =
-    rw (sector-test (here (m .state)) (m .state) (m .marks) (k .0), sub-one (suc n))
+    rw (sector-test (spotOn (courseIn (m .state)) (here (m .state))) (m .state) (m .marks) (k .0), sub-one (suc n))
     (marked-rest (writable (getD (m .marks) (here (m .state)) 0)) (unwritable (getD (m .marks) (here (m .state)) 0)) n (courseIn (m .state)) (here (m .state)) m d
     (unwrite-opposite (getD (m .marks) (here (m .state)) 0)) (here-inside (m .state) h (k .0)) h l (k .2, k .3, refl) (k .0))
 

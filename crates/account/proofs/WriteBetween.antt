@@ -9,7 +9,6 @@ use lib.Dec.{ltb}
 use lib.ListN.{length, set, getD}
 use borrow.Author.Tests.{ltb-true, ne-eqb}
 use Rattle.ground.specs.Choice.{pick}
-use Rattle.geometry.specs.Address.{spotAt, goodAt}
 use Rattle.geometry.specs.declared.Located.{Located}
 use Rattle.geometry.specs.Limits.{totalOf}
 use Rattle.sectors.specs.Marks.{writable}
@@ -34,7 +33,7 @@ use Rattle.kept.specs.Lent.{storeMarksIn}
 use Rattle.account.specs.WholeSectors.{putSector, badAt}
 use Rattle.account.specs.Host.{plainOf}
 use Rattle.account.specs.Notes.{None, Waiting}
-use Rattle.account.proofs.Seats.{Seated, Where, pastEnd, courseIn, onward, done-on, seat-next}
+use Rattle.account.proofs.Seats.{Seated, Where, pastEnd, courseIn, onward, done-on, seat-next, spotOn, goodOn}
 use Rattle.account.proofs.Stored.{stored-is, stored-lent}
 use Rattle.account.proofs.Rest.{bare, here, Ground, Running, Between, Loaded, loaded-of}
 use Rattle.account.proofs.WordWritten.{sector-test, here-inside}
@@ -45,8 +44,8 @@ past-between true n order s b t k g = (g, refl)
 past-between false n order s b t k g = (g, refl)
 
 ask-by : (v : Bool) (n : ℕ) (order : Order) (c : Course) (i : ℕ) (s : State) (b t k : List ℕ) → length b ≡ 512 → Ground Out (idle s b t k) → Seated c i (suc n) s →
-    locatedIn s ≡ pick v (goodAt i) (pastEnd c) →
-    Between Out (machine (askTested (testedOf (pick v (goodAt i) (pastEnd c))) (suc n) order s) b t k) None
+    locatedIn s ≡ pick v (goodOn c i) (pastEnd c) →
+    Between Out (machine (askTested (testedOf (pick v (goodOn c i) (pastEnd c))) (suc n) order s) b t k) None
 ask-by true n order c i s b t k e g q w = (g, (omega arith, e, tt, tt, loaded-of c i n s q w))
 ask-by false n order c i s b t k e g q w = past-between (c .lba) (suc n) order s b t k g
 
@@ -56,7 +55,7 @@ unfolding askSector addressTest
 ask-between n order c i s b t k e g q w =
     subst (λ (l : Located). Between Out (machine (askTested (testedOf l) (suc n) order s) b t k) None) (sym w) (ask-by (ltb i (c .room)) n order c i s b t k e g q w)
 
-asked-between : (n : ℕ) (c : Course) (i : ℕ) (s : State) (b t k : List ℕ) → length b ≡ 512 → Ground Out (idle s b t k) → Seated c i (suc n) s → locatedIn s ≡ goodAt i →
+asked-between : (n : ℕ) (c : Course) (i : ℕ) (s : State) (b t k : List ℕ) → length b ≡ 512 → Ground Out (idle s b t k) → Seated c i (suc n) s → locatedIn s ≡ goodOn c i →
     Between Out (machine (nextAsked n s) b t k) None
 unfolding nextAsked
 asked-between zero c i s b t k f g q e = unfold sectorDone in (g, refl)
@@ -65,8 +64,8 @@ asked-between (suc n) c i s b t k f g q e =
     rw (done-on n s, ne-eqb (suc n) 0 (omega arith)) (ask-between n Later c (i + 1) (onward (suc n) s) b t k f g (z .0) (z .1))
 
 marked-between : (u : Bool) (n : ℕ) (c : Course) (i : ℕ) (m : Machine) → i < totalOf (m .state .made .default) → length (m .buffer) ≡ 512 → Ground Out m → Seated c i (suc n) (m .state) →
-    locatedIn (m .state) ≡ goodAt i →
-    Between Out (writtenBy (storedBy (pick u (Passes (spotAt i)) (Fails End.WriteFault)) (m .buffer) (storeMarksIn m)) n m) None
+    locatedIn (m .state) ≡ goodOn c i →
+    Between Out (writtenBy (storedBy (pick u (Passes (spotOn c i)) (Fails End.WriteFault)) (m .buffer) (storeMarksIn m)) n m) None
 marked-between true n c i m h f g q e =
     rw (stored-is (totalOf (m .state .made .default)) i (m .state .bad) (m .store) (m .marks) (m .buffer) h (g .1))
     (asked-between n c i (withBad (m .state .bad - badAt i (m .marks)) (m .state)) (m .buffer) (putSector i (m .buffer) (m .store)) (set (m .marks) i 0) f
@@ -78,7 +77,7 @@ unfolding sectorStored
 written-between Buffer m f g k = (g, refl)
 written-between (Sectors zero) m f g k = absurd (omega (arith, k .1))
 written-between (Sectors (suc n)) m f g k =
-    rw (sector-test (here (m .state)) (m .state) (m .marks) (k .0), sub-one (suc n))
+    rw (sector-test (spotOn (courseIn (m .state)) (here (m .state))) (m .state) (m .marks) (k .0), sub-one (suc n))
     (marked-between (writable (getD (m .marks) (here (m .state)) 0)) n (courseIn (m .state)) (here (m .state)) m (here-inside (m .state) (g .0) (k .0)) f g (k .2, k .3, refl) (k .0))
 
 pub word-written-between : (v : Bool) (t : Transfer) (m : Machine) (b : List ℕ) (q : Waiting) → ltb (t .words) 255 ≡ v → length b ≡ 512 → Ground Out m → Running Out t (plainOf m) q →

@@ -9,7 +9,6 @@ use lib.Dec.{ltb}
 use lib.ListN.{take, drop, set, getD}
 use borrow.Author.Tests.{ltb-true, lt-ltb, ne-eqb}
 use Rattle.ground.specs.Choice.{pick}
-use Rattle.geometry.specs.Address.{spotAt, goodAt}
 use Rattle.geometry.specs.declared.Located.{Located}
 use Rattle.geometry.specs.Limits.{totalOf}
 use Rattle.registers.specs.declared.Load.{Load}
@@ -31,7 +30,7 @@ use Rattle.account.specs.Course.{Course}
 use Rattle.account.specs.Sweeps.{tried, sweepFrom, tests, unwritable, movedBy, writeDone, writeSectors}
 use Rattle.account.specs.WholeSectors.{firstSectors, lastSectors, replaced, cleared, putSector, badAt, badFrom}
 use Rattle.account.specs.Host.{plainOf, plainIn}
-use Rattle.account.proofs.Seats.{Shaped, Seated, Where, pastEnd, onward, done-on, seat-next}
+use Rattle.account.proofs.Seats.{Shaped, Seated, Where, pastEnd, onward, done-on, seat-next, spotOn, goodOn}
 use Rattle.account.proofs.Tried.{stops-ends}
 use Rattle.account.proofs.Stored.{LentFor, stored-is, sweep-later, bad-on, bad-none}
 use Rattle.account.proofs.Verifying.{seated-last}
@@ -91,8 +90,8 @@ past-rest true n order c i s b t k d q = rw (bad-none (s .bad) i k, stops-ends E
 past-rest false n order c i s b t k d q = rw (bad-none (s .bad) i k, stops-ends End.BadCylinder refl c (suc n) i s b t k q)
 
 ask-by : (v : Bool) (n : ℕ) (order : Order) (c : Course) (i : ℕ) (s : State) (b t k d : List ℕ) → ltb i (c .room) ≡ v → Seated c i (suc n) s →
-    locatedIn s ≡ pick v (goodAt i) (pastEnd c) →
-    rest (machine (askTested (testedOf (pick v (goodAt i) (pastEnd c))) (suc n) order s) b t k) d ≡ writeSectors c i (suc n) (plainIn s b t k) d
+    locatedIn s ≡ pick v (goodOn c i) (pastEnd c) →
+    rest (machine (askTested (testedOf (pick v (goodOn c i) (pastEnd c))) (suc n) order s) b t k) d ≡ writeSectors c i (suc n) (plainIn s b t k) d
 unfolding restAt doneOut
 ask-by true n order c i s b t k d e q w =
     let h = ltb-true i (c .room) e in
@@ -108,7 +107,7 @@ ask-rest n order c i s b t k d q w =
     (ask-by _ n order c i s b t k d refl q w)
 
 -- sector i is stored
-asked-rest : (n : ℕ) (c : Course) (i : ℕ) (s : State) (b t k d : List ℕ) → Shaped (s .made) (s .current) → Seated c i (suc n) s → locatedIn s ≡ goodAt i →
+asked-rest : (n : ℕ) (c : Course) (i : ℕ) (s : State) (b t k d : List ℕ) → Shaped (s .made) (s .current) → Seated c i (suc n) s → locatedIn s ≡ goodOn c i →
     rest (machine (nextAsked n s) b t k) d ≡ writeSectors c (i + 1) n (plainIn s b t k) d
 unfolding nextAsked
 asked-rest zero c i s b t k d h q e = unfold sectorDone restAt writeSectors sweepFrom firstSectors lastSectors replaced cleared in rw (seated-last c i 1 s q, bad-none (s .bad) (i + 1) k)
@@ -118,8 +117,8 @@ asked-rest (suc n) c i s b t k d h q e =
 
 -- its mark first
 pub marked-rest : (u v : Bool) (n : ℕ) (c : Course) (i : ℕ) (m : Machine) (d : List ℕ) → v ≡ not u → i < totalOf (m .state .made .default) → Shaped (m .state .made) (m .state .current) →
-    LentFor (totalOf (m .state .made .default)) (m .store) (m .marks) → Seated c i (suc n) (m .state) → locatedIn (m .state) ≡ goodAt i →
-    rest (writtenBy (storedBy (pick u (Passes (spotAt i)) (Fails End.WriteFault)) (m .buffer) (storeMarksIn m)) n m) d
+    LentFor (totalOf (m .state .made .default)) (m .store) (m .marks) → Seated c i (suc n) (m .state) → locatedIn (m .state) ≡ goodOn c i →
+    rest (writtenBy (storedBy (pick u (Passes (spotOn c i)) (Fails End.WriteFault)) (m .buffer) (storeMarksIn m)) n m) d
     ≡ storedThen v (suc n) i c (plainOf m) (m .buffer) d
 unfolding storedThen
 marked-rest true true n c i m d e h g l q w = absurd (true≢false e)

@@ -2,7 +2,7 @@
 use Prim.Native.Nat.{ℕ, zero, suc, _+_, _-_, _%_}
 use mathlib.Core.Bool.{Bool, not, _||_}
 use mathlib.Core.List.{List}
-use lib.Dec.{ltb, eqb}
+use lib.Dec.{ltb, leb, eqb}
 use lib.ListN.{getD}
 use Rattle.ground.specs.Choice.{pick}
 use Rattle.account.specs.Numbers.{codeCylinderOrLba}
@@ -96,6 +96,11 @@ writeDone c i r p bytes = record {
 
 unfoldable pub writeSectors : Course → ℕ → ℕ → Plain → List ℕ → Account
 writeSectors c i n p bytes = writeDone c i (writeSweep c (p .marks) i n) p bytes
+
+-- 02, "Six", of Verify and Erase: n sectors from index i, where the room has them all; else "a run past the end ends before its first sector with IDNF,
+-- 2FH, the registers unchanged"
+abbrev pub wholeRun : Course → ℕ → ℕ → Plain → Plain → Plain
+wholeRun c i n p done = pick (leb (i + n) (c .room)) done (ends (NotFound codeCylinderOrLba) p)
 
 -- 40H 41H: as read, no data
 unfoldable pub verifySectors : Course → ℕ → ℕ → Plain → Plain

@@ -11,7 +11,7 @@ use Rattle.account.specs.Plain.{Plain, bytesPerSector, sectorsOf, withRe
 use Rattle.account.specs.CommandRows.{CommandRow, Reads, Writes, Verifies, Erases, Identifies, ReadsBuffer, WritesBuffer, SetsGeometry, Diagnoses, Recalibrates, Seeks, Senses, Others}
 use Rattle.account.specs.Addressed.{Addressed, At, Bad, selectsLba, badCylinder, badHead, badLba, judged, addressedBy}
 use Rattle.account.specs.Course.{courseOf}
-use Rattle.account.specs.Sweeps.{readSectors, writeSectors, verifySectors, eraseSectors}
+use Rattle.account.specs.Sweeps.{readSectors, writeSectors, wholeRun, verifySectors, eraseSectors}
 use Rattle.account.specs.Words.{identifyData}
 
 -- "Count 0 means 256."
@@ -38,10 +38,14 @@ abbrev pub writes : Plain → List ℕ → Account
 writes p bytes = fromFirst (first p) silent (λ i. writeSectors (courseOf p) i (asked (p .registers .count)) p bytes) p
 
 abbrev pub verifies : Plain → Plain
-verifies p = fromFirst (first p) (λ q. q) (λ i. verifySectors (courseOf p) i (asked (p .registers .count)) p) p
+verifies p =
+    let n = asked (p .registers .count) in
+    fromFirst (first p) (λ q. q) (λ i. wholeRun (courseOf p) i n p (verifySectors (courseOf p) i n p)) p
 
 abbrev pub erases : Plain → Plain
-erases p = fromFirst (first p) (λ q. q) (λ i. eraseSectors (courseOf p) i (asked (p .registers .count)) p) p
+erases p =
+    let n = asked (p .registers .count) in
+    fromFirst (first p) (λ q. q) (λ i. wholeRun (courseOf p) i n p (eraseSectors (courseOf p) i n p)) p
 
 -- 91H: "S := Count, H := low nibble+1; if S is 0 or H·S>N: ABRT, 21H, old geometry stays"; "current C = N div (H·S)"
 abbrev pub shaped : ℕ → ℕ → ℕ → Geometry

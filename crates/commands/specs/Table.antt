@@ -26,7 +26,7 @@ use Rattle.commands.specs.declared.Command.{Command}
 use Rattle.commands.specs.declared.Command.the-variants.{Read, Write, Verify, Erase, Identify, ReadBuffer, WriteBuffer, SetGeometry, Diagnose, Recalibrate, Seek, Sense, Other}
 use Rattle.transfers.specs.Ends.{ended}
 use Rattle.transfers.specs.Steps.{idleWith, ready, askedFor, readSector, askSector}
-use Rattle.commands.specs.Sweeps.{verifyFrom, eraseFrom}
+use Rattle.commands.specs.Sweeps.{verifyRun, eraseRun}
 
 -- the table's opcodes, row by row
 abbrev pub commandTable : List (Numbered Command)
@@ -99,9 +99,9 @@ obeyed Read s m = readSector (countOf s) (idleWith s m)
 -- 30H 31H: write
 obeyed Write s m = withCore (askSector (countOf s) First s) m
 -- 40H 41H: as read, no data
-obeyed Verify s m = withCore (verifyFrom (countOf s) s (m .marks)) m
+obeyed Verify s m = withCore (verifyRun (countOf s) s (m .marks)) m
 -- C0H: as write, storing FFH, no data
-obeyed Erase s m = withErased (eraseFrom (countOf s) s (m .store) (m .marks)) m
+obeyed Erase s m = withErased (eraseRun (countOf s) s (m .store) (m .marks)) m
 -- ECH: Identify, 512 bytes through the buffer
 obeyed Identify s m = machine (ready Buffer s) (identifyBytes (factsOf s)) (m .store) (m .marks)
 -- E4H E8H: read, write the 512-byte buffer

@@ -138,8 +138,8 @@ fn obey(
             marks,
         ),
         Command::Write => transfers::steps::ask_sector(fresh, count_of(fresh), Order::First),
-        Command::Verify => super::sweeps::verify(fresh, count_of(fresh), marks),
-        Command::Erase => super::sweeps::erase(fresh, count_of(fresh), store, marks),
+        Command::Verify => super::sweeps::verify_run(fresh, count_of(fresh), marks),
+        Command::Erase => super::sweeps::erase_run(fresh, count_of(fresh), store, marks),
         Command::Identify => {
             identify(fresh, buffer);
             transfers::steps::ready(fresh, Load::Buffer)

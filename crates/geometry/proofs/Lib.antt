@@ -4,3 +4,4 @@ pub mod Shapes
 pub mod Inside
 pub mod Kept
 pub mod NextLaw
+pub mod Runs

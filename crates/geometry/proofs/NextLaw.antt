@@ -18,12 +18,12 @@ use Rattle.geometry.specs.Next.{atLba, atChs, nextChs, nextOf}
 use Rattle.geometry.specs.Codes.{locatedCode}
 use Rattle.geometry.proofs.LimitFacts.{Small, current-small}
 use Rattle.geometry.proofs.Kept.{same-way}
-use Rattle.geometry.proofs.Inside.{Chs, chs-less, chs-good, chs-facts, lba-facts}
+use Rattle.geometry.proofs.Inside.{Chs, chs-less, chs-good, chs-facts, lba-facts, roomBy, locateBy}
 use Rattle.geometry.proofs.Bounds.{row-more}
 
 -- the registers made of a cylinder, head and sector name them.
-at-chs-located : (a : Address) (g : Geometry) (n c h s : ℕ) → byLba a ≡ false → c < 65536 → h < 16 → s < 256 → locate (atChs a c h s) g n ≡ locateChs c h s g
-unfolding locate
+at-chs-located : (a : Address) (g : Geometry) (n c h s : ℕ) → byLba a ≡ false → c < 65536 → h < 16 → s < 256 → locate (atChs a c h s) g n ≡ locateChs c h s g (capacityOf g)
+unfolding locate roomOf
 at-chs-located a g n c h s b x y z =
     let i : c / 256 % 256 * 256 + c % 256 ≡ c = omega arith in
     let j : (a .head / 16 * 16 + h % 16) % 16 ≡ h = omega arith in
@@ -32,16 +32,16 @@ at-chs-located a g n c h s b x y z =
 
 -- the registers made of a number name it.
 at-lba-located : (a : Address) (g : Geometry) (n i : ℕ) → byLba a ≡ true → i < 268435456 → locate (atLba a i) g n ≡ locateLba i n
-unfolding locate
+unfolding locate roomOf
 at-lba-located a g n i b x =
     let l : lbaOf (atLba a i) ≡ i = omega arith in
     rw (same-way a (atLba a i) (i / 16777216) refl, b, l)
 
 -- what comes after index i, with room for m sectors.
 abbrev After : ℕ → ℕ → Located → Located
-After i m bad = pick (ltb (i + 1) m) (goodAt (i + 1)) bad
+After i m bad = pick (ltb (i + 1) m) (goodAt m (i + 1)) bad
 
-landed : (i j m : ℕ) (bad : Located) → i + 1 ≡ j → j < m → goodAt j ≡ After i m bad
+landed : (i j m : ℕ) (bad : Located) → i + 1 ≡ j → j < m → goodAt m j ≡ After i m bad
 landed i j m bad e l = rw (e, lt-ltb j m l)
 
 past : (i m : ℕ) (bad : Located) → m ≤ i + 1 → bad ≡ After i m bad
@@ -56,7 +56,7 @@ step-chs : (a : Address) (g : Geometry) (n i c h s : ℕ) →
     locate (atChs a c h s) g n ≡ After i (capacityOf g) Located.BadCylinder
 step-chs a g n i c h s b l f q =
     at-chs-located a g n c h s b (omega arith) (omega arith) (omega arith)
-    ∙ chs-good c h s g f
+    ∙ chs-good c h s g (capacityOf g) f
     ∙ landed i (chsIndex c h s g) (capacityOf g) Located.BadCylinder q (chs-less c h s g f)
 
 -- the last sector of a cylinder: the first of the next one, if there is one.
@@ -76,7 +76,7 @@ step-cylinder false a g n i c t b l f q =
     let y = ltb-false (c + 1) (g .cylinders) t in
     let e : c + 1 ≡ g .cylinders = omega arith in
     let m : capacityOf g ≤ i + 1 = rw (q, e) (omega arith) in
-    let d : locateChs (c + 1) 0 1 g ≡ Located.BadCylinder = rw (lt-ltb 0 (g .heads) (f .0), le-leb 1 (g .sectors) (f .1), t) in
+    let d : locateChs (c + 1) 0 1 g (capacityOf g) ≡ Located.BadCylinder = rw (lt-ltb 0 (g .heads) (f .0), le-leb 1 (g .sectors) (f .1), t) in
     at-chs-located a g n (c + 1) 0 1 b (omega arith) (omega arith) (omega arith) ∙ d ∙ past i (capacityOf g) Located.BadCylinder m
 
 next-chs : (a : Address) (g : Geometry) (n i : ℕ) →
@@ -111,13 +111,13 @@ next-by : (b : Bool) (a : Address) (g : Geometry) (n : ℕ) (p : Spot) →
     byLba a ≡ b →
     currentFor g n ≡ true →
     n ≤ 65535 →
-    pick b (locateLba (lbaOf a) n) (locateChs (cylinderOf a) (headOf a) (a .sector) g) ≡ Located.Good p →
-    locate (pick b (atLba a (lbaOf a + 1)) (nextChs a g)) g n ≡ After (p .index) (pick b n (capacityOf g)) (pick b Located.BadLba Located.BadCylinder)
+    locateBy b a g n ≡ Located.Good p →
+    locate (pick b (atLba a (lbaOf a + 1)) (nextChs a g)) g n ≡ After (p .index) (roomBy b g n) (pick b Located.BadLba Located.BadCylinder)
 next-by true a g n p b c m e =
     let f = lba-facts (lbaOf a) n p e in
     rw (f .1) (next-lba a g n b (f .0) m)
 next-by false a g n p b c m e =
-    let f = chs-facts (cylinderOf a) (headOf a) (a .sector) g p e in
+    let f = chs-facts (cylinderOf a) (headOf a) (a .sector) g (capacityOf g) p e in
     next-chs a g n (p .index) b (current-small g n c m) (f .0) (f .1)
 
 -- "The next CHS address advances sector, head, cylinder": index i + 1 while there is room, else past the end.
@@ -126,12 +126,12 @@ pub next-law : (a : Address) (g : Geometry) (n : ℕ) (p : Spot) →
     n ≤ 65535 →
     locate a g n ≡ Located.Good p →
     locate (nextOf a g) g n
-    ≡ pick (ltb (p .index + 1) (roomOf a g n)) (goodAt (p .index + 1)) (pick (byLba a) Located.BadLba Located.BadCylinder)
+    ≡ pick (ltb (p .index + 1) (roomOf a g n)) (goodAt (roomOf a g n) (p .index + 1)) (pick (byLba a) Located.BadLba Located.BadCylinder)
 unfolding locate nextOf roomOf
 next-law a g n p c m e = next-by (byLba a) a g n p refl c m e
 
 -- past the end the decision says 2FH.
-past-code : (b : Bool) → locatedCode (pick b Located.BadLba Located.BadCylinder) ≡ 0x2F
+pub past-code : (b : Bool) → locatedCode (pick b Located.BadLba Located.BadCylinder) ≡ 0x2F
 past-code true = refl
 past-code false = refl
 

@@ -32,28 +32,34 @@ chsIndex c h s g = (c * g .heads + h) * g .sectors + s - 1
 abbrev pub lbaOf : Address → ℕ
 lbaOf a = headOf a * 16777216 + cylinderOf a * 256 + a .sector
 
--- a good address, and where its sector stands
-abbrev pub spotAt : ℕ → Spot
-spotAt i = record { index = i }
+-- the room of an address, the sectors that its way of addressing reaches: N in LBA, the current capacity in CHS.
+unfoldable pub roomOf : Address → Geometry → ℕ → ℕ
+roomOf a g n = pick (byLba a) n (capacityOf g)
 
-abbrev pub goodAt : ℕ → Located
-goodAt i = Located.Good (spotAt i)
+-- a good address: where its sector stands, and (02, "Six") "how many sectors remain from there" to the end of the room, that one among them
+abbrev pub spotAt : ℕ → ℕ → Spot
+spotAt room i = record { index = i; remain = room - i }
+
+abbrev pub goodAt : ℕ → ℕ → Located
+goodAt room i = Located.Good (spotAt room i)
 
 -- "with c<C, h<H, s 1..S, all current. … Bad head or sector: code 21H. Otherwise bad cylinder or LBA: 2FH."
-unfoldable pub locateChs : ℕ → ℕ → ℕ → Geometry → Located
-locateChs c h s g =
+unfoldable pub locateChs : ℕ → ℕ → ℕ → Geometry → ℕ → Located
+locateChs c h s g room =
     firstOr
     (Unless (every (ltb h (g .heads) ∷ leb 1 s ∷ leb s (g .sectors) ∷ [])) Located.BadHeadOrSector
     ∷ Unless (ltb c (g .cylinders)) Located.BadCylinder
     ∷ [])
-    (goodAt (chsIndex c h s g))
+    (goodAt room (chsIndex c h s g))
 
--- LBA "below N", else 2FH.
+-- LBA "below N", which is its room, else 2FH.
 unfoldable pub locateLba : ℕ → ℕ → Located
-locateLba i n = firstOr (Unless (ltb i n) Located.BadLba ∷ []) (goodAt i)
+locateLba i room = firstOr (Unless (ltb i room) Located.BadLba ∷ []) (goodAt room i)
 
 unfoldable pub locate : Address → Geometry → ℕ → Located
-locate a g n = pick (byLba a) (locateLba (lbaOf a) n) (locateChs (cylinderOf a) (headOf a) (a .sector) g)
+locate a g n =
+    let room = roomOf a g n in
+    pick (byLba a) (locateLba (lbaOf a) room) (locateChs (cylinderOf a) (headOf a) (a .sector) g room)
 
 -- 7XH: "address test; in CHS head and cylinder only"
 abbrev pub seekChs : ℕ → ℕ → Geometry → Sought
@@ -69,10 +75,6 @@ seekLba i n = firstOr (Unless (ltb i n) Sought.BadLba ∷ []) Sought.Good
 
 unfoldable pub seek : Address → Geometry → ℕ → Sought
 seek a g n = pick (byLba a) (seekLba (lbaOf a) n) (seekChs (cylinderOf a) (headOf a) g)
-
--- the room of an address, the sectors that its way of addressing reaches: the current capacity in CHS, N in LBA.
-unfoldable pub roomOf : Address → Geometry → ℕ → ℕ
-roomOf a g n = pick (byLba a) n (capacityOf g)
 
 -- whether it is a valid address, one that names a sector; and where that sector stands.
 abbrev pub validAddress : Located → Bool

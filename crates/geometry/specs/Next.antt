@@ -1,5 +1,5 @@
 -- 01, "Commands": "The next CHS address advances sector, head, cylinder"; in LBA it is the next number. Bits 7..4 of Drive/Head stay.
-use Prim.Native.Nat.{ℕ, _+_, _*_, _/_, _%_}
+use Prim.Native.Nat.{ℕ, zero, suc, _+_, _*_, _/_, _%_}
 use lib.Dec.{ltb}
 use Rattle.ground.specs.Choice.{pick}
 use Rattle.geometry.specs.declared.Geometry.{Geometry}
@@ -23,3 +23,8 @@ atLba a i = record { sector = i % 256; low = i / 256 % 256; high = i / 65536 % 2
 
 unfoldable pub nextOf : Address → Geometry → Address
 nextOf a g = pick (byLba a) (atLba a (lbaOf a + 1)) (nextChs a g)
+
+-- the address so many sectors on.
+unfoldable pub later : ℕ → Address → Geometry → Address
+later zero a g = a
+later (suc k) a g = later k (nextOf a g) g

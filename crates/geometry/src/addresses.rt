@@ -5,7 +5,8 @@ use super::Located;
 use super::Sought;
 use super::Spot;
 ghost use mathlib.Core.Path.{_≡_};
-ghost use Prim.Native.Nat.{_<_};
+ghost use Prim.Native.Nat.{_<_, _≤_};
+ghost use Rattle.geometry.specs.Limits.{capacityOf};
 ghost use Rattle.geometry.specs.Address.{byLba, headOf, cylinderOf, lbaOf, goodAt, locateChs, locateLba, locate, seek};
 
 impl Address {
@@ -35,16 +36,26 @@ impl Address {
     }
 }
 
-// A good address, and where its sector stands.
-fn good_at(index: usize) -> Located
-    ensures { λ r. ⌜ r ≡ goodAt index ⌝ }
+// A good address: where its sector stands, and how many remain from there.
+fn good_at(index: usize, room: usize) -> Located
+    requires { ⌜ index < room ⌝ }
+    ensures { λ r. ⌜ r ≡ goodAt room index ⌝ }
 {
-    Located::Good(Spot { index: index })
+    Located::Good(Spot {
+        index: index,
+        remain: room - index,
+    })
 }
 
-fn locate_chs(cylinder: usize, head: usize, sector: usize, current: Geometry) -> Located
-    requires { ⌜ (cylinder < 65536) × (head < 16) × (sector < 256) ⌝ }
-    ensures { λ r. ⌜ r ≡ locateChs cylinder head sector current ⌝ }
+fn locate_chs(
+    cylinder: usize,
+    head: usize,
+    sector: usize,
+    current: Geometry,
+    room: usize,
+) -> Located
+    requires { ⌜ (cylinder < 65536) × (head < 16) × (sector < 256) × (capacityOf current ≤ room) ⌝ }
+    ensures { λ r. ⌜ r ≡ locateChs cylinder head sector current room ⌝ }
 {
     let heads = current.heads as usize;
     let sectors = current.sectors as usize;
@@ -61,20 +72,20 @@ fn locate_chs(cylinder: usize, head: usize, sector: usize, current: Geometry) ->
         return Located::BadCylinder;
     }
     let index = (cylinder * heads + head) * sectors + sector - 1;
-    good_at(index)
+    good_at(index, room)
 }
 
-fn locate_lba(lba: usize, total: usize) -> Located
-    ensures { λ r. ⌜ r ≡ locateLba lba total ⌝ }
+fn locate_lba(lba: usize, room: usize) -> Located
+    ensures { λ r. ⌜ r ≡ locateLba lba room ⌝ }
 {
-    if lba < total {
-        return good_at(lba);
+    if lba < room {
+        return good_at(lba, room);
     }
     Located::BadLba
 }
 
 impl Address {
-    // The sector that the registers name, or the test that failed.
+    // The sector that the registers name and how many remain from there, or the test that failed.
     pub fn locate(self, current: Geometry, total: u16) -> Located
         ensures { λ r. ⌜ r ≡ locate self current total ⌝ }
     {
@@ -86,6 +97,7 @@ impl Address {
             self.head_number(),
             self.sector as usize,
             current,
+            current.capacity(),
         )
     }
 

@@ -25,9 +25,10 @@ pub struct Address {
     pub head: u8,
 }
 
-// Where a sector stands in the store.
+// Where a sector stands in the store, and how many remain from there to the end of what its way of addressing reaches, that one among them.
 pub struct Spot {
     pub index: usize,
+    pub remain: usize,
 }
 
 pub enum Located {

@@ -9,7 +9,7 @@ use Rattle.registers.specs.Machine.{Machine}
 use Rattle.card.specs.Doors.{machineOf}
 use Rattle.ground.specs.Choice.{every}
 use Rattle.geometry.specs.Limits.{fits, totalOf, currentFor}
-use Rattle.geometry.specs.Address.{byLba, locateLba, locateChs, locate}
+use Rattle.geometry.specs.Address.{byLba, roomOf, locateLba, locateChs, locate}
 use Rattle.geometry.specs.Next.{nextChs, nextOf}
 use Rattle.maps.specs.Spaces.{cardAnswers, answersAt}
 use Rattle.maps.specs.Offsets.{memoryAt, contiguousAt, windowAt, ioAt, offsetAt}
@@ -57,7 +57,7 @@ times (suc n) l = l ++ times n l
 
 -- all that both hosts compute with, crate by crate, under one name
 unfoldable computing : Unit {0}
-unfolding every fits totalOf currentFor locate locateChs locateLba byLba nextOf nextChs
+unfolding every fits totalOf currentFor locate locateChs locateLba byLba roomOf nextOf nextChs
     answersAt cardAnswers placeAt mapPlace attributePlace registerPlace misfits aboveThree offsetAt memoryAt ioAt contiguousAt windowAt
     stored withSector sectorOf bufferRead readable writable marksFit badIn lowered
     wellMade runFits loadFits sectorsFit wordsFit holdFits inReset statusFits atRest sresetFits indexFits badFits

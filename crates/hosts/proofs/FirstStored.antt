@@ -28,7 +28,7 @@ use Rattle.account.specs.Notes.{noNotes, wayOf}
 use Rattle.account.specs.Follows.{Able, commanded, afterBy, AcceptedCommand, after}
 use Rattle.sectors.specs.Sectors.{StoreMarks}
 use Rattle.hosts.specs.Moment.{CalmBy, Calm, wholeOf, storedOf, storedFrom, writtenSoFar, soFar, notSound, FirstStored}
-use Rattle.account.proofs.Seats.{courseIn, seat-room, room-total}
+use Rattle.account.proofs.Seats.{courseIn, spotOn, seat-room, room-total}
 use Rattle.account.proofs.Stored.{LentFor, put-length}
 use Rattle.account.proofs.Commands.{first-at}
 use Rattle.account.proofs.Theorem.{by-meaning}
@@ -123,7 +123,7 @@ means-first-ones-stored m v l i n e f g =
     let o = given m n .0 in
     let x = min-le-left (wholeOf d) (writeSweep (courseOf (plainOf m)) (m .marks) i (asked (m .state .registers .count)) .done) in
     let w = min-le-right (wholeOf d) (writeSweep (courseOf (plainOf m)) (m .marks) i (asked (m .state .registers .count)) .done) in
-    let y = seat-room (m .state) i (o .0) (first-at m i (o .0) f) in
+    let y = seat-room (m .state) (spotOn (courseIn (m .state)) i) (o .0) (first-at m i (o .0) f) .0 in
     let u = sweep-inside unwritable WriteFault (courseOf (plainOf m)) (m .marks) (asked (m .state .registers .count)) i (omega arith) in
     let r = room-total (courseIn (m .state)) (m .state) (o .0) refl in
     subst (λ (z : StoreMarks). FirstStored i k (plainOf m) d z)

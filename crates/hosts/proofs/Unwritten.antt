@@ -3,8 +3,9 @@ use Prim.Native.Nat.{ℕ, _+_, _-_, _*_, _%_}
 use mathlib.Core.Bool.{Bool, true, false, _||_, true≢false}
 use mathlib.Core.Path.{_≡_, refl, sym, ap, _∙_, subst}
 use mathlib.Core.List.{List, [], _++_}
-use lib.Dec.{ltb, eqb}
+use lib.Dec.{ltb, leb, eqb}
 use Rattle.ground.specs.Choice.{pick}
+use Rattle.ground.proofs.Picks.{pick-elim}
 use Rattle.geometry.specs.Address.{indexOf}
 use Rattle.registers.specs.declared.Load.{Load}
 use Rattle.registers.specs.declared.Load.the-variants.{Sectors, Buffer}
@@ -19,7 +20,7 @@ use Rattle.account.specs.Plain.{Plain, withBuffer, withPlace, withCurrent, star
 use Rattle.account.specs.Addressed.{Addressed, At, Bad}
 use Rattle.account.specs.CommandRows.{CommandRow, Reads, Writes, Verifies, Erases, Identifies, ReadsBuffer, WritesBuffer, SetsGeometry, Diagnoses, Recalibrates, Seeks, Senses, Others}
 use Rattle.account.specs.Course.{Course, courseOf, named}
-use Rattle.account.specs.Sweeps.{Sweep, sweepEnds, lastNamed, readSweep, readSectors, verifySectors}
+use Rattle.account.specs.Sweeps.{Sweep, sweepEnds, lastNamed, readSweep, readSectors, wholeRun, verifySectors}
 use Rattle.account.specs.WholeSectors.{lastSector}
 use Rattle.account.specs.Table.{asked, total, shaped, first, fromFirst, setsGeometry, seeks, account}
 use Rattle.account.specs.Host.{plainOf}
@@ -64,9 +65,10 @@ from-left-alone : (l : Addressed) (p : Plain) (f : ℕ → Account) → ((i : �
 from-left-alone (At i) p f h = h i
 from-left-alone (Bad code) p f h = refl
 
-verify-left-alone : (l : Addressed) (n : ℕ) (p : Plain) → storeMarksOf (fromFirst l (λ q. q) (λ i. verifySectors (courseOf p) i n p) p) ≡ storeMarksOf p
+verify-left-alone : (l : Addressed) (n : ℕ) (p : Plain) → storeMarksOf (fromFirst l (λ q. q) (λ i. wholeRun (courseOf p) i n p (verifySectors (courseOf p) i n p)) p) ≡ storeMarksOf p
 unfolding verifySectors
-verify-left-alone (At i) n p = sweep-left-alone (courseOf p) (readSweep (courseOf p) (p .marks) i n) p
+verify-left-alone (At i) n p =
+    pick-elim (λ (q : Plain). storeMarksOf q ≡ storeMarksOf p) (leb (i + n) (courseOf p .room)) _ _ (λ e. sweep-left-alone (courseOf p) (readSweep (courseOf p) (p .marks) i n) p) (λ e. refl)
 verify-left-alone (Bad code) n p = refl
 
 set-left-alone : (s h : ℕ) (p : Plain) → storeMarksOf (setsGeometry s h p) ≡ storeMarksOf p

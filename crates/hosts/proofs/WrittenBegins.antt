@@ -3,7 +3,6 @@ use Prim.Native.Nat.{ℕ, suc, _-_, _<_}
 use mathlib.Core.Path.{_≡_, refl, ap, _∙_}
 use mathlib.Core.List.{List, []}
 use native.Mathlib.Nat.{zero-add}
-use borrow.Author.Tests.{lt-ltb}
 use Rattle.geometry.specs.declared.Located.{Located}
 use Rattle.registers.specs.State.{locatedIn}
 use Rattle.registers.specs.Machine.{Machine, withCore}
@@ -23,7 +22,7 @@ use Rattle.account.specs.Host.{plainOf}
 use Rattle.account.specs.Notes.{Notes, noNotes}
 use Rattle.account.proofs.SameRow.{rowFor}
 use Rattle.account.proofs.Addressed.{asAddressed}
-use Rattle.account.proofs.Seats.{Shaped, courseIn, seat-room}
+use Rattle.account.proofs.Seats.{Shaped, courseIn, where-first}
 use Rattle.account.proofs.Settled.{erase-idle}
 use Rattle.account.proofs.Rest.{Rel}
 use Rattle.account.proofs.Begins.{asked-elim}
@@ -65,7 +64,7 @@ write-begins n m p (Located.Good spot) s k b h e =
       marked = λ j. simp zero-add (ap (cleared (spot .index) j) k);
       counted = λ j. simp zero-add (ap (λ (n : ℕ). n - badFrom (spot .index) j (p .marks)) b ∙ ap (λ (l : List ℕ). m .state .bad - badFrom (spot .index) j l) k);
     })
-    (e ∙ (rw (lt-ltb (spot .index) (courseIn (m .state) .room) (seat-room (m .state) (spot .index) h e))))
+    (where-first (m .state) spot h e)
 write-begins n m p Located.BadHeadOrSector s k b h e = rw e tt
 write-begins n m p Located.BadCylinder s k b h e = rw e tt
 write-begins n m p Located.BadLba s k b h e = rw e tt

@@ -10,7 +10,7 @@ use lib.ListN.{length, take, set, getD}
 use borrow.Author.Tests.{ltb-false, ne-eqb}
 use Rattle.ground.specs.Choice.{pick}
 use Rattle.geometry.specs.declared.Located.{Located}
-use Rattle.geometry.specs.Address.{indexOf, spotAt, goodAt}
+use Rattle.geometry.specs.Address.{indexOf}
 use Rattle.geometry.specs.Limits.{totalOf}
 use Rattle.sectors.specs.Marks.{writable}
 use Rattle.registers.specs.declared.Load.{Load}
@@ -35,7 +35,7 @@ use Rattle.sectors.specs.Sectors.{StoreMarks, storeMarks}
 use Rattle.kept.specs.Lent.{storeMarksIn}
 use Rattle.account.specs.WholeSectors.{putSector, badAt}
 use Rattle.account.specs.Host.{plainOf}
-use Rattle.account.proofs.Seats.{Shaped, Where, pastEnd, courseIn, onward, done-on, seat-next}
+use Rattle.account.proofs.Seats.{Shaped, Where, pastEnd, courseIn, onward, done-on, seat-next, spotOn, goodOn}
 use Rattle.account.proofs.Stored.{stored-is}
 use Rattle.account.proofs.Rest.{bare, here, Ground, Loaded}
 use Rattle.account.proofs.WordWritten.{sector-test, here-inside}
@@ -47,8 +47,8 @@ module _ (i : ℕ) (p : Plain) where
   past-lies false n order s b t k q = tt
 
   ask-by : (v : Bool) (n : ℕ) (order : Order) (c : Course) (h : ℕ) (s : State) (b t k q : List ℕ) → Written i p h 0 b (storeMarks t k (s .bad)) q →
-      locatedIn s ≡ pick v (goodAt h) (pastEnd c) →
-      Lies (From i) p (machine (askTested (testedOf (pick v (goodAt h) (pastEnd c))) (suc n) order s) b t k) q
+      locatedIn s ≡ pick v (goodOn c h) (pastEnd c) →
+      Lies (From i) p (machine (askTested (testedOf (pick v (goodOn c h) (pastEnd c))) (suc n) order s) b t k) q
   ask-by true n order c h s b t k q z e = subst (λ (x : Located). Written i p (indexOf x) 0 b (storeMarks t k (s .bad)) q) (sym e) z
   ask-by false n order c h s b t k q z e = past-lies (c .lba) (suc n) order s b t k q
 
@@ -59,7 +59,7 @@ module _ (i : ℕ) (p : Plain) where
   ask-lies n order c h s b t k q z w =
       subst (λ (l : Located). Lies (From i) p (machine (askTested (testedOf l) (suc n) order s) b t k) q) (sym w) (ask-by (ltb h (c .room)) n order c h s b t k q z w)
 
-  asked-lies : (n : ℕ) (c : Course) (h : ℕ) (s : State) (b t k q : List ℕ) → Shaped (s .made) (s .current) → courseIn s ≡ c → locatedIn s ≡ goodAt h →
+  asked-lies : (n : ℕ) (c : Course) (h : ℕ) (s : State) (b t k q : List ℕ) → Shaped (s .made) (s .current) → courseIn s ≡ c → locatedIn s ≡ goodOn c h →
       Written i p (h + 1) 0 b (storeMarks t k (s .bad)) q → Lies (From i) p (machine (nextAsked n s) b t k) q
   unfolding nextAsked
   asked-lies zero c h s b t k q g x e z = tt
@@ -68,8 +68,8 @@ module _ (i : ℕ) (p : Plain) where
       rw (done-on n s, ne-eqb (suc n) 0 (omega arith)) (ask-lies n Later c (h + 1) (onward (suc n) s) b t k q z (y .1))
 
   marked-lies : (u : Bool) (n h : ℕ) (m : Machine) (l : List ℕ) → h < totalOf (m .state .made .default) → length (m .buffer) ≡ 512 → Ground Out m →
-      locatedIn (m .state) ≡ goodAt h → Written i p h 256 (m .buffer) (storeMarksIn m) l →
-      Lies (From i) p (writtenBy (storedBy (pick u (Passes (spotAt h)) (Fails End.WriteFault)) (m .buffer) (storeMarksIn m)) n m) l
+      locatedIn (m .state) ≡ goodOn (courseIn (m .state)) h → Written i p h 256 (m .buffer) (storeMarksIn m) l →
+      Lies (From i) p (writtenBy (storedBy (pick u (Passes (spotOn (courseIn (m .state)) h)) (Fails End.WriteFault)) (m .buffer) (storeMarksIn m)) n m) l
   marked-lies true n h m l x f g e z =
       rw (stored-is (totalOf (m .state .made .default)) h (m .state .bad) (m .store) (m .marks) (m .buffer) x (g .1))
       (asked-lies n (courseIn (m .state)) h (withBad (m .state .bad - badAt h (m .marks)) (m .state)) (m .buffer) (putSector h (m .buffer) (m .store)) (set (m .marks) h 0) l (g .0) refl e
@@ -85,7 +85,7 @@ load-lies Nowhere p (Sectors n) m l f g k z = absurd z
 load-lies (From i) p Buffer m l f g k z = absurd z
 load-lies (From i) p (Sectors zero) m l f g k z = absurd (omega (arith, k .1))
 load-lies (From i) p (Sectors (suc n)) m l f g k z =
-    rw (sector-test (here (m .state)) (m .state) (m .marks) (k .0), sub-one (suc n))
+    rw (sector-test (spotOn (courseIn (m .state)) (here (m .state))) (m .state) (m .marks) (k .0), sub-one (suc n))
     (marked-lies i p (writable (getD (m .marks) (here (m .state)) 0)) n (here (m .state)) m l (here-inside (m .state) (g .0) (k .0)) f g (k .0) z)
 
 load-more : (g : Target) (p : Plain) (a : Load) (h w : ℕ) (b o : List ℕ) (q : StoreMarks) (l : List ℕ) (x y : ℕ) → take (2 * (w + 1)) b ≡ take (2 * w) o ++ (x ∷ y ∷ []) →

@@ -53,6 +53,7 @@ end-rests End.Good = refl
 end-rests End.BadHeadOrSector = refl
 end-rests End.BadCylinder = refl
 end-rests End.BadLba = refl
+end-rests End.PastEnd = refl
 end-rests End.Unreadable = refl
 end-rests End.WriteFault = refl
 end-rests End.BadGeometry = refl

@@ -4,6 +4,7 @@ use mathlib.Core.Path.{_≡_, refl, _∙_}
 use mathlib.Core.List.{List}
 use lib.ListN.{length, length-replicate}
 use Rattle.ground.specs.Left.{Left, leaving}
+use Rattle.ground.proofs.Picks.{pick-elim}
 use Rattle.sectors.specs.Sectors.{StoreMarks, storeMarks}
 use Rattle.registers.specs.declared.Made.{Made}
 use Rattle.registers.specs.declared.State.{State}
@@ -14,9 +15,9 @@ use Rattle.transfers.specs.declared.Tested.{Tested}
 use Rattle.transfers.specs.declared.Tested.the-variants.{Passes, Fails}
 use Rattle.transfers.specs.Ends.{ended}
 use Rattle.transfers.specs.declared.Way.the-variants.{In}
-use Rattle.transfers.specs.Before.{sectorTest, sectorStored, storedBy}
+use Rattle.transfers.specs.Before.{pastEnd, sectorTest, sectorStored, storedBy}
 use Rattle.transfers.specs.Steps.{sectorDone}
-use Rattle.commands.specs.Sweeps.{unlessFailed, verifyFrom, allFF, eraseFrom}
+use Rattle.commands.specs.Sweeps.{unlessFailed, verifyFrom, verifyRun, allFF, eraseFrom, eraseRun}
 use Rattle.kept.proofs.Registers.{CoreFits}
 use Rattle.kept.proofs.Ends.{Fine, ended-left, done-fine}
 use Rattle.kept.proofs.Steps.{sector-stored, lower-fine}
@@ -33,31 +34,38 @@ unless-elim P (Passes spot) end s rest f g = g
 unless-elim P (Fails e) end s rest f g = f e
 
 -- what each sector and each end keep, Verify keeps
-pub verify-elim : (I : State → Type 0) (P : Core → Type 0) → ((n : ℕ) (s : State) → I s → I (sectorDone n s)) → ((e : End) (s : State) → I s → P (ended e s)) →
-    (n : ℕ) (s : State) (marks : List ℕ) → I s → P (verifyFrom n s marks)
-unfolding verifyFrom
-verify-elim I P f g zero s marks h = g End.Good s h
-verify-elim I P f g (suc n) s marks h =
-    unless-elim P (sectorTest In s marks) (λ k. k) s (verifyFrom n (sectorDone n s) marks) (λ e. g e s h) (verify-elim I P f g n (sectorDone n s) marks (f n s h))
+module _ (I : State → Type 0) (P : Core → Type 0) (f : (n : ℕ) (s : State) → I s → I (sectorDone n s)) (g : (e : End) (s : State) → I s → P (ended e s)) where
+  verify-from : (n : ℕ) (s : State) (marks : List ℕ) → I s → P (verifyFrom n s marks)
+  unfolding verifyFrom
+  verify-from zero s marks h = g End.Good s h
+  verify-from (suc n) s marks h =
+      unless-elim P (sectorTest In s marks) (λ k. k) s (verifyFrom n (sectorDone n s) marks) (λ e. g e s h) (verify-from n (sectorDone n s) marks (f n s h))
+
+  pub verify-elim : (n : ℕ) (s : State) (marks : List ℕ) → I s → P (verifyRun n s marks)
+  unfolding verifyRun
+  verify-elim n s marks h = pick-elim P (pastEnd n s) _ _ (λ e. g End.PastEnd s h) (λ e. verify-from n s marks h)
 
 -- … and Erase, with the store, the marks and the number of bad sectors
-pub erase-elim : (I : State → List ℕ → List ℕ → Type 0) (P : Left Core StoreMarks → Type 0) →
-    ((s : State) (store marks : List ℕ) → I s store marks →
-    let k = sectorStored s allFF store marks .next in I (withBad (k .bad) s) (k .store) (k .marks)) →
-    ((n : ℕ) (s : State) (store marks : List ℕ) → I s store marks → I (sectorDone n s) store marks) →
-    ((e : End) (s : State) (store marks : List ℕ) → I s store marks → P (leaving (ended e s) (storeMarks store marks (s .bad)))) →
-    (n : ℕ) (s : State) (store marks : List ℕ) → I s store marks → P (eraseFrom n s store marks)
-unfolding eraseFrom
-erase-elim I P w f g zero s store marks h = g End.Good s store marks h
-erase-elim I P w f g (suc n) s store marks h =
-    let k = sectorStored s allFF store marks in
-    let t = withBad (k .next .bad) s in
-    let i = w s store marks h in
-    unless-elim P (k .outcome) (λ c. leaving c (k .next)) t (eraseFrom n (sectorDone n t) (k .next .store) (k .next .marks))
-    (λ e. g e t (k .next .store) (k .next .marks) i)
-    (erase-elim I P w f g n (sectorDone n t) (k .next .store) (k .next .marks) (f n t (k .next .store) (k .next .marks) i))
+module _ (I : State → List ℕ → List ℕ → Type 0) (P : Left Core StoreMarks → Type 0)
+    (w : (s : State) (store marks : List ℕ) → I s store marks → let k = sectorStored s allFF store marks .next in I (withBad (k .bad) s) (k .store) (k .marks))
+    (f : (n : ℕ) (s : State) (store marks : List ℕ) → I s store marks → I (sectorDone n s) store marks)
+    (g : (e : End) (s : State) (store marks : List ℕ) → I s store marks → P (leaving (ended e s) (storeMarks store marks (s .bad)))) where
+  erase-from : (n : ℕ) (s : State) (store marks : List ℕ) → I s store marks → P (eraseFrom n s store marks)
+  unfolding eraseFrom
+  erase-from zero s store marks h = g End.Good s store marks h
+  erase-from (suc n) s store marks h =
+      let k = sectorStored s allFF store marks in
+      let t = withBad (k .next .bad) s in
+      let i = w s store marks h in
+      unless-elim P (k .outcome) (λ c. leaving c (k .next)) t (eraseFrom n (sectorDone n t) (k .next .store) (k .next .marks))
+      (λ e. g e t (k .next .store) (k .next .marks) i)
+      (erase-from n (sectorDone n t) (k .next .store) (k .next .marks) (f n t (k .next .store) (k .next .marks) i))
 
-pub verify-left : (n : ℕ) (d : Made) (s : State) (marks : List ℕ) → Fine d s → CoreFits d (verifyFrom n s marks)
+  pub erase-elim : (n : ℕ) (s : State) (store marks : List ℕ) → I s store marks → P (eraseRun n s store marks)
+  unfolding eraseRun
+  erase-elim n s store marks h = pick-elim P (pastEnd n s) _ _ (λ e. g End.PastEnd s store marks h) (λ e. erase-from n s store marks h)
+
+pub verify-left : (n : ℕ) (d : Made) (s : State) (marks : List ℕ) → Fine d s → CoreFits d (verifyRun n s marks)
 verify-left n d = verify-elim (Fine d) (CoreFits d) (λ n s f. done-fine n d s f) (λ e s f. ended-left e d s f) n
 
 -- what Erase leaves
@@ -68,7 +76,7 @@ pub all-FF-length : length allFF ≡ 512
 unfolding allFF
 all-FF-length = length-replicate {A = ℕ} 512 0xFF
 
-pub erase-left : (n : ℕ) (d : Made) (s : State) (store marks : List ℕ) → Fine d s → Blanked d store marks (eraseFrom n s store marks)
+pub erase-left : (n : ℕ) (d : Made) (s : State) (store marks : List ℕ) → Fine d s → Blanked d store marks (eraseRun n s store marks)
 erase-left n d s store marks f =
     erase-elim (λ (x : State) (st mk : List ℕ). Fine d x × (length st ≡ length store) × (length mk ≡ length marks)) (Blanked d store marks)
     (λ x st mk h. let w = sector-stored x allFF st mk all-FF-length in (lower-fine d x allFF st mk (h .0), w .0 ∙ h .1, w .1 ∙ h .2))

@@ -28,7 +28,7 @@ use Rattle.transfers.specs.declared.Way.the-variants.{In}
 use Rattle.transfers.specs.Before.{sectorTest}
 use Rattle.transfers.specs.Steps.{idleWith, sectorDone, readTested, readSector, nextRead, loadRead, allMoved}
 use Rattle.port.specs.Data.{Effect, accepted, phaseWritten, dataWritten}
-use Rattle.commands.specs.Sweeps.{eraseFrom}
+use Rattle.commands.specs.Sweeps.{eraseRun}
 use Rattle.commands.specs.Table.{countOf, commandOf, started, dropped, obeyed, commandGiven}
 use Rattle.card.specs.declared.Meaning.{Meaning}
 use Rattle.card.specs.declared.Meaning.the-variants.{TupleByte, ReadOption, WriteOption, ReadRegister, WriteRegister, ReadData, WriteData}
@@ -96,7 +96,7 @@ obeys Write m = let s = started (dropped m .state) in kept m (same-number (ask-s
 obeys Verify m = let s = started (dropped m .state) in kept m (same-number (verified (countOf s) s (m .marks)))
 obeys Erase m =
     let s = started (dropped m .state) in
-    let e = eraseFrom (countOf s) s (m .store) (m .marks) in
+    let e = eraseRun (countOf s) s (m .store) (m .marks) in
     ap (storeMarks (e .next .store) (e .next .marks)) (same-number (erased (countOf s) s (m .store) (m .marks))) ∙ erase-kept (countOf s) s (m .store) (m .marks)
 obeys Identify m = refl
 obeys ReadBuffer m = refl

@@ -28,6 +28,7 @@ use Rattle.port.specs.declared.Fill.the-variants.{Begun, Full}
 use Rattle.port.specs.declared.Take.{Take}
 use Rattle.commands.specs.declared.Command.{Command}
 use Rattle.commands.specs.declared.Command.the-variants.{Read, Write, Verify, Erase, Identify, ReadBuffer, WriteBuffer, SetGeometry, Diagnose, Recalibrate, Seek, Sense, Other}
+use Rattle.transfers.specs.Before.{runPast}
 use Rattle.port.specs.Halves.{takeOf, withPart}
 use Rattle.commands.specs.Table.{commandOf}
 use Rattle.card.specs.declared.Meaning.{Meaning}
@@ -36,7 +37,7 @@ use Rattle.card.specs.Access.{Asked, meaning}
 use Rattle.card.specs.Perform.{perform}
 use Rattle.card.specs.Step.{step}
 use Rattle.kept.specs.Lent.{storeMarksIn}
-use Rattle.laws.specs.Changes.{Change, changed, sectorChanges, erasures, commandChanges, registerChanges, loadChanges, takenChanges, phaseChanges, changes}
+use Rattle.laws.specs.Changes.{Change, changed, sectorChanges, erasures, runErasures, commandChanges, registerChanges, loadChanges, takenChanges, phaseChanges, changes}
 use Rattle.laws.specs.MayChange.{erases, erasesBy, mayChange}
 use Rattle.laws.proofs.BySectors.{meant-sectors}
 
@@ -119,7 +120,11 @@ unfolding changes
 one-sector m port v = pick-elim (AtMost 1) (m .state .control .held) _ _ (λ e. omega arith) (λ e. phase-one (m .phase) port v m)
 
 -- C0H at most as many as Count asks for
-pub erasures-few : (n : ℕ) (a : Address) (g : Geometry) (total : ℕ) (marks : List ℕ) → length (erasures n a g total marks) ≤ n
+sweep-few : (n : ℕ) (a : Address) (g : Geometry) (total : ℕ) (marks : List ℕ) → AtMost n (erasures n a g total marks)
 unfolding erasures
-erasures-few zero a g total marks = omega arith
-erasures-few (suc n) a g total marks = sector-one (locate a g total) marks (replicate 512 0xFF) (erasures n (nextOf a g) g total marks) n (erasures-few n (nextOf a g) g total marks)
+sweep-few zero a g total marks = omega arith
+sweep-few (suc n) a g total marks = sector-one (locate a g total) marks (replicate 512 0xFF) (erasures n (nextOf a g) g total marks) n (sweep-few n (nextOf a g) g total marks)
+
+pub erasures-few : (n : ℕ) (a : Address) (g : Geometry) (total : ℕ) (marks : List ℕ) → length (runErasures n a g total marks) ≤ n
+unfolding runErasures
+erasures-few n a g total marks = pick-elim (AtMost n) (runPast n (locate a g total)) _ _ (λ e. omega arith) (λ e. sweep-few n a g total marks)

@@ -27,6 +27,7 @@ use Rattle.registers.specs.declared.State.{State}
 use Rattle.registers.specs.State.{totalIn, locatedIn}
 use Rattle.registers.specs.Machine.{Machine}
 use Rattle.registers.specs.WellMade.{wellMade}
+use Rattle.transfers.specs.Before.{runPast}
 use Rattle.port.specs.declared.Fill.the-variants.{Begun, Full}
 use Rattle.port.specs.declared.Take.{Take}
 use Rattle.commands.specs.declared.Command.{Command}
@@ -39,7 +40,7 @@ use Rattle.card.specs.Access.{Asked, decided, meaning}
 use Rattle.kept.proofs.Registers.{apart}
 use Rattle.kept.proofs.Decided.{meaning-elim}
 use Rattle.kept.proofs.Lent.{part-length}
-use Rattle.laws.specs.Changes.{Change, WholeSectors, sectorChanges, erasures, commandChanges, registerChanges, loadChanges, takenChanges, phaseChanges, changes}
+use Rattle.laws.specs.Changes.{Change, WholeSectors, sectorChanges, erasures, runErasures, commandChanges, registerChanges, loadChanges, takenChanges, phaseChanges, changes}
 
 sector-whole : (l : Located) (total : ℕ) (marks bytes : List ℕ) (rest : List Change) → ((p : Spot) → l ≡ Located.Good p → p .index < total) → length bytes ≡ 512 →
     WholeSectors total rest → WholeSectors total (sectorChanges l marks bytes rest)
@@ -55,11 +56,15 @@ erasures-whole (suc n) a g total marks c =
     sector-whole (locate a g total) total marks (replicate 512 0xFF) (erasures n (nextOf a g) g total marks)
     (λ p e. inside a g total p c e) (length-replicate {A = ℕ} 512 0xFF) (erasures-whole n (nextOf a g) g total marks c)
 
+run-whole : (n : ℕ) (a : Address) (g : Geometry) (total : ℕ) (marks : List ℕ) → currentFor g total ≡ true → WholeSectors total (runErasures n a g total marks)
+unfolding runErasures
+run-whole n a g total marks c = pick-elim (WholeSectors total) (runPast n (locate a g total)) _ _ (λ e. tt) (λ e. erasures-whole n a g total marks c)
+
 of-command : (c : Command) (s : State) (marks : List ℕ) → currentFor (s .current) (totalIn s) ≡ true → WholeSectors (totalIn s) (commandChanges c s marks)
 of-command Read s marks c = tt
 of-command Write s marks c = tt
 of-command Verify s marks c = tt
-of-command Erase s marks c = erasures-whole (countOf s) (s .registers .address) (s .current) (totalIn s) marks c
+of-command Erase s marks c = run-whole (countOf s) (s .registers .address) (s .current) (totalIn s) marks c
 of-command Identify s marks c = tt
 of-command ReadBuffer s marks c = tt
 of-command WriteBuffer s marks c = tt

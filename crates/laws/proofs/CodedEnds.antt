@@ -21,7 +21,7 @@ use Rattle.registers.specs.Machine.{Machine}
 use Rattle.transfers.specs.declared.Order.{Order}
 use Rattle.transfers.specs.declared.Order.the-variants.{First, Later}
 use Rattle.transfers.specs.declared.End.{End}
-use Rattle.transfers.specs.declared.End.the-variants.{Good, BadHeadOrSector, BadCylinder, BadLba, Unreadable, WriteFault, BadGeometry, NoSuchCommand}
+use Rattle.transfers.specs.declared.End.the-variants.{Good, BadHeadOrSector, BadCylinder, BadLba, PastEnd, Unreadable, WriteFault, BadGeometry, NoSuchCommand}
 use Rattle.transfers.specs.declared.Tested.{Tested}
 use Rattle.transfers.specs.declared.Tested.the-variants.{Passes, Fails}
 use Rattle.commands.specs.declared.Command.{Command}
@@ -30,7 +30,7 @@ use Rattle.transfers.specs.Ends.{endStatus, endCode}
 use Rattle.transfers.specs.declared.Way.the-variants.{In}
 use Rattle.transfers.specs.Before.{sectorTest, addressTest, sectorStored}
 use Rattle.transfers.specs.Steps.{readTested, readSector, nextRead, loadRead, askTested, askSector, nextAsked, coreWritten, loadWritten}
-use Rattle.commands.specs.Sweeps.{verifyFrom, eraseFrom}
+use Rattle.commands.specs.Sweeps.{verifyRun, eraseRun}
 use Rattle.commands.specs.Table.{obeyed, reshapedEnded, soughtEnd, commandOf, started, dropped, commandGiven}
 use Rattle.kept.proofs.Sweeps.{verify-elim, erase-elim}
 use Rattle.laws.specs.Coded.{inError, Coded}
@@ -41,6 +41,7 @@ end-coded Good code p = absurd (false≢true p)
 end-coded BadHeadOrSector code p = eqb-false 0x21 0 refl
 end-coded BadCylinder code p = eqb-false 0x2F 0 refl
 end-coded BadLba code p = eqb-false 0x2F 0 refl
+end-coded PastEnd code p = eqb-false 0x2F 0 refl
 end-coded Unreadable code p = eqb-false 0x11 0 refl
 end-coded WriteFault code p = eqb-false 0x03 0 refl
 end-coded BadGeometry code p = eqb-false 0x21 0 refl
@@ -93,10 +94,10 @@ load-written (Sectors left) m =
 
 -- ---- Verify and Erase
 
-verified : (n : ℕ) (s : State) (marks : List ℕ) → Coded (verifyFrom n s marks .state)
+verified : (n : ℕ) (s : State) (marks : List ℕ) → Coded (verifyRun n s marks .state)
 verified n s marks = verify-elim (λ (x : State). Unit {0}) (λ (k : Core). Coded (k .state)) (λ n s u. tt) (λ e s u. end-coded e _) n s marks tt
 
-erased : (n : ℕ) (s : State) (store marks : List ℕ) → Coded (eraseFrom n s store marks .outcome .state)
+erased : (n : ℕ) (s : State) (store marks : List ℕ) → Coded (eraseRun n s store marks .outcome .state)
 erased n s store marks =
     erase-elim (λ (x : State) (st mk : List ℕ). Unit {0}) (λ (k : Left Core StoreMarks). Coded (k .outcome .state)) (λ s st mk u. tt) (λ n s st mk u. tt) (λ e s st mk u. end-coded e _) n s store marks tt
 

@@ -10,19 +10,22 @@ use lib.Seq.{getD-set-same, getD-set-other}
 use borrow.Author.Tests.{ltb-true, eqb-true, eqb-false, ne-eqb}
 use Rattle.ground.specs.Choice.{pick}
 use Rattle.ground.proofs.Picks.{pick-elim}
+use Rattle.ground.specs.Left.{Left, leaving}
 use Rattle.geometry.specs.declared.Spot.{Spot}
 use Rattle.geometry.specs.declared.Located.{Located}
 use Rattle.geometry.specs.Next.{nextOf}
 use Rattle.sectors.specs.Marks.{writable}
 use Rattle.sectors.specs.Sectors.{StoreMarks, storeMarks, stored}
 use Rattle.registers.specs.declared.State.{State}
+use Rattle.registers.specs.declared.Core.{Core}
 use Rattle.registers.specs.State.{withBad, totalIn, locatedIn}
-use Rattle.transfers.specs.declared.End.the-variants.{WriteFault}
+use Rattle.transfers.specs.declared.End.the-variants.{PastEnd, WriteFault}
+use Rattle.transfers.specs.Ends.{ended}
 use Rattle.transfers.specs.declared.Tested.the-variants.{Passes, Fails}
-use Rattle.transfers.specs.Before.{testedOf, addressTest, markTested, sectorTest, sectorStored}
+use Rattle.transfers.specs.Before.{testedOf, addressTest, markTested, sectorTest, sectorStored, runPast, pastEnd}
 use Rattle.transfers.specs.Steps.{sectorDone}
-use Rattle.commands.specs.Sweeps.{allFF, eraseFrom}
-use Rattle.laws.specs.Changes.{Change, changed, sectorChanges, erasures}
+use Rattle.commands.specs.Sweeps.{allFF, eraseFrom, eraseRun}
+use Rattle.laws.specs.Changes.{Change, changed, sectorChanges, erasures, runErasures}
 use Rattle.kept.proofs.Sweeps.{erasesOn}
 use Rattle.laws.proofs.SettingsKept.{same-number, done}
 
@@ -94,6 +97,16 @@ erased-sectors (suc n) s store marks marks0 h =
     by-address (locatedIn s) n s store marks marks0 (erasures n (nextOf (s .registers .address) (s .current)) (s .current) (totalIn s) marks0) h
     (λ k g. let t = withBad (k .bad) s in subst (λ (r : List Change). Rest n (sectorDone n t) r (k .store) (k .marks)) (next-address n t marks0) (erased-sectors n (sectorDone n t) (k .store) (k .marks) marks0 g))
 
+-- ---- the run
+
+by-room : (past : Bool) (s : State) (k : StoreMarks) (rest : Left Core StoreMarks) (l : List Change) → rest .next ≡ changed l k →
+    pick past (leaving (ended PastEnd s) k) rest .next ≡ changed (pick past [] l) k
+unfolding changed
+by-room true s k rest l e = refl
+by-room false s k rest l e = e
+
 pub erase-kept : (n : ℕ) (s : State) (store marks : List ℕ) →
-    eraseFrom n s store marks .next ≡ changed (erasures n (s .registers .address) (s .current) (totalIn s) marks) (storeMarks store marks (s .bad))
-erase-kept n s store marks = erased-sectors n s store marks marks (λ j. refl)
+    eraseRun n s store marks .next ≡ changed (runErasures n (s .registers .address) (s .current) (totalIn s) marks) (storeMarks store marks (s .bad))
+unfolding eraseRun pastEnd runErasures
+erase-kept n s store marks =
+    by-room (runPast n (locatedIn s)) s (storeMarks store marks (s .bad)) (eraseFrom n s store marks) (erasuresIn n s marks) (erased-sectors n s store marks marks (λ j. refl))

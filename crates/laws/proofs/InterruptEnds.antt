@@ -16,7 +16,7 @@ use Rattle.registers.specs.State.{totalIn}
 use Rattle.registers.specs.Machine.{Machine}
 use Rattle.transfers.specs.declared.Order.the-variants.{First}
 use Rattle.transfers.specs.declared.End.{End}
-use Rattle.transfers.specs.declared.End.the-variants.{Good, BadHeadOrSector, BadCylinder, BadLba, Unreadable, WriteFault, BadGeometry, NoSuchCommand}
+use Rattle.transfers.specs.declared.End.the-variants.{Good, BadHeadOrSector, BadCylinder, BadLba, PastEnd, Unreadable, WriteFault, BadGeometry, NoSuchCommand}
 use Rattle.transfers.specs.declared.Tested.{Tested}
 use Rattle.transfers.specs.declared.Tested.the-variants.{Passes, Fails}
 use Rattle.commands.specs.declared.Command.{Command}
@@ -25,7 +25,7 @@ use Rattle.transfers.specs.Ends.{endStatus}
 use Rattle.transfers.specs.declared.Way.the-variants.{In}
 use Rattle.transfers.specs.Before.{sectorTest, addressTest}
 use Rattle.transfers.specs.Steps.{readTested, readSector, askTested, askSector}
-use Rattle.commands.specs.Sweeps.{verifyFrom, eraseFrom}
+use Rattle.commands.specs.Sweeps.{verifyRun, eraseRun}
 use Rattle.commands.specs.Table.{countOf, soughtEnd, reshapedEnded, started, dropped, commandOf, obeyed, commandGiven}
 use Rattle.kept.proofs.Sweeps.{verify-elim, erase-elim}
 use Rattle.laws.specs.Interrupt.{drqSet, InterruptRule}
@@ -38,6 +38,7 @@ end-drq Good = refl
 end-drq BadHeadOrSector = refl
 end-drq BadCylinder = refl
 end-drq BadLba = refl
+end-drq PastEnd = refl
 end-drq Unreadable = refl
 end-drq WriteFault = refl
 end-drq BadGeometry = refl
@@ -47,10 +48,10 @@ end-drq NoSuchCommand = refl
 abbrev Over : State → Type 0
 Over n = (n .interrupt ≡ true) × (drqSet n ≡ false)
 
-verified : (n : ℕ) (s : State) (marks : List ℕ) → Over (verifyFrom n s marks .state)
+verified : (n : ℕ) (s : State) (marks : List ℕ) → Over (verifyRun n s marks .state)
 verified n s marks = verify-elim (λ (x : State). Unit {0}) (λ (k : Core). Over (k .state)) (λ n s u. tt) (λ e s u. (refl, end-drq e)) n s marks tt
 
-erased : (n : ℕ) (s : State) (store marks : List ℕ) → Over (eraseFrom n s store marks .outcome .state)
+erased : (n : ℕ) (s : State) (store marks : List ℕ) → Over (eraseRun n s store marks .outcome .state)
 erased n s store marks =
     erase-elim (λ (x : State) (st mk : List ℕ). Unit {0}) (λ (k : Left Core StoreMarks). Over (k .outcome .state)) (λ s st mk u. tt) (λ n s st mk u. tt) (λ e s st mk u. (refl, end-drq e)) n s store marks tt
 

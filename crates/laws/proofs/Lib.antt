@@ -15,6 +15,7 @@ pub mod WrittenSectors
 pub mod BySectors
 pub mod ChangesFew
 pub mod ChangesWhole
+pub mod PastEnd
 pub mod Codes
 pub mod OptionIsAccess
 pub mod ControlIsAccess

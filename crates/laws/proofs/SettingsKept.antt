@@ -25,7 +25,7 @@ use Rattle.transfers.specs.Before.{addressTest, sectorTest, sectorStored}
 use Rattle.transfers.specs.Steps.{idleWith, sectorDone, readTested, readSector, nextRead, loadRead, askTested, askSector, nextAsked, coreWritten, loadWritten}
 use Rattle.commands.specs.declared.Command.{Command}
 use Rattle.commands.specs.declared.Command.the-variants.{Read, Write, Verify, Erase, Identify, ReadBuffer, WriteBuffer, SetGeometry, Diagnose, Recalibrate, Seek, Sense, Other}
-use Rattle.commands.specs.Sweeps.{verifyFrom, eraseFrom}
+use Rattle.commands.specs.Sweeps.{verifyRun, eraseRun}
 use Rattle.commands.specs.Table.{commandOf, countOf, obeyed, reshapedEnded, started, dropped, commandGiven}
 use Rattle.card.specs.Perform.{plainCore}
 use Rattle.kept.proofs.RegisterElim.{set-elim, plain-elim}
@@ -103,11 +103,11 @@ load-written (Sectors left) m = same-settings (sector-written left m)
 
 -- ---- the command table
 
-pub verified : (n : ℕ) (s : State) (marks : List ℕ) → steadyOf (verifyFrom n s marks .state) ≡ steadyOf s
+pub verified : (n : ℕ) (s : State) (marks : List ℕ) → steadyOf (verifyRun n s marks .state) ≡ steadyOf s
 verified n s marks = verify-elim (λ (x : State). steadyOf x ≡ steadyOf s) (λ (k : Core). steadyOf (k .state) ≡ steadyOf s) (λ n x h. done n x ∙ h) (λ e x h. h) n s marks refl
 
 -- with the number that it leaves
-pub erased : (n : ℕ) (s : State) (store marks : List ℕ) → let e = eraseFrom n s store marks in steadyOf (e .outcome .state) ≡ steadyOf (withBad (e .next .bad) s)
+pub erased : (n : ℕ) (s : State) (store marks : List ℕ) → let e = eraseRun n s store marks in steadyOf (e .outcome .state) ≡ steadyOf (withBad (e .next .bad) s)
 erased n s store marks =
     erase-elim (λ (x : State) (st mk : List ℕ). settingsOf x ≡ settingsOf s) (λ (k : Left Core StoreMarks). steadyOf (k .outcome .state) ≡ steadyOf (withBad (k .next .bad) s))
     (λ x st mk h. h) (λ n x st mk h. same-settings (done n x) ∙ h) (λ e x st mk h. ap (λ (k : Settings). record { settings = k; bad = x .bad }) h) n s store marks refl

@@ -1,5 +1,5 @@
 -- The sectors that an access changes, whole. 01, "Commands": "a sector is stored, and its mark set to 0, at its last byte only; mark 2: ABRT and DWF";
--- C0H "as write, storing FFH (H), no data".
+-- C0H "as write, storing FFH (H), no data"; 02, "Six": "a run past the end ends before its first sector".
 use Prim.Native.Nat.{ℕ, zero, suc, _<_}
 use mathlib.Core.Path.{_≡_}
 use mathlib.Core.List.{List, [], _∷_}
@@ -25,6 +25,7 @@ use Rattle.registers.specs.declared.Phase.the-variants.{Idle, DataIn, DataOut}
 use Rattle.registers.specs.declared.State.{State}
 use Rattle.registers.specs.State.{totalIn, locatedIn}
 use Rattle.registers.specs.Machine.{Machine}
+use Rattle.transfers.specs.Before.{runPast}
 use Rattle.port.specs.declared.Fill.the-variants.{Begun, Full}
 use Rattle.port.specs.declared.Take.{Take}
 use Rattle.commands.specs.declared.Command.{Command}
@@ -68,11 +69,15 @@ unfoldable pub erasures : ℕ → Address → Geometry → ℕ → List ℕ → 
 erasures zero a g total marks = []
 erasures (suc n) a g total marks = sectorChanges (locate a g total) marks (replicate bytesInSector 0xFF) (erasures n (nextOf a g) g total marks)
 
+-- 02, "Six": none of a run that is past the end
+unfoldable pub runErasures : ℕ → Address → Geometry → ℕ → List ℕ → List Change
+runErasures n a g total marks = pick (runPast n (locate a g total)) [] (erasures n a g total marks)
+
 abbrev pub commandChanges : Command → State → List ℕ → List Change
 commandChanges Read s marks = []
 commandChanges Write s marks = []
 commandChanges Verify s marks = []
-commandChanges Erase s marks = erasures (countOf s) (s .registers .address) (s .current) (totalIn s) marks
+commandChanges Erase s marks = runErasures (countOf s) (s .registers .address) (s .current) (totalIn s) marks
 commandChanges Identify s marks = []
 commandChanges ReadBuffer s marks = []
 commandChanges WriteBuffer s marks = []

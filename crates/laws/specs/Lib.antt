@@ -5,6 +5,7 @@ pub mod Interrupt
 pub mod Line
 pub mod Changes
 pub mod MayChange
+pub mod Runs
 pub mod DoorAccesses
 pub mod Bits
 pub mod Lent

@@ -58,9 +58,9 @@ pub enum Phase {
 }
 
 pub struct Registers {
+    pub error: u8,
     pub count: u8,
     pub status: u8,
-    pub error: u8,
     pub address: Address,
 }
 
@@ -81,8 +81,8 @@ pub struct State {
     pub control: Control,
     pub bad: u16, // 02, "Eight": the number of marks that are not 0
     pub interrupt: bool,
-    pub made: Made,
     pub code: u8,
+    pub made: Made,
     pub current: Geometry,
     pub option: u8,
     pub registers: Registers,

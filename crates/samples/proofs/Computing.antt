@@ -1,7 +1,7 @@
 -- All that a sample computes with, crate by crate, under one name: to unfold `computing` is to unfold all that it names.
 use Rattle.ground.specs.Choice.{every}
 use Rattle.geometry.specs.Limits.{fits, totalOf, currentFor}
-use Rattle.geometry.specs.Address.{byLba, locateLba, locateChs, locate, seek}
+use Rattle.geometry.specs.Address.{byLba, roomOf, locateLba, locateChs, locate, seek}
 use Rattle.geometry.specs.Next.{nextChs, nextOf}
 use Rattle.geometry.specs.Shape.{reshaped}
 use Rattle.maps.specs.Spaces.{cardAnswers, answersAt}
@@ -15,9 +15,9 @@ use Rattle.identify.specs.Words.{identifyWord, identifyByte, toldBytes, identif
 use Rattle.registers.specs.WellMade.{indexFits, sresetFits, atRest, statusFits, inReset, holdFits, wordsFit, sectorsFit, loadFits, runFits, badFits, wellMade}
 use Rattle.registers.specs.Resets.{turnOf, optionTurned, bufferTurned, controlTurned}
 use Rattle.registers.specs.Values.{valueRead, afterRead, registerSet}
-use Rattle.transfers.specs.Before.{addressTest, sectorTest, sectorStored}
+use Rattle.transfers.specs.Before.{addressTest, pastEnd, sectorTest, sectorStored}
 use Rattle.transfers.specs.Steps.{sectorDone, readSector, nextRead, askSector, nextAsked}
-use Rattle.commands.specs.Sweeps.{verifyFrom, eraseFrom, allFF}
+use Rattle.commands.specs.Sweeps.{verifyFrom, verifyRun, eraseFrom, eraseRun, allFF}
 use Rattle.port.specs.Halves.{takeOf}
 use Rattle.port.specs.Data.{wordRead, dataRead, wordWritten, dataWritten}
 use Rattle.commands.specs.Table.{commandOf, countOf, commandGiven}
@@ -35,13 +35,13 @@ use Rattle.samples.specs.List.{sample1, sample2, sample3, sample4, sampl
 use Rattle.samples.specs.Passes.{reader, sameEntries, readsAs, holdsOf, allOf, passes}
 
 unfoldable pub computing : Unit {0}
-unfolding every fits totalOf currentFor locate locateChs locateLba byLba seek reshaped nextOf nextChs
+unfolding every fits totalOf currentFor locate locateChs locateLba byLba roomOf seek reshaped nextOf nextChs
     answersAt cardAnswers placeAt mapPlace attributePlace registerPlace misfits aboveThree offsetAt memoryAt ioAt windowAt
     wellMade runFits loadFits sectorsFit wordsFit holdFits inReset statusFits atRest sresetFits indexFits badFits
     valueRead afterRead registerSet turnOf optionTurned bufferTurned controlTurned zeros
     stored withSector sectorOf bufferRead readable writable marksFit badIn lowered
-    readSector nextRead askSector nextAsked sectorDone sectorTest addressTest sectorStored
-    countOf commandOf commandGiven verifyFrom eraseFrom allFF
+    readSector nextRead askSector nextAsked sectorDone sectorTest pastEnd addressTest sectorStored
+    countOf commandOf commandGiven verifyRun verifyFrom eraseRun eraseFrom allFF
     identifyBytes toldBytes identifyByte identifyWord withIntegrity givingZero integrityHigh sumOf
     dataRead dataWritten wordRead wordWritten takeOf
     opened step meaning heldAway perform optionWritten registerWritten plainCore

@@ -35,20 +35,20 @@ pub makes-up-count-6 : (n : ℕ) → holdsOf (makesUpCount n) reader sample6 ≡
 unfolding computing makesUpCount
 makes-up-count-6 n = and-true (eqb n 1)
 
-pub makes-up-count-7 : (n : ℕ) → holdsOf (makesUpCount n) reader sample7 ≡ eqb n 224
+pub makes-up-count-7 : (n : ℕ) → holdsOf (makesUpCount n) reader sample7 ≡ eqb n 0
 unfolding computing makesUpCount
-makes-up-count-7 n = and-true (eqb n 224)
+makes-up-count-7 n = and-true (eqb n 0)
 
 -- so any other fails it, by itself
 pub made-up-count-fails-6 : (n : ℕ) → (n ≡ 1 → ⊥) → holdsOf (makesUpCount n) reader sample6 ≡ false
 made-up-count-fails-6 n wrong = makes-up-count-6 n ∙ ne-eqb n 1 wrong
 
-pub made-up-count-fails-7 : (n : ℕ) → (n ≡ 224 → ⊥) → holdsOf (makesUpCount n) reader sample7 ≡ false
-made-up-count-fails-7 n wrong = makes-up-count-7 n ∙ ne-eqb n 224 wrong
+pub made-up-count-fails-7 : (n : ℕ) → (n ≡ 0 → ⊥) → holdsOf (makesUpCount n) reader sample7 ≡ false
+made-up-count-fails-7 n wrong = makes-up-count-7 n ∙ ne-eqb n 0 wrong
 
 -- and every made-up Count fails one of them
-apart : (n : ℕ) (b : Bool) → eqb n 1 ≡ b → (b && eqb n 224) ≡ false
-apart n true e = ap (λ (k : ℕ). eqb k 224) (eqb-true n 1 e)
+apart : (n : ℕ) (b : Bool) → eqb n 1 ≡ b → (b && eqb n 0) ≡ false
+apart n true e = ap (λ (k : ℕ). eqb k 0) (eqb-true n 1 e)
 apart n false e = refl
 
 pub makes-up-count : (n : ℕ) → (holdsOf (makesUpCount n) reader sample6 && holdsOf (makesUpCount n) reader sample7) ≡ false

@@ -1,7 +1,7 @@
 -- Cards with a fault in the address of a sector, and a sample that each fails by itself.
 use mathlib.Core.Bool.{false}
 use mathlib.Core.Path.{_≡_, refl}
-use Rattle.samples.specs.List.{sample1, sample2, sample3, sample4, sample5, sample6, sample7, sample8}
+use Rattle.samples.specs.List.{sample1, sample2, sample3, sample4, sample5, sample6, sample8}
 use Rattle.samples.specs.Passes.{reader, holdsOf}
 use Rattle.samples.specs.WrongAddresses.{oneTooFar, takesSectorZero, badCylinder21, cylinderFirst, fromSectorZero, pastEndAsZero, lbaBelowCurrent}
 use Rattle.samples.proofs.Computing.{computing}
@@ -38,10 +38,6 @@ past-end-as-zero-5 = refl
 pub past-end-as-zero-6 : holdsOf pastEndAsZero reader sample6 ≡ false
 unfolding computing pastEndAsZero fromSectorZero
 past-end-as-zero-6 = refl
-
-pub past-end-as-zero-7 : holdsOf pastEndAsZero reader sample7 ≡ false
-unfolding computing pastEndAsZero fromSectorZero
-past-end-as-zero-7 = refl
 
 -- LBA 30 is bad once current C·H·S is 30
 pub lba-below-current-8 : holdsOf lbaBelowCurrent reader sample8 ≡ false

@@ -3,7 +3,7 @@ use mathlib.Core.Bool.{false}
 use mathlib.Core.Path.{_≡_, refl}
 use Rattle.samples.specs.List.{sample2, sample7, sample8, sample9}
 use Rattle.samples.specs.Passes.{reader, holdsOf}
-use Rattle.samples.specs.WrongCommands.{clearsCode, zeroMeansNone, lowHalfFirst, integrityStays, ignores91H, takesHeads}
+use Rattle.samples.specs.WrongCommands.{clearsCode, zeroMeansNone, runNotTested, lowHalfFirst, integrityStays, ignores91H, takesHeads}
 use Rattle.samples.proofs.Computing.{computing}
 
 -- the second 03H says 00H
@@ -15,6 +15,11 @@ clears-code-2 = refl
 pub zero-means-none-7 : holdsOf zeroMeansNone reader sample7 ≡ false
 unfolding computing zeroMeansNone
 zero-means-none-7 = refl
+
+-- Count is 224 and the address LBA 32
+pub run-not-tested-7 : holdsOf runNotTested reader sample7 ≡ false
+unfolding computing runNotTested
+run-not-tested-7 = refl
 
 -- word 7 is 32
 pub low-half-first-8 : holdsOf lowHalfFirst reader sample8 ≡ false

@@ -41,9 +41,9 @@ sample5 = ide (lba 1 31 ++ (ends 0x40 0x50 0x00 0x00 ++ (erases 31 30 ++ (lba 1 
 unfoldable pub sample6 : Sample
 sample6 = ide (lba 3 30 ++ (put 7 0x20 ∷ (sector 30 ++ (sector 31 ++ (get 7 0x51 ∷ get 1 0x10 ∷ (shows 1 32 ++ coded 0x2F))))))
 
--- 7. Verify LBA 0, Count 0: ends at 32, Count 224.
+-- 7. Verify LBA 0, Count 0: 51H, 10H, 2FH, Count 0, LBA 0 (02, "Six"): of 256 sectors 32 remain.
 unfoldable pub sample7 : Sample
-sample7 = ide (lba 0 0 ++ (put 7 0x40 ∷ get 7 0x51 ∷ get 1 0x10 ∷ (shows 224 32 ++ coded 0x2F)))
+sample7 = ide (lba 0 0 ++ (put 7 0x40 ∷ get 7 0x51 ∷ get 1 0x10 ∷ (shows 0 0 ++ coded 0x2F)))
 
 -- Identify's words, of a card with current C 2, H 3, S 5: 57 and 58 are its capacity, 30; the bytes before the last add up to 2728, so that 58H is lacking
 unfoldable pub identified : List ℕ

@@ -9,9 +9,11 @@ use Rattle.geometry.specs.Shape.{geometryBy}
 use Rattle.registers.specs.declared.State.{State}
 use Rattle.registers.specs.Status.{errorStatus}
 use Rattle.registers.specs.State.{withCode, withCurrent, totalIn}
-use Rattle.registers.specs.Machine.{Machine, withBuffer}
+use Rattle.registers.specs.Machine.{Machine, withBuffer, withCore}
 use Rattle.maps.specs.Rows.{withValue}
 use Rattle.port.specs.Data.{Effect}
+use Rattle.commands.specs.Sweeps.{verifyFrom}
+use Rattle.commands.specs.Table.{started, countOf, dropped}
 use Rattle.card.specs.Access.{Asked, askedWith}
 use Rattle.card.specs.Step.{step}
 use Rattle.samples.specs.Kinds.{gives, givesSectors}
@@ -28,6 +30,13 @@ doesNothing m a = step m (askedWith (withValue 0x10 (a .access)) (a .tuples))
 -- "Count 0 means 256.": here none, and the command does nothing, as 1XH
 unfoldable pub zeroMeansNone : Machine → Asked → Effect
 zeroMeansNone m a = pick (givesSectors m a && eqb (m .state .registers .count) 0) (doesNothing m a) (step m a)
+
+-- 02, "Six": "a run past the end ends before its first sector": here Verify goes sector after sector up to the end, as 01 had it
+unfoldable pub runNotTested : Machine → Asked → Effect
+runNotTested m a =
+    let s = step m a in
+    let t = started (dropped m .state) in
+    pick (gives 0x40 m a) (withNext (withCore (verifyFrom (countOf t) t (m .marks)) m) s) s
 
 -- "Words 7 and 8 put low half first, as 57 and 58 are.": bytes 14, 15 and 16, 17 change places
 abbrev pub lowFirst : List ℕ → List ℕ

@@ -1,7 +1,8 @@
 -- 01, "Commands": "Address, then mark, is tested before each sector (a write's mark at its last byte)."
 use Prim.Native.Nat.{ℕ}
-use mathlib.Core.Bool.{Bool}
+use mathlib.Core.Bool.{Bool, false}
 use mathlib.Core.List.{List}
+use lib.Dec.{ltb}
 use lib.ListN.{getD}
 use Rattle.ground.specs.Choice.{pick}
 use Rattle.ground.specs.Left.{Left, leaving}
@@ -50,3 +51,14 @@ storedBy (Fails e) bytes k = leaving (Fails e) k
 
 unfoldable pub sectorStored : State → List ℕ → List ℕ → List ℕ → Left Tested StoreMarks
 sectorStored s bytes store marks = storedBy (sectorTest Out s marks) bytes (storeMarks store marks (s .bad))
+
+-- 02, "Six": a run of n sectors is past the end if more are asked for than remain from its start. "A bad start … ends it as before": it is the first
+-- sector's test that fails, and nothing remains from there.
+abbrev pub runPast : ℕ → Located → Bool
+runPast n (Located.Good spot) = ltb (spot .remain) n
+runPast n Located.BadHeadOrSector = false
+runPast n Located.BadCylinder = false
+runPast n Located.BadLba = false
+
+unfoldable pub pastEnd : ℕ → State → Bool
+pastEnd n s = runPast n (locatedIn s)

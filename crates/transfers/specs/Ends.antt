@@ -9,7 +9,7 @@ use Rattle.registers.specs.Status.{idleStatus, errorStatus, faultStatus, UNC, I
 use Rattle.registers.specs.State.{withStatus, withError, withCode, withInterrupt}
 use Rattle.registers.specs.Machine.{core}
 use Rattle.transfers.specs.declared.End.{End}
-use Rattle.transfers.specs.declared.End.the-variants.{Good, BadHeadOrSector, BadCylinder, BadLba, Unreadable, WriteFault, BadGeometry, NoSuchCommand}
+use Rattle.transfers.specs.declared.End.the-variants.{Good, BadHeadOrSector, BadCylinder, BadLba, PastEnd, Unreadable, WriteFault, BadGeometry, NoSuchCommand}
 
 -- Status: idle, write fault where a mark forbids writing ("ABRT and DWF"), else error
 abbrev pub endStatus : End → ℕ
@@ -17,17 +17,20 @@ endStatus Good = idleStatus
 endStatus BadHeadOrSector = errorStatus
 endStatus BadCylinder = errorStatus
 endStatus BadLba = errorStatus
+endStatus PastEnd = errorStatus
 endStatus Unreadable = errorStatus
 endStatus WriteFault = faultStatus
 endStatus BadGeometry = errorStatus
 endStatus NoSuchCommand = errorStatus
 
--- at a good end Error is as the command set it; a bad address: "Both are IDNF."
+-- at a good end Error is as the command set it; a bad address: "Both are IDNF."; and 02, "Six": "a run past the end ends before its first sector with
+-- IDNF, 2FH"
 abbrev pub endError : End → ℕ → ℕ
 endError Good error = error
 endError BadHeadOrSector error = IDNF
 endError BadCylinder error = IDNF
 endError BadLba error = IDNF
+endError PastEnd error = IDNF
 endError Unreadable error = UNC
 endError WriteFault error = ABRT
 endError BadGeometry error = ABRT
@@ -49,6 +52,7 @@ endCode Good code = code
 endCode BadHeadOrSector code = badHeadOrSectorCode
 endCode BadCylinder code = badCylinderOrLbaCode
 endCode BadLba code = badCylinderOrLbaCode
+endCode PastEnd code = badCylinderOrLbaCode
 endCode Unreadable code = unreadableCode
 endCode WriteFault code = writeFaultCode
 endCode BadGeometry code = badGeometryCode

@@ -1,4 +1,4 @@
-// The tests before a sector, and its storing.
+// The tests before a sector, whether a run of sectors is past the end, and the storing of a sector.
 use super::End;
 use super::Stored;
 use super::Tested;
@@ -9,7 +9,7 @@ use registers::State;
 ghost use mathlib.Core.Path.{_≡_};
 ghost use Rattle.ground.specs.Left.{leaving};
 ghost use Rattle.sectors.specs.Sectors.{storeMarks};
-ghost use Rattle.transfers.specs.Before.{addressTest, allows, markEnd, sectorTest, sectorStored};
+ghost use Rattle.transfers.specs.Before.{addressTest, pastEnd, allows, markEnd, sectorTest, sectorStored};
 
 pub(crate) fn address_test(state: State) -> Tested
     ensures { λ r. ⌜ r ≡ addressTest state ⌝ }
@@ -19,6 +19,18 @@ pub(crate) fn address_test(state: State) -> Tested
         Located::BadHeadOrSector => Tested::Fails(End::BadHeadOrSector),
         Located::BadCylinder => Tested::Fails(End::BadCylinder),
         Located::BadLba => Tested::Fails(End::BadLba),
+    }
+}
+
+// 02, "Six": whether a run of so many sectors, from a good start, is past the end.
+pub fn past_end(state: State, count: u16) -> bool
+    ensures { λ r. ⌜ r ≡ pastEnd count state ⌝ }
+{
+    match state.located() {
+        Located::Good(spot) => spot.remain < count as usize,
+        Located::BadHeadOrSector => false,
+        Located::BadCylinder => false,
+        Located::BadLba => false,
     }
 }
 

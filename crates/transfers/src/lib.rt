@@ -18,6 +18,7 @@ pub enum End {
     BadHeadOrSector,
     BadCylinder,
     BadLba,
+    PastEnd,
     Unreadable,
     WriteFault,
     BadGeometry,

@@ -30,8 +30,8 @@ enum-told-3 c = search needs
 count-of-requires-3 : tie.Need-count-of-requires-3
 count-of-requires-3 c κs = search needs
 
-verify-requires : tie.Need-verify-requires
-verify-requires c κs = search needs
+verify-run-requires : tie.Need-verify-run-requires
+verify-run-requires c κs = search needs
 
 enum-told-4 : tie.Need-enum-told-4
 enum-told-4 c = search needs
@@ -39,8 +39,8 @@ enum-told-4 c = search needs
 count-of-requires-4 : tie.Need-count-of-requires-4
 count-of-requires-4 c κs = search needs
 
-erase-requires : tie.Need-erase-requires
-erase-requires c κs = search needs
+erase-run-requires : tie.Need-erase-run-requires
+erase-run-requires c κs = search needs
 
 enum-told-5 : tie.Need-enum-told-5
 enum-told-5 c = search needs
@@ -126,7 +126,7 @@ same-length-3 c = search needs
 returns-3 : tie.Need-returns-3
 returns-3 c =
     let c5 = c .before .before .before .before .before in
-    simp (c .before .before .before .enum-told3 .given .1, c .verify .ensures, c .before .before .count-of3 .ensures, c5 .started .ensures)
+    simp (c .before .before .before .enum-told3 .given .1, c .verify-run .ensures, c .before .before .count-of3 .ensures, c5 .started .ensures)
 
 same-length-4 : tie.Need-same-length-4
 same-length-4 c = search needs
@@ -140,7 +140,7 @@ returns-4 c =
     let c7 = c4 .before .before .before in
     let c8 = c7 .before in
     let c10 = c8 .before .before in
-    let w = simp (c7 .count-of4 .ensures, c10 .started .ensures) at (sym (c4 .erase .ensures)) in
+    let w = simp (c7 .count-of4 .ensures, c10 .started .ensures) at (sym (c4 .erase-run .ensures)) in
     simp (c8 .enum-told4 .given .1, w)
 
 returns-5 : tie.Need-returns-5
@@ -187,10 +187,10 @@ obey-spec =
     ask-sector-requires
     enum-told-3
     count-of-requires-3
-    verify-requires
+    verify-run-requires
     enum-told-4
     count-of-requires-4
-    erase-requires
+    erase-run-requires
     enum-told-5
     identify-requires
     ready-requires

@@ -1,4 +1,5 @@
 use Rattle.geometry.proofs.Bounds.{index-most}
+use Rattle.geometry.proofs.Inside.{chs-less}
 use Rattle.geometry.specs.Address.{locateChs}
 use Rattle.ground.specs.Choice.{every}
 use native.Mathlib.Omega.{arith}
@@ -59,7 +60,11 @@ sub-index : tie.Need-sub-index
 sub-index c = search needs
 
 good-at-requires : tie.Need-good-at-requires
-good-at-requires c κs = search needs
+good-at-requires c κs =
+    let a = start c .args in
+    let l = chs-less (a .cylinder) (a .head) (a .sector) (a .current) (c .before .before .before .before .if1 .left, c .before .before .before .if2 .left, c .before .before .if3 .left, c .if4 .left) in
+    let p = start c .pre .3 in
+    omega arith
 
 returns-5 : tie.Need-returns-5
 unfolding locateChs every
