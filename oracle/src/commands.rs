@@ -106,7 +106,7 @@ impl Card {
 
     fn end(&mut self, row: Row, error: u8, code: u8) {
         cover::end(row, self.lba(), error, code);
-        cover::run(row, self.trace.lowered, error, code);
+        cover::lowered(row, self.trace.lowered, error, code);
         run_cover::ended(row, self.lba(), self.trace.done, error, code);
         self.trace.lowered = 0;
         self.trace.done = 0;

@@ -201,9 +201,9 @@ fn changed_since(when: Changed, then: &Then, at: usize, mark: u8) {
 }
 
 /// A command ends that has lowered the number so often.
-pub fn run(row: Row, lowered: u16, error: u8, code: u8) {
-    if lowered > 0 && matches!(row, Row::Write | Row::Erase) {
-        hit(Point::Run(row, ending(error, code)));
+pub fn lowered(row: Row, times: u16, error: u8, code: u8) {
+    if times > 0 && matches!(row, Row::Write | Row::Erase) {
+        hit(Point::Lowered(row, ending(error, code)));
     }
 }
 

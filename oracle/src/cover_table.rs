@@ -45,7 +45,15 @@ fn by_trials<T: Copy>(table: &[(T, &str)], point: fn(T) -> Point) -> Vec<Reached
 }
 
 fn groups() -> Vec<Group> {
-    let group = |title, rows| Group { title, rows };
+    let parts = [of_commands(), of_bad_sectors(), of_accesses(), of_files_and_cards(), of_tuples()];
+    parts.into_iter().flatten().collect()
+}
+
+fn group(title: &'static str, rows: Vec<Reached>) -> Group {
+    Group { title, rows }
+}
+
+fn of_commands() -> Vec<Group> {
     vec![
         group("Command writes by opcode", opcodes()),
         group("Commands that drop a transfer", drops()),
@@ -58,19 +66,29 @@ fn groups() -> Vec<Group> {
         group("Codes told by 03H", codes()),
         group("Identify", by_sessions(Identity::TABLE, Point::Identify)),
         group("Identify's integrity byte", integrity_bytes()),
+    ]
+}
+
+fn of_bad_sectors() -> Vec<Group> {
+    vec![
         group(
             "Openings, by the bad sectors counted",
             named(Opened::TABLE, Point::Opened, |what| by(what != Opened::NoneBad)),
         ),
         group("Sectors to be stored, by mark and number of bad sectors", stored()),
         group("Marks changed in a write, by sector, mark and number of bad sectors", changed()),
-        group("Ends of commands that lowered the number of bad sectors", runs()),
+        group("Ends of commands that lowered the number of bad sectors", lowered()),
         group("A number of bad sectors that is kept", kept()),
         group("Identify's word 129 after that", kept_and_shown()),
         group(
             "Identify's word 129",
             named(Shown::TABLE, Point::Shown, |what| by(what != Shown::Zero)),
         ),
+    ]
+}
+
+fn of_accesses() -> Vec<Group> {
+    vec![
         group("Registers by map (r, w: byte read, write; R, W: word)", registers()),
         group("Attribute memory by index", attribute()),
         group("Half words (moved before, then touched)", halves()),
@@ -89,6 +107,11 @@ fn groups() -> Vec<Group> {
         group("Configuration Option writes", by_sessions(Setting::TABLE, Point::Setting)),
         group("Registers in a Device Control hold", held()),
         group("Register writes in a transfer", busy()),
+    ]
+}
+
+fn of_files_and_cards() -> Vec<Group> {
+    vec![
         group("Breaks of a session file", by_sessions(Break::TABLE, Point::Break)),
         group("Limits an opening breaks", by_sessions(Limit::TABLE, Point::Limit)),
         group(
@@ -98,6 +121,11 @@ fn groups() -> Vec<Group> {
         group("The line", by_trials(Line::TABLE, Point::Line)),
         group("Marks met", marks()),
         group("Carries", by_trials(Carry::TABLE, Point::Carry)),
+    ]
+}
+
+fn of_tuples() -> Vec<Group> {
+    vec![
         group("Tuple reader and writer", by_trials(Tuples::TABLE, Point::Tuples)),
         group("Chains read", by_trials(Chain::TABLE, Point::Chain)),
         group("Entries to be written", by_trials(Listed::TABLE, Point::Entry)),
@@ -196,12 +224,13 @@ fn changed() -> Vec<Reached> {
     rows
 }
 
-fn runs() -> Vec<Reached> {
+fn lowered() -> Vec<Reached> {
     let mut rows = Vec::new();
     for (command, name) in STORING {
         for &(ending, says) in Ending::TABLE {
             if ending == Ending::Good || run_cover::stops(command, ending) {
-                rows.push(row(Point::Run(command, ending), format!("{name} {says}"), By::Trials));
+                let point = Point::Lowered(command, ending);
+                rows.push(row(point, format!("{name} {says}"), By::Trials));
             }
         }
     }

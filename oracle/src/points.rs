@@ -39,7 +39,7 @@ pub enum Point {
     /// before.
     Changed(Changed, Mark, Mark, Number),
     /// The end of a command that has lowered the number of bad sectors.
-    Run(Row, Ending),
+    Lowered(Row, Ending),
     /// A number of bad sectors that is not 0 and is kept; true, if it is right.
     Kept(Kept, bool),
     /// Word 129 read after that.

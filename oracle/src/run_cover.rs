@@ -8,6 +8,7 @@ use crate::cover::{ending, hit, hit_all, sort, By};
 use crate::cover_table::{by, can_end, row, Reached, PHASES};
 use crate::names::named;
 use crate::points::{Ending, Mark, Point, COMMANDS};
+use crate::runs::marks_from;
 
 named! {
     /// How far a run from a good start goes, beside what remains.
@@ -22,6 +23,7 @@ named! {
         LastPast: "past it from the last sector",
         MostShort: "256, short of the end",
         MostToEnd: "256, to the end",
+        MostAll: "256, from the first sector to the end",
         MostOnePast: "256, one past it",
         MostPast: "256, past it",
         Between: "past the current capacity, inside the card",
@@ -33,7 +35,10 @@ named! {
 impl Length {
     /// Takes a card of 255 sectors or more.
     fn large(self) -> bool {
-        matches!(self, Length::MostShort | Length::MostToEnd | Length::MostOnePast)
+        matches!(
+            self,
+            Length::MostShort | Length::MostToEnd | Length::MostAll | Length::MostOnePast
+        )
     }
 }
 
@@ -89,6 +94,7 @@ fn length(card: &Card, command: Row, start: Located) {
             (Length::LastPast, sectors > remain && remain == 1),
             (Length::MostShort, most && sectors < remain),
             (Length::MostToEnd, most && sectors == remain),
+            (Length::MostAll, most && sectors == remain && from_first),
             (Length::MostOnePast, most && sectors == remain + 1),
             (Length::MostPast, most && sectors > remain + 1),
             (Length::Between, capacity < end && end <= n),
@@ -99,11 +105,10 @@ fn length(card: &Card, command: Row, start: Located) {
 }
 
 fn past(card: &Card, command: Row, start: Located, marks: &[u8]) {
-    let mut marks = marks.iter().skip(start.at).take(start.remain);
-    if let Some(before) = marks.clone().position(|&mark| mark != 0) {
+    let mut marks = marks_from(start, marks).enumerate();
+    if let Some((before, mark)) = marks.find(|&(_, mark)| mark != 0) {
         let marked = if before == 0 { Marked::First } else { Marked::Later };
-        let mark = marks.nth(before).map_or(Mark::Zero, |&mark| sort(mark));
-        hit(Point::PastMark(command, marked, mark, card.lba()));
+        hit(Point::PastMark(command, marked, sort(mark), card.lba()));
     }
     if let Some(phase) = card.trace.dropped {
         hit(Point::PastDrop(command, phase));

@@ -13,6 +13,9 @@ pub fn runs(seed: u64, all: &mut Vec<Case>) {
 
 // ---------------------------------------------------------------- what they share
 
+/// Erase and both opcodes of Verify.
+pub const RUN_OPCODES: [u8; 3] = [0xC0, 0x40, 0x41];
+
 /// The end that a run is measured by: N in LBA, the current capacity in CHS.
 pub fn end(host: &Host, lba: bool) -> usize {
     let of = if lba { host.card.default } else { host.card.current };
@@ -28,13 +31,22 @@ pub fn lengths(remain: usize) -> Vec<usize> {
     all
 }
 
-/// A command over so many sectors, 256 by Count 0. A transfer is ended before, so that the address is
-/// taken.
-pub fn begin(host: &mut Host, opcode: u8, first: usize, sectors: usize, lba: bool) {
+/// Ends a transfer, if one runs, so that registers take what is written.
+fn end_transfer(host: &mut Host) {
     if host.card.running() {
         host.put(7, 0x10);
     }
+}
+
+/// A command over so many sectors, 256 by Count 0.
+pub fn begin(host: &mut Host, opcode: u8, first: usize, sectors: usize, lba: bool) {
+    end_transfer(host);
     host.name_sector(first, lba);
+    give(host, opcode, sectors);
+}
+
+/// A command over so many sectors from where the registers stand.
+pub fn give(host: &mut Host, opcode: u8, sectors: usize) {
     host.put(2, sectors as u8);
     host.put(7, opcode);
 }
@@ -73,6 +85,7 @@ fn peek_buffer(host: &mut Host) {
 
 /// 91H with H heads and S sectors.
 pub fn parameters(host: &mut Host, h: u8, s: u8) {
+    end_transfer(host);
     host.put(2, s);
     host.put(6, h - 1);
     host.put(7, 0x91);
@@ -100,7 +113,7 @@ pub fn smaller_capacity(host: &mut Host) {
 fn about_the_end(seed: u64, all: &mut Vec<Case>) {
     let mut number = 0;
     for g in SMALL {
-        for opcode in [0xC0, 0x40, 0x41] {
+        for opcode in RUN_OPCODES {
             number += 1;
             let map = (number % 5) as u8;
             let mut host = host_in(map, geometry(g), Group::Runs.seed(seed, number));
@@ -198,8 +211,7 @@ pub fn step(host: &mut Host) {
         0..=5 => try_run(host, opcode, first, sectors, lba),
         6 => {
             host.aim();
-            host.put(2, sectors as u8);
-            host.put(7, opcode);
+            give(host, opcode, sectors);
             host.look();
         }
         7 => {

@@ -5,7 +5,7 @@ use crate::bad_sector_inputs::{glance, open_over, set_marks};
 use crate::host::Host;
 use crate::inputs::{geometry, Case, Group};
 use crate::run_session_inputs::{
-    begin, end, lengths, parameters, peek, smaller_capacity, step, try_run,
+    begin, end, lengths, parameters, peek, smaller_capacity, step, try_run, RUN_OPCODES,
 };
 use crate::trial_inputs::{finish, open_over_marks, small, sprinkle};
 use crate::trial_kinds as kinds;
@@ -23,8 +23,6 @@ pub fn runs(seed: u64, all: &mut Vec<Case>) {
 const CARDS: [(u16, u16, u16); 7] =
     [(256, 1, 1), (4, 16, 4), (255, 1, 1), (257, 1, 1), (3, 3, 40), (2, 2, 255), (600, 1, 1)];
 
-const OPCODES: [u8; 3] = [0xC0, 0x40, 0x41];
-
 // ---------------------------------------------------------------- 256 sectors
 
 /// Runs of 256 sectors and of fewer, by the default geometry, by 16 heads and 16 sectors (a current
@@ -32,7 +30,7 @@ const OPCODES: [u8; 3] = [0xC0, 0x40, 0x41];
 fn counts(seed: u64, all: &mut Vec<Case>) {
     let mut number = 0;
     for g in CARDS {
-        for opcode in OPCODES {
+        for opcode in RUN_OPCODES {
             number += 1;
             let seed = Group::RunCounts.seed(seed, number);
             let mut host = Host::trial(seed, geometry(g), (number % 2) as u16);
@@ -77,7 +75,7 @@ fn counts_by(host: &mut Host, opcode: u8) {
 /// fit; by the default geometry and by one of 30 sectors.
 fn marks(seed: u64, all: &mut Vec<Case>) {
     let mut number = 0;
-    for opcode in OPCODES {
+    for opcode in RUN_OPCODES {
         for mark in [1, 2, 3, 255] {
             for (way, heads, track) in [("default", 2, 4), ("smaller", 3, 5)] {
                 number += 1;
@@ -139,7 +137,7 @@ fn every_mark(seed: u64, all: &mut Vec<Case>) {
 /// sets, the buffer, the number of bad sectors, the current geometry.
 fn fields(seed: u64, all: &mut Vec<Case>) {
     let mut number = 0;
-    for opcode in OPCODES {
+    for opcode in RUN_OPCODES {
         for mode in 0..2 {
             number += 1;
             let mut host = small(Group::RunFields.seed(seed, number), mode);
@@ -190,7 +188,7 @@ fn set_fields(host: &mut Host) {
 /// Status read or not.
 fn lines(seed: u64, all: &mut Vec<Case>) {
     let mut number = 0;
-    for opcode in OPCODES {
+    for opcode in RUN_OPCODES {
         for mode in 0..2 {
             number += 1;
             let mut host = small(Group::RunLines.seed(seed, number), mode);

@@ -26,7 +26,8 @@ impl Card {
     /// "ends before its first sector with IDNF, 2FH, the registers unchanged": no sector, no mark,
     /// neither the number of bad sectors nor the buffer changes.
     pub fn end_past(&mut self, row: Row, lent: &mut Lent) {
-        let marked = self.locate().is_ok_and(|start| marks_from(start, lent).any(|mark| mark != 0));
+        let marked =
+            self.locate().is_ok_and(|start| marks_from(start, lent.marks).any(|mark| mark != 0));
         if row == Row::Erase && marked {
             self.keep_bad(Kept::ErasePast, lent);
         }
@@ -95,13 +96,13 @@ fn looks_at_remaining(row: Row) -> bool {
 }
 
 /// The marks of the sectors that remain.
-fn marks_from<'a>(start: Located, lent: &'a Lent) -> impl Iterator<Item = u8> + 'a {
-    lent.marks.iter().skip(start.at).take(start.remain).copied()
+pub fn marks_from(start: Located, marks: &[u8]) -> impl Iterator<Item = u8> + '_ {
+    marks.iter().skip(start.at).take(start.remain).copied()
 }
 
 /// A mark that a small change lets be met before the run is tested; the run then goes by 01's rule.
 fn met_first(start: Located, lent: &Lent) -> bool {
-    let mut marks = marks_from(start, lent);
+    let mut marks = marks_from(start, lent.marks);
     let first = marks.next();
     on(Change::StartMarkBeforeRun) && first != Some(0)
         || on(Change::LaterMarkBeforeRun) && marks.any(|mark| mark != 0)

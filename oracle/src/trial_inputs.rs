@@ -211,7 +211,8 @@ fn marked(host: &mut Host, opcode: u8) {
     }
 }
 
-/// Runs over sector 255 of large cards in LBA and CHS, and to their ends.
+/// Runs over sector 255 of large cards in LBA and CHS, their last sector alone, and a run past the end,
+/// which 40H and C0H end before its first sector; 20H and 30H do not.
 fn carries(seed: u64, all: &mut Vec<Case>) {
     for (number, g) in LARGE.into_iter().enumerate() {
         let g = geometry(g);

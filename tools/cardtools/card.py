@@ -54,6 +54,8 @@ STATUS = {
 }
 
 ERRORS = {0x00: "no error", 0x04: "ABRT, the command was aborted", 0x10: "IDNF, no such sector", 0x40: "UNC, the sector can't be read"}
+# of Verify and Erase: a bad start, or a run past the end
+RUN_NOT_FOUND = "IDNF, no such sector, or the run is past the end; nothing is done"
 
 # The CFA's extended error codes.
 CODES = {

@@ -38,6 +38,8 @@ def error(value, kind):
         return f"extended error code: {card.CODES.get(value, 'not in the CFA list')}"
     if kind == "diagnostic":
         return "diagnostic code, no error" if value == 1 else f"diagnostic code {value:02X}H"
+    if kind == "run" and value == 0x10:
+        return card.RUN_NOT_FOUND
     return card.ERRORS.get(value) or bits(value, ((0x40, "UNC"), (0x10, "IDNF"), (0x04, "ABRT")))
 
 

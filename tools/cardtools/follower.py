@@ -1,8 +1,8 @@
 """Where the card stands in a session, as far as the accesses and the answers so far tell it."""
 from . import card
 
-# what the Error register holds after a command, but for "flags"
-ERROR_AFTER = {"Request Sense": "code", "Execute Drive Diagnostic": "diagnostic"}
+# what the Error register holds after a command, but for "flags"; after Verify and Erase flags too, of a run
+ERROR_AFTER = {"Request Sense": "code", "Execute Drive Diagnostic": "diagnostic", "Read Verify Sectors": "run", "Erase Sectors": "run"}
 
 
 class Follower:
@@ -17,7 +17,7 @@ class Follower:
         self.mode = mode
         self.option = 0  # Configuration Option as last written
         self.held = False
-        self.error = "diagnostic"  # or "flags", "code"
+        self.error = "diagnostic"  # or "flags", "run", "code"
         self.data_wanted = False  # Status was read as 58H, and nothing since can have cleared DRQ
 
     @property

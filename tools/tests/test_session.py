@@ -217,6 +217,14 @@ def test_what_error_holds_follows_the_commands():
         assert part in line, (line, part)
 
 
+def test_a_run_past_the_end_is_told_of_verify_and_erase():
+    for opcode, told in (("20", False), ("30", False), ("40", True), ("41", True), ("C0", True), ("70", False)):
+        lines = lines_of(f"open 4 2 4 1\nwrite ide 7 {opcode}\nread ide 1\n", f"n op answer value\n1 W 0 00{opcode}\n2 R 0 0010\n")
+        assert "IDNF, no such sector" in lines[2] and ("the run is past the end" in lines[2]) == told, lines
+    lines = lines_of("open 4 2 4 1\nwrite ide 7 40\nread ide 1\n", "n op answer value\n1 W 0 0040\n2 R 0 0040\n")
+    assert "UNC" in lines[2] and "past the end" not in lines[2], lines
+
+
 def test_row_11_is_taken_where_a_half_word_decides():
     lines = lines_of("open 4 2 4 1\nwrite ide 07 EC\nread ide 0\nread word ide 0\n", "n op answer value\n1 W 0 00EC\n2 R 0 008A\n3 R 11 0000\n")
     assert "a word with one half moved" in lines[3], lines

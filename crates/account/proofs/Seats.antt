@@ -47,11 +47,11 @@ abbrev pub goodOn : Course → ℕ → Located
 goodOn c i = goodAt (c .room) i
 
 -- where the address points: at sector i, or past the room
-abbrev pub pastEnd : Course → Located
-pastEnd c = pick (c .lba) Located.BadLba Located.BadCylinder
+abbrev pub pastRoom : Course → Located
+pastRoom c = pick (c .lba) Located.BadLba Located.BadCylinder
 
 abbrev pub Where : Course → ℕ → State → Type 0
-Where c i s = locatedIn s ≡ pick (ltb i (c .room)) (goodOn c i) (pastEnd c)
+Where c i s = locatedIn s ≡ pick (ltb i (c .room)) (goodOn c i) (pastRoom c)
 
 room-is : (s : State) → Shaped (s .made) (s .current) → roomOf (s .registers .address) (s .current) (totalOf (s .made .default)) ≡ courseIn s .room
 unfolding roomOf
@@ -88,7 +88,7 @@ address-next n s p h e = rw (selects-is (s .registers .address)) (next-named (s 
 
 where-next : (n : ℕ) (s : State) (p : Spot) → Shaped (s .made) (s .current) → locatedIn s ≡ Located.Good p → Where (courseIn s) (p .index + 1) (onward n s)
 where-next n s p h e =
-    subst (λ (r : ℕ). locatedIn (onward n s) ≡ pick (ltb (p .index + 1) r) (goodAt r (p .index + 1)) (pastEnd (courseIn s)))
+    subst (λ (r : ℕ). locatedIn (onward n s) ≡ pick (ltb (p .index + 1) r) (goodAt r (p .index + 1)) (pastRoom (courseIn s)))
     (room-is s h)
     (rw (selects-is (s .registers .address)) (next-law (s .registers .address) (s .current) (totalOf (s .made .default)) p (h .0) (h .2) e))
 

@@ -22,7 +22,7 @@ use Rattle.account.specs.Plain.{Plain, Finish, Well, NotFound, Unreadabl
 use Rattle.account.specs.Course.{Course, named}
 use Rattle.account.specs.Sweeps.{Sweep, tried, stopped, tests, unreadable, unwritable, sweepEnds}
 use Rattle.account.specs.Host.{plainIn}
-use Rattle.account.proofs.Seats.{Seated, Where, pastEnd, place-seated, spotOn, goodOn}
+use Rattle.account.proofs.Seats.{Seated, Where, pastRoom, place-seated, spotOn, goodOn}
 
 -- an end of the machine in the account's words
 abbrev pub finishOf : End → Finish
@@ -93,7 +93,7 @@ marked false false c i e P h q x f = absurd (false≢true q)
 module _ (allows forbids : ℕ → Bool) (e : End) (h : erring e ≡ true) (opposite : (m : ℕ) → forbids m ≡ not (allows m)) where
   placed : (b : Bool) (c : Course) (i : ℕ) (marks : List ℕ) (P : Tested → Finish → Type 0) → ltb i (c .room) ≡ b →
       (i < c .room → P (Passes (spotOn c i)) Well) → ((f : End) → erring f ≡ true → P (Fails f) (finishOf f)) →
-      P (markTested allows e (testedOf (pick b (goodOn c i) (pastEnd c))) marks) (pick b (pick (forbids (getD marks i 0)) (finishOf e) Well) (NotFound codeCylinderOrLba))
+      P (markTested allows e (testedOf (pick b (goodOn c i) (pastRoom c))) marks) (pick b (pick (forbids (getD marks i 0)) (finishOf e) Well) (NotFound codeCylinderOrLba))
   placed true c i marks P q x f = marked (allows (getD marks i 0)) (forbids (getD marks i 0)) c i e P h (opposite (getD marks i 0)) (x (ltb-true i (c .room) q)) f
   placed false c i marks P q x f = rw (past-marked (c .lba) allows e marks) (past-end (c .lba) P f)
 

@@ -33,7 +33,7 @@ use Rattle.kept.specs.Lent.{storeMarksIn}
 use Rattle.account.specs.WholeSectors.{putSector, badAt}
 use Rattle.account.specs.Host.{plainOf}
 use Rattle.account.specs.Notes.{None, Waiting}
-use Rattle.account.proofs.Seats.{Seated, Where, pastEnd, courseIn, onward, done-on, seat-next, spotOn, goodOn}
+use Rattle.account.proofs.Seats.{Seated, Where, pastRoom, courseIn, onward, done-on, seat-next, spotOn, goodOn}
 use Rattle.account.proofs.Stored.{stored-is, stored-lent}
 use Rattle.account.proofs.Rest.{bare, here, Ground, Running, Between, Loaded, loaded-of}
 use Rattle.account.proofs.WordWritten.{sector-test, here-inside}
@@ -44,8 +44,8 @@ past-between true n order s b t k g = (g, refl)
 past-between false n order s b t k g = (g, refl)
 
 ask-by : (v : Bool) (n : ℕ) (order : Order) (c : Course) (i : ℕ) (s : State) (b t k : List ℕ) → length b ≡ 512 → Ground Out (idle s b t k) → Seated c i (suc n) s →
-    locatedIn s ≡ pick v (goodOn c i) (pastEnd c) →
-    Between Out (machine (askTested (testedOf (pick v (goodOn c i) (pastEnd c))) (suc n) order s) b t k) None
+    locatedIn s ≡ pick v (goodOn c i) (pastRoom c) →
+    Between Out (machine (askTested (testedOf (pick v (goodOn c i) (pastRoom c))) (suc n) order s) b t k) None
 ask-by true n order c i s b t k e g q w = (g, (omega arith, e, tt, tt, loaded-of c i n s q w))
 ask-by false n order c i s b t k e g q w = past-between (c .lba) (suc n) order s b t k g
 

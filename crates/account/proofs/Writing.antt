@@ -30,7 +30,7 @@ use Rattle.account.specs.Course.{Course}
 use Rattle.account.specs.Sweeps.{tried, sweepFrom, tests, unwritable, movedBy, writeDone, writeSectors}
 use Rattle.account.specs.WholeSectors.{firstSectors, lastSectors, replaced, cleared, putSector, badAt, badFrom}
 use Rattle.account.specs.Host.{plainOf, plainIn}
-use Rattle.account.proofs.Seats.{Shaped, Seated, Where, pastEnd, onward, done-on, seat-next, spotOn, goodOn}
+use Rattle.account.proofs.Seats.{Shaped, Seated, Where, pastRoom, onward, done-on, seat-next, spotOn, goodOn}
 use Rattle.account.proofs.Tried.{stops-ends}
 use Rattle.account.proofs.Stored.{LentFor, stored-is, sweep-later, bad-on, bad-none}
 use Rattle.account.proofs.Verifying.{seated-last}
@@ -90,8 +90,8 @@ past-rest true n order c i s b t k d q = rw (bad-none (s .bad) i k, stops-ends E
 past-rest false n order c i s b t k d q = rw (bad-none (s .bad) i k, stops-ends End.BadCylinder refl c (suc n) i s b t k q)
 
 ask-by : (v : Bool) (n : ℕ) (order : Order) (c : Course) (i : ℕ) (s : State) (b t k d : List ℕ) → ltb i (c .room) ≡ v → Seated c i (suc n) s →
-    locatedIn s ≡ pick v (goodOn c i) (pastEnd c) →
-    rest (machine (askTested (testedOf (pick v (goodOn c i) (pastEnd c))) (suc n) order s) b t k) d ≡ writeSectors c i (suc n) (plainIn s b t k) d
+    locatedIn s ≡ pick v (goodOn c i) (pastRoom c) →
+    rest (machine (askTested (testedOf (pick v (goodOn c i) (pastRoom c))) (suc n) order s) b t k) d ≡ writeSectors c i (suc n) (plainIn s b t k) d
 unfolding restAt doneOut
 ask-by true n order c i s b t k d e q w =
     let h = ltb-true i (c .room) e in

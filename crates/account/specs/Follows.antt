@@ -2,6 +2,7 @@
 use Prim.Native.Nat.{ℕ, _+_, _*_, _≤_, _<_}
 use mathlib.Core.Bool.{Bool, true, false}
 use mathlib.Core.Path.{_≡_}
+use mathlib.Core.Logic.{_⊎_}
 use mathlib.Core.List.{List}
 use lib.ListN.{length, getD}
 use Rattle.maps.specs.declared.Register.the-variants.{StatusCommand}
@@ -13,6 +14,7 @@ use Rattle.card.specs.Access.{Asked, meaning}
 use Rattle.card.specs.Perform.{perform}
 use Rattle.card.specs.Step.{step}
 use Rattle.kept.specs.Sound.{Sound}
+use Rattle.account.specs.Numbers.{statusIdle}
 use Rattle.account.specs.Plain.{Plain, bytesPerSector}
 use Rattle.account.specs.Addressed.{Addressed, At, Bad}
 use Rattle.account.specs.CommandRows.{CommandRow, Reads, Writes, Verifies, Erases, Identifies, ReadsBuffer, WritesBuffer, SetsGeometry, Diagnoses, Recalibrates, Seeks, Senses, Others, rowOf}
@@ -67,3 +69,10 @@ SameOutside low high s t = ((k : ℕ) → k < low → getD t k 0 ≡ getD s k 0)
 abbrev pub OnlyNamed : Addressed → ℕ → Plain → Plain → Type 0
 OnlyNamed (At i) n p q = SameOutside (bytesPerSector * i) (bytesPerSector * (i + n)) (p .store) (q .store) × SameOutside i (i + n) (p .marks) (q .marks)
 OnlyNamed (Bad code) n p q = (q .store ≡ p .store) × (q .marks ≡ p .marks)
+
+-- a command has ended with this Status, Error and code; and a run of Verify or Erase well, with no sector left, or so, at a mark
+abbrev pub EndedWith : ℕ → ℕ → ℕ → Plain → Type 0
+EndedWith status error code p = (p .registers .status ≡ status) × (p .registers .error ≡ error) × (p .code ≡ code)
+
+abbrev pub RunEnded : ℕ → ℕ → ℕ → Plain → Type 0
+RunEnded status error code p = (EndedWith statusIdle 0 0 p × (p .registers .count ≡ 0)) ⊎ EndedWith status error code p

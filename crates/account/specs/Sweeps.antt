@@ -100,7 +100,7 @@ writeSectors c i n p bytes = writeDone c i (writeSweep c (p .marks) i n) p bytes
 -- 02, "Six", of Verify and Erase: n sectors from index i, where the room has them all; else "a run past the end ends before its first sector with IDNF,
 -- 2FH, the registers unchanged"
 abbrev pub wholeRun : Course → ℕ → ℕ → Plain → Plain → Plain
-wholeRun c i n p done = pick (leb (i + n) (c .room)) done (ends (NotFound codeCylinderOrLba) p)
+wholeRun c i n p run = pick (leb (i + n) (c .room)) run (ends (NotFound codeCylinderOrLba) p)
 
 -- 40H 41H: as read, no data
 unfoldable pub verifySectors : Course → ℕ → ℕ → Plain → Plain

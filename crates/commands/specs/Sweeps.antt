@@ -41,5 +41,6 @@ eraseFrom (suc n) s store marks =
     let t = withBad (k .next .bad) s in
     unlessFailed (k .outcome) (λ c. leaving c (k .next)) t (eraseFrom n (sectorDone n t) (k .next .store) (k .next .marks))
 
+-- C0H likewise: no sector, no mark, not the number of marks that are not 0
 unfoldable pub eraseRun : ℕ → State → List ℕ → List ℕ → Left Core StoreMarks
 eraseRun n s store marks = pick (pastEnd n s) (leaving (ended PastEnd s) (storeMarks store marks (s .bad))) (eraseFrom n s store marks)

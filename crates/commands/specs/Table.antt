@@ -98,9 +98,9 @@ abbrev pub obeyed : Command → State → Machine → Machine
 obeyed Read s m = readSector (countOf s) (idleWith s m)
 -- 30H 31H: write
 obeyed Write s m = withCore (askSector (countOf s) First s) m
--- 40H 41H: as read, no data
+-- 40H 41H: as read, no data; none of a run past the end
 obeyed Verify s m = withCore (verifyRun (countOf s) s (m .marks)) m
--- C0H: as write, storing FFH, no data
+-- C0H: as write, storing FFH, no data; none of a run past the end
 obeyed Erase s m = withErased (eraseRun (countOf s) s (m .store) (m .marks)) m
 -- ECH: Identify, 512 bytes through the buffer
 obeyed Identify s m = machine (ready Buffer s) (identifyBytes (factsOf s)) (m .store) (m .marks)

@@ -13,7 +13,7 @@ use Rattle.geometry.specs.declared.Address.{Address}
 use Rattle.geometry.specs.declared.Spot.{Spot}
 use Rattle.geometry.specs.declared.Located.{Located}
 use Rattle.geometry.specs.Limits.{capacityOf, currentFor}
-use Rattle.geometry.specs.Address.{byLba, headOf, cylinderOf, lbaOf, chsIndex, locateLba, locateChs, locate, roomOf, validAddress, indexOf, goodAt}
+use Rattle.geometry.specs.Address.{byLba, headOf, cylinderOf, lbaOf, chsIndex, locateLba, locateChs, locate, roomBy, roomOf, validAddress, indexOf, goodAt}
 use Rattle.ground.proofs.Every.{each}
 use Rattle.geometry.proofs.LimitFacts.{current-room}
 
@@ -58,10 +58,6 @@ chs-facts c h s g room p e =
     let t = each (ltb h (g .heads) ∷ leb 1 s ∷ leb s (g .sectors) ∷ []) (k .0) in
     ((ltb-true _ _ (t 0), leb-true _ _ (t 1), leb-true _ _ (t 2), ltb-true _ _ (k .1)), k .2, k .3)
 
-pub lba-good : (i room : ℕ) → i < room → locateLba i room ≡ goodAt room i
-unfolding locateLba
-lba-good i room h = rw (lt-ltb i room h)
-
 below : (t : Bool) (room i : ℕ) (p : Spot) → pick t (goodAt room i) Located.BadLba ≡ Located.Good p → (t ≡ true) × (p .index ≡ i) × (p .remain ≡ room - p .index)
 below true room i p e = let k = stands room i p e in (refl, k .0, k .1)
 below false room i p e = absurd (false≢true (ap validAddress e))
@@ -70,10 +66,7 @@ pub lba-facts : (i room : ℕ) (p : Spot) → locateLba i room ≡ Located.Good 
 unfolding locateLba
 lba-facts i room p e = let k = below (ltb i room) room i p e in (ltb-true i room (k .0), k .1, k .2)
 
--- the room, and the decision, by either way of addressing.
-abbrev pub roomBy : Bool → Geometry → ℕ → ℕ
-roomBy b g n = pick b n (capacityOf g)
-
+-- the decision by either way of addressing.
 abbrev pub locateBy : Bool → Address → Geometry → ℕ → Located
 locateBy b a g n = pick b (locateLba (lbaOf a) (roomBy b g n)) (locateChs (cylinderOf a) (headOf a) (a .sector) g (roomBy b g n))
 
@@ -83,7 +76,7 @@ spot-by false a g n p e =
     let f = chs-facts (cylinderOf a) (headOf a) (a .sector) g (capacityOf g) p e in
     (rw (f .1) (chs-less (cylinderOf a) (headOf a) (a .sector) g (f .0)), f .2)
 
--- 02, "Six", over any geometry: what remains is the room less the index, the start among it; so at least 1.
+-- 02, "Six", over any geometry: the room less the index remain, the start among them; so at least 1.
 pub remain-room : (a : Address) (g : Geometry) (n : ℕ) (p : Spot) → locate a g n ≡ Located.Good p → (p .index < roomOf a g n) × (p .remain ≡ roomOf a g n - p .index)
 unfolding locate roomOf
 remain-room a g n p e = spot-by (byLba a) a g n p e
@@ -91,7 +84,7 @@ remain-room a g n p e = spot-by (byLba a) a g n p e
 pub remain-positive : (a : Address) (g : Geometry) (n : ℕ) (p : Spot) → locate a g n ≡ Located.Good p → 1 ≤ p .remain
 remain-positive a g n p e = let r = remain-room a g n p e in let x = r .0 in let y = r .1 in omega arith
 
--- a good address is so good by its index alone.
+-- the index fixes the whole spot.
 pub good-by-index : (a : Address) (g : Geometry) (n : ℕ) (p : Spot) → locate a g n ≡ Located.Good p → locate a g n ≡ goodAt (roomOf a g n) (p .index)
 good-by-index a g n p e = e ∙ ap (λ (r : ℕ). Located.Good (record { index = p .index; remain = r })) (remain-room a g n p e .1)
 

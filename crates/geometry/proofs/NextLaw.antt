@@ -13,12 +13,12 @@ use Rattle.geometry.specs.declared.Address.{Address}
 use Rattle.geometry.specs.declared.Spot.{Spot}
 use Rattle.geometry.specs.declared.Located.{Located}
 use Rattle.geometry.specs.Limits.{capacityOf, currentFor}
-use Rattle.geometry.specs.Address.{byLba, headOf, cylinderOf, lbaOf, chsIndex, locateLba, locateChs, locate, roomOf, goodAt}
+use Rattle.geometry.specs.Address.{byLba, headOf, cylinderOf, lbaOf, chsIndex, locateLba, locateChs, locate, roomBy, roomOf, goodAt}
 use Rattle.geometry.specs.Next.{atLba, atChs, nextChs, nextOf}
 use Rattle.geometry.specs.Codes.{locatedCode}
 use Rattle.geometry.proofs.LimitFacts.{Small, current-small}
 use Rattle.geometry.proofs.Kept.{same-way}
-use Rattle.geometry.proofs.Inside.{Chs, chs-less, chs-good, chs-facts, lba-facts, roomBy, locateBy}
+use Rattle.geometry.proofs.Inside.{Chs, chs-less, chs-good, chs-facts, lba-facts, locateBy}
 use Rattle.geometry.proofs.Bounds.{row-more}
 
 -- the registers made of a cylinder, head and sector name them.
@@ -120,26 +120,30 @@ next-by false a g n p b c m e =
     let f = chs-facts (cylinderOf a) (headOf a) (a .sector) g (capacityOf g) p e in
     next-chs a g n (p .index) b (current-small g n c m) (f .0) (f .1)
 
+-- a bad cylinder or LBA, by the way of addressing: past the end of the room, and the decision says 2FH.
+abbrev pub pastOf : Address → Located
+pastOf a = pick (byLba a) Located.BadLba Located.BadCylinder
+
+past-by : (b : Bool) → locatedCode (pick b Located.BadLba Located.BadCylinder) ≡ 0x2F
+past-by true = refl
+past-by false = refl
+
+pub past-code : (a : Address) → locatedCode (pastOf a) ≡ 0x2F
+past-code a = past-by (byLba a)
+
 -- "The next CHS address advances sector, head, cylinder": index i + 1 while there is room, else past the end.
 pub next-law : (a : Address) (g : Geometry) (n : ℕ) (p : Spot) →
     currentFor g n ≡ true →
     n ≤ 65535 →
     locate a g n ≡ Located.Good p →
-    locate (nextOf a g) g n
-    ≡ pick (ltb (p .index + 1) (roomOf a g n)) (goodAt (roomOf a g n) (p .index + 1)) (pick (byLba a) Located.BadLba Located.BadCylinder)
+    locate (nextOf a g) g n ≡ pick (ltb (p .index + 1) (roomOf a g n)) (goodAt (roomOf a g n) (p .index + 1)) (pastOf a)
 unfolding locate nextOf roomOf
 next-law a g n p c m e = next-by (byLba a) a g n p refl c m e
-
--- past the end the decision says 2FH.
-pub past-code : (b : Bool) → locatedCode (pick b Located.BadLba Located.BadCylinder) ≡ 0x2F
-past-code true = refl
-past-code false = refl
 
 pub next-past : (a : Address) (g : Geometry) (n : ℕ) (p : Spot) →
     currentFor g n ≡ true →
     n ≤ 65535 →
     locate a g n ≡ Located.Good p →
     roomOf a g n ≤ p .index + 1 →
-    locatedCode (locate (nextOf a g) g n) ≡ 0x2F
-next-past a g n p c m e l =
-    rw (next-law a g n p c m e, le-ltb (p .index + 1) (roomOf a g n) l) (past-code (byLba a))
+    locate (nextOf a g) g n ≡ pastOf a
+next-past a g n p c m e l = next-law a g n p c m e ∙ (rw (le-ltb (p .index + 1) (roomOf a g n) l))

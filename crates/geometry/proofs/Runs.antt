@@ -3,27 +3,22 @@ use Prim.Native.Nat.{ℕ, zero, suc, _+_, _-_, _≤_, _<_}
 use mathlib.Core.Bool.{true}
 use mathlib.Core.Path.{_≡_, refl, ap, _∙_}
 use native.Mathlib.Omega.{arith}
-use borrow.Author.Tests.{lt-ltb, le-ltb}
-use Rattle.ground.specs.Choice.{pick}
+use borrow.Author.Tests.{lt-ltb}
 use Rattle.geometry.specs.declared.Geometry.{Geometry}
 use Rattle.geometry.specs.declared.Address.{Address}
 use Rattle.geometry.specs.declared.Spot.{Spot}
 use Rattle.geometry.specs.declared.Located.{Located}
 use Rattle.geometry.specs.Limits.{currentFor}
-use Rattle.geometry.specs.Address.{byLba, locate, roomOf, spotAt, goodAt}
+use Rattle.geometry.specs.Address.{locate, roomOf, spotAt, goodAt}
 use Rattle.geometry.specs.Next.{nextOf, later}
 use Rattle.geometry.specs.Codes.{locatedCode}
-use Rattle.geometry.proofs.Inside.{remain-room}
+use Rattle.geometry.proofs.Inside.{remain-room, remain-positive}
 use Rattle.geometry.proofs.Kept.{next-kept}
-use Rattle.geometry.proofs.NextLaw.{next-law, past-code}
+use Rattle.geometry.proofs.NextLaw.{pastOf, past-code, next-law, next-past}
 
 -- the spot so many sectors on, with so many fewer that remain.
 abbrev pub onBy : ℕ → Spot → Spot
 onBy k p = record { index = p .index + k; remain = p .remain - k }
-
--- a bad cylinder or LBA, by the way of addressing: past the end of the room.
-abbrev pub pastOf : Address → Located
-pastOf a = pick (byLba a) Located.BadLba Located.BadCylinder
 
 module _ (g : Geometry) (n : ℕ) (current : currentFor g n ≡ true) (most : n ≤ 65535) where
   -- where more than one remains, the next is good, and one fewer remains; where one does, the next is past the end
@@ -39,7 +34,7 @@ module _ (g : Geometry) (n : ℕ) (current : currentFor g n ≡ true) (most : n 
       let r = remain-room a g n p e in
       let x = r .0 in
       let y = r .1 in
-      next-law a g n p current most e ∙ (rw (le-ltb (p .index + 1) (roomOf a g n) (omega arith)))
+      next-past a g n p current most e (omega arith)
 
   on-more : (k room : ℕ) (p : Spot) → p .remain ≡ room - p .index → onBy k (spotAt room (p .index + 1)) ≡ onBy (suc k) p
   on-more k room p e =
@@ -73,8 +68,5 @@ module _ (g : Geometry) (n : ℕ) (current : currentFor g n ≡ true) (most : n 
 
   pub run-past : (a : Address) (p : Spot) → locate a g n ≡ Located.Good p → (locate (later (p .remain) a g) g n ≡ pastOf a) × (locatedCode (locate (later (p .remain) a g) g n) ≡ 0x2F)
   run-past a p e =
-      let r = remain-room a g n p e in
-      let x = r .0 in
-      let y = r .1 in
-      let z = past-by (p .remain) a p e refl (omega arith) in
-      (z, ap locatedCode z ∙ past-code (byLba a))
+      let z = past-by (p .remain) a p e refl (remain-positive a g n p e) in
+      (z, ap locatedCode z ∙ past-code a)

@@ -1,4 +1,5 @@
--- 01, "Commands", first paragraph: the sector that the address registers name, or the test that failed; and 7XH's test.
+-- 01, "Commands", first paragraph, and 02, "Six": the sector that the address registers name and how many remain from there, or the test that failed; and
+-- 7XH's test.
 use Prim.Native.Nat.{ℕ, _+_, _-_, _*_, _/_, _%_}
 use mathlib.Core.Bool.{Bool, true, false}
 use mathlib.Core.List.{[], _∷_}
@@ -33,8 +34,11 @@ abbrev pub lbaOf : Address → ℕ
 lbaOf a = headOf a * 16777216 + cylinderOf a * 256 + a .sector
 
 -- the room of an address, the sectors that its way of addressing reaches: N in LBA, the current capacity in CHS.
+abbrev pub roomBy : Bool → Geometry → ℕ → ℕ
+roomBy lba g n = pick lba n (capacityOf g)
+
 unfoldable pub roomOf : Address → Geometry → ℕ → ℕ
-roomOf a g n = pick (byLba a) n (capacityOf g)
+roomOf a g n = roomBy (byLba a) g n
 
 -- a good address: where its sector stands, and (02, "Six") "how many sectors remain from there" to the end of the room, that one among them
 abbrev pub spotAt : ℕ → ℕ → Spot
@@ -43,7 +47,7 @@ spotAt room i = record { index = i; remain = room - i }
 abbrev pub goodAt : ℕ → ℕ → Located
 goodAt room i = Located.Good (spotAt room i)
 
--- "with c<C, h<H, s 1..S, all current. … Bad head or sector: code 21H. Otherwise bad cylinder or LBA: 2FH."
+-- "with c<C, h<H, s 1..S, all current. … Bad head or sector: code 21H. Otherwise bad cylinder or LBA: 2FH."; a good one in the room that is given
 unfoldable pub locateChs : ℕ → ℕ → ℕ → Geometry → ℕ → Located
 locateChs c h s g room =
     firstOr

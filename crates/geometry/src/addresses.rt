@@ -1,4 +1,4 @@
-// The sector that the address registers name, or the test that failed; and 7XH's test.
+// The sector that the address registers name and how many remain from there, or the test that failed; and 7XH's test.
 use super::Address;
 use super::Geometry;
 use super::Located;

@@ -35,7 +35,7 @@ use Rattle.sectors.specs.Sectors.{StoreMarks, storeMarks}
 use Rattle.kept.specs.Lent.{storeMarksIn}
 use Rattle.account.specs.WholeSectors.{putSector, badAt}
 use Rattle.account.specs.Host.{plainOf}
-use Rattle.account.proofs.Seats.{Shaped, Where, pastEnd, courseIn, onward, done-on, seat-next, spotOn, goodOn}
+use Rattle.account.proofs.Seats.{Shaped, Where, pastRoom, courseIn, onward, done-on, seat-next, spotOn, goodOn}
 use Rattle.account.proofs.Stored.{stored-is}
 use Rattle.account.proofs.Rest.{bare, here, Ground, Loaded}
 use Rattle.account.proofs.WordWritten.{sector-test, here-inside}
@@ -47,8 +47,8 @@ module _ (i : ℕ) (p : Plain) where
   past-lies false n order s b t k q = tt
 
   ask-by : (v : Bool) (n : ℕ) (order : Order) (c : Course) (h : ℕ) (s : State) (b t k q : List ℕ) → Written i p h 0 b (storeMarks t k (s .bad)) q →
-      locatedIn s ≡ pick v (goodOn c h) (pastEnd c) →
-      Lies (From i) p (machine (askTested (testedOf (pick v (goodOn c h) (pastEnd c))) (suc n) order s) b t k) q
+      locatedIn s ≡ pick v (goodOn c h) (pastRoom c) →
+      Lies (From i) p (machine (askTested (testedOf (pick v (goodOn c h) (pastRoom c))) (suc n) order s) b t k) q
   ask-by true n order c h s b t k q z e = subst (λ (x : Located). Written i p (indexOf x) 0 b (storeMarks t k (s .bad)) q) (sym e) z
   ask-by false n order c h s b t k q z e = past-lies (c .lba) (suc n) order s b t k q
 

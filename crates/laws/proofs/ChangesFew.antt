@@ -1,7 +1,7 @@
 -- Which accesses change sectors, and how many: a data write at most one, C0H at most as many as Count asks for, all else none.
 use Prim.Native.Nat.{ℕ, zero, suc, _≤_}
 use mathlib.Core.Path.{_≡_, refl, ap, _∙_}
-use mathlib.Core.Bool.{true, false, true≢false}
+use mathlib.Core.Bool.{false, true≢false}
 use mathlib.Core.List.{List, []}
 use native.Mathlib.Omega.{arith}
 use lib.Dec.{ltb}
@@ -119,12 +119,12 @@ pub one-sector : (m : Machine) (port : Port) (v : ℕ) → length (changes (Writ
 unfolding changes
 one-sector m port v = pick-elim (AtMost 1) (m .state .control .held) _ _ (λ e. omega arith) (λ e. phase-one (m .phase) port v m)
 
--- C0H at most as many as Count asks for
 sweep-few : (n : ℕ) (a : Address) (g : Geometry) (total : ℕ) (marks : List ℕ) → AtMost n (erasures n a g total marks)
 unfolding erasures
 sweep-few zero a g total marks = omega arith
 sweep-few (suc n) a g total marks = sector-one (locate a g total) marks (replicate 512 0xFF) (erasures n (nextOf a g) g total marks) n (sweep-few n (nextOf a g) g total marks)
 
+-- C0H at most as many as Count asks for
 pub erasures-few : (n : ℕ) (a : Address) (g : Geometry) (total : ℕ) (marks : List ℕ) → length (runErasures n a g total marks) ≤ n
 unfolding runErasures
 erasures-few n a g total marks = pick-elim (AtMost n) (runPast n (locate a g total)) _ _ (λ e. omega arith) (λ e. sweep-few n a g total marks)

@@ -1,10 +1,10 @@
 -- An Erase or Verify whose run is past the end changes nothing but Status, Error, code and the interrupt mark: over every card, geometry and Count.
-use Prim.Native.Nat.{ℕ, _<_}
-use mathlib.Core.Bool.{Bool, true, false, false≢true}
-use mathlib.Core.Path.{_≡_, ap, _∙_}
+use Prim.Native.Nat.{ℕ}
+use mathlib.Core.Bool.{Bool, true, false, _||_, false≢true}
+use mathlib.Core.Path.{_≡_, refl, ap, _∙_}
 use native.Mathlib.Omega.{arith}
-use lib.Dec.{ltb}
-use borrow.Author.Tests.{lt-ltb}
+use lib.Dec.{eqb, ltb}
+use borrow.Author.Tests.{eqb-true, lt-ltb}
 use Rattle.ground.specs.Choice.{pick}
 use Rattle.geometry.specs.declared.Spot.{Spot}
 use Rattle.geometry.specs.declared.Located.{Located}
@@ -14,45 +14,41 @@ use Rattle.registers.specs.State.{totalIn, locatedIn}
 use Rattle.registers.specs.Machine.{Machine}
 use Rattle.transfers.specs.Before.{pastEnd}
 use Rattle.commands.specs.declared.Command.{Command}
-use Rattle.commands.specs.declared.Command.the-variants.{Read, Write, Verify, Erase, Identify, ReadBuffer, WriteBuffer, SetGeometry, Diagnose, Recalibrate, Seek, Sense, Other}
+use Rattle.commands.specs.declared.Command.the-variants.{Verify, Erase}
 use Rattle.commands.specs.Sweeps.{verifyRun, eraseRun}
 use Rattle.commands.specs.Table.{commandOf, obeyed, started, countOf, dropped, commandGiven}
 use Rattle.card.specs.declared.Meaning.the-variants.{WriteRegister}
 use Rattle.card.specs.Access.{Asked, meaning}
 use Rattle.card.specs.Perform.{perform, registerWritten}
 use Rattle.card.specs.Step.{step}
-use Rattle.laws.specs.Runs.{sweeps, Past, pastEnded}
+use Rattle.laws.specs.Runs.{runs, Past, pastEnded}
+
+-- the opcodes are those of Erase and Verify
+runs-elim : (P : Command → Type 0) (opcode : ℕ) → runs opcode ≡ true → P Erase → P Verify → P (commandOf opcode)
+unfolding commandOf
+runs-elim P opcode e x y = go (eqb opcode 0xC0) (eqb opcode 0x40) (eqb opcode 0x41) refl refl refl e
+  where
+    go : (a b c : Bool) → eqb opcode 0xC0 ≡ a → eqb opcode 0x40 ≡ b → eqb opcode 0x41 ≡ c → (a || (b || c)) ≡ true → P (commandOf opcode)
+    go true b c p q r e = rw (eqb-true opcode 0xC0 p) x
+    go false true c p q r e = rw (eqb-true opcode 0x40 q) y
+    go false false true p q r e = rw (eqb-true opcode 0x41 r) y
+    go false false false p q r e = absurd (false≢true e)
 
 module _ (m : Machine) (p : Spot) (good : locatedIn (m .state) ≡ Located.Good p) (past : Past (m .state) (p .index)) where
   -- more sectors are asked for than remain
   more : ltb (p .remain) (countOf (m .state)) ≡ true
+  unfolding countOf
   more =
       let r = remain-room (m .state .registers .address) (m .state .current) (totalIn (m .state)) p good in
       let x = r .0 in
       let y = r .1 in
       lt-ltb (p .remain) (countOf (m .state)) (omega arith)
 
-  obeys : (c : Command) → sweeps c ≡ true → obeyed c (started (dropped m .state)) (dropped m) ≡ pastEnded m
-  unfolding verifyRun eraseRun pastEnd countOf
-  obeys Read e = absurd (false≢true e)
-  obeys Write e = absurd (false≢true e)
-  obeys Verify e = rw (good, more)
-  obeys Erase e = rw (good, more)
-  obeys Identify e = absurd (false≢true e)
-  obeys ReadBuffer e = absurd (false≢true e)
-  obeys WriteBuffer e = absurd (false≢true e)
-  obeys SetGeometry e = absurd (false≢true e)
-  obeys Diagnose e = absurd (false≢true e)
-  obeys Recalibrate e = absurd (false≢true e)
-  obeys Seek e = absurd (false≢true e)
-  obeys Sense e = absurd (false≢true e)
-  obeys Other e = absurd (false≢true e)
-
-  pub past-given : (v : ℕ) → sweeps (commandOf v) ≡ true → commandGiven v m ≡ pastEnded m
-  unfolding commandGiven
-  past-given v e = obeys (commandOf v) e
+  pub past-given : (opcode : ℕ) → runs opcode ≡ true → commandGiven opcode m ≡ pastEnded m
+  unfolding commandGiven verifyRun eraseRun pastEnd countOf
+  past-given opcode e = runs-elim (λ (c : Command). obeyed c (started (dropped m .state)) (dropped m) ≡ pastEnded m) opcode e (rw (good, more)) (rw (good, more))
 
   -- as an access: a Command write that is taken, and in no reset
-  pub past-unchanged : (a : Asked) (v : ℕ) → meaning m a ≡ WriteRegister StatusCommand v → m .state .control .held ≡ false → sweeps (commandOf v) ≡ true → step m a .next ≡ pastEnded m
+  pub past-unchanged : (a : Asked) (opcode : ℕ) → meaning m a ≡ WriteRegister StatusCommand opcode → m .state .control .held ≡ false → runs opcode ≡ true → step m a .next ≡ pastEnded m
   unfolding step perform registerWritten
-  past-unchanged a v w h e = rw w (ap (λ (b : Bool). pick b m (commandGiven v m)) h ∙ past-given v e)
+  past-unchanged a opcode w h e = rw w (ap (λ (b : Bool). pick b m (commandGiven opcode m)) h ∙ past-given opcode e)

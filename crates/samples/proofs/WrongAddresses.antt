@@ -26,7 +26,7 @@ pub cylinder-first-4 : holdsOf cylinderFirst reader sample4 ≡ false
 unfolding computing cylinderFirst
 cylinder-first-4 = refl
 
--- (4,0,1) is good; LBA 32 is good; there is a third sector to read; Verify ends well
+-- (4,0,1) is good; LBA 32 is good; there is a third sector to read
 pub past-end-as-zero-3 : holdsOf pastEndAsZero reader sample3 ≡ false
 unfolding computing pastEndAsZero fromSectorZero
 past-end-as-zero-3 = refl
