@@ -42,7 +42,7 @@ module _ (g : Geometry) (n : ℕ) (current : currentFor g n ≡ true) (most : n 
       let r : room - (p .index + 1) - k ≡ p .remain - suc k = omega arith in
       rw (i, r)
 
-  -- "from a good address with r remaining", the next r - 1 are good …
+  -- from a good address with r remaining the next r - 1 are good …
   pub run-good : (k : ℕ) (a : Address) (p : Spot) → locate a g n ≡ Located.Good p → k < p .remain → locate (later k a g) g n ≡ Located.Good (onBy k p)
   unfolding later
   run-good zero a p e l =
