@@ -1,4 +1,5 @@
--- 02, "Six": an Erase or Verify whose run fits never fails an address test after its first: it ends well, or at a mark.
+-- 02, "Six": an Erase or Verify whose run fits never fails an address test after its first: it ends well, or with the
+-- Status, Error and code of a mark.
 use Prim.Native.Nat.{ℕ, zero, suc, _+_, _≤_}
 use mathlib.Core.Bool.{Bool, true}
 use mathlib.Core.Path.{_≡_, refl, sym, ap, subst, _∙_}

@@ -1,5 +1,6 @@
 -- 02, "Six": "Erase and Verify use it: a run past the end ends before its first sector with IDNF, 2FH, the registers unchanged." Its opcodes, Count and numbers
--- are said anew: a law that took the card's own would share a slip of theirs.
+-- are said anew: a law that took the card's own would share a slip of theirs. The room is that of the address decision, which geometry's laws of the next
+-- address and the account hold.
 use Prim.Native.Nat.{ℕ, _+_, _<_}
 use mathlib.Core.Bool.{Bool, true, _||_}
 use lib.Dec.{eqb}
