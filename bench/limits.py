@@ -2,7 +2,8 @@
 import sessions
 
 OFF_LINE = 0.005  # of the rise from the shortest session to the longest
-# Instructions an access, by session: none more than before the card kept the number of bad sectors (02, "Eight"), the fraction dropped.
+# Instructions an access, by session: none more than before the card kept the number of bad sectors (02, "Eight"), the fraction dropped;
+# of Read and Write Multiple (02, "One") three more than they took at first, rounded up.
 MOST = {
     "words": 141,
     "bytes": 165,
@@ -12,6 +13,8 @@ MOST = {
     "bytes-read": 160,
     "words-written": 145,
     "bytes-written": 170,
+    "words-multiple": 133,
+    "bytes-multiple": 159,
 }
 
 

@@ -99,15 +99,15 @@ class Bench:
         self.trace = not native() and cardrun is None and emulator()
         self.counted = "instructions" if self.callgrind or self.trace else "accesses answered"
 
-    def path(self, kind, blocks):
-        path = os.path.join(self.folder, f"{kind}-{blocks}")
+    def path(self, kind, parts):
+        path = os.path.join(self.folder, f"{kind}-{parts}")
         if not os.path.exists(path):
             with open(path, "wb") as file:
-                file.write(sessions.session(kind, blocks)[0])
+                file.write(sessions.session(kind, parts)[0])
         return path
 
-    def cost(self, name, kind, blocks):
-        path, command = self.path(kind, blocks), self.programs[name]
+    def cost(self, name, kind, parts):
+        path, command = self.path(kind, parts), self.programs[name]
         if self.callgrind:
             return instructions(self.callgrind, command, path, self.folder)
         if self.trace:
@@ -120,13 +120,13 @@ class Bench:
 
     def line(self, name, kind):
         """(accesses, cost) for each length."""
-        return [(sessions.session(kind, blocks)[1], self.cost(name, kind, blocks)) for blocks in sessions.lengths(kind)]
+        return [(sessions.session(kind, parts)[1], self.cost(name, kind, parts)) for parts in sessions.lengths(kind)]
 
     def same(self, kind):
         """Every access has an answer, and the programs print the same."""
-        blocks = sessions.most_blocks(kind)
-        printed = {name: output_of(command, self.path(kind, blocks)) for name, command in self.programs.items()}
-        accesses = sessions.session(kind, blocks)[1]
+        parts = sessions.most_parts(kind)
+        printed = {name: output_of(command, self.path(kind, parts)) for name, command in self.programs.items()}
+        accesses = sessions.session(kind, parts)[1]
         for name, text in printed.items():
             if answered(text) != accesses:
                 raise Fault(f"{kind}, {name}: it answers {answered(text)} of {accesses} accesses")
@@ -147,8 +147,8 @@ def run_once(command, path):
 
 def rates(bench, kind, rounds):
     """Accesses a second of each program; None where the run is too short to tell."""
-    full, empty = (bench.path(kind, blocks) for blocks in (sessions.most_blocks(kind), 0))
-    accesses = sessions.session(kind, sessions.most_blocks(kind))[1] - sessions.session(kind, 0)[1]
+    full, empty = (bench.path(kind, parts) for parts in (sessions.most_parts(kind), 0))
+    accesses = sessions.session(kind, sessions.most_parts(kind))[1] - sessions.session(kind, 0)[1]
     best = {}
     for _ in range(rounds):
         for name, command in bench.programs.items():

@@ -1,7 +1,7 @@
 """A plot of lines through points, as SVG text."""
 
 WIDE, HIGH, LEFT, RIGHT, LOW = 790, 460, 90, 230, 50
-COLOURS = ("#1b6ca8", "#c0392b", "#2e8b57", "#8e44ad", "#d68910", "#16a085", "#7f8c8d", "#5d4037")
+COLOURS = ("#1b6ca8", "#c0392b", "#2e8b57", "#8e44ad", "#d68910", "#16a085", "#7f8c8d", "#5d4037", "#d81b60", "#212121")
 
 
 def steps(most, count=5):

@@ -54,8 +54,12 @@ pub fn glance(host: &mut Host) {
     host.transfer(1, Style::Words);
 }
 
-/// A command over sectors to its end; of each sector of data the last word alone is moved.
+/// A command over sectors to its end; of each sector of data the last word alone is moved. C5H gets a
+/// block of 4.
 fn run(host: &mut Host, opcode: u8, first: usize, count: u8, lba: bool) {
+    if opcode == 0xC5 {
+        host.set_field(27, 4);
+    }
     host.name_sector(first, lba);
     host.put(2, count);
     host.put(7, opcode);
@@ -102,7 +106,7 @@ fn openings(seed: u64, all: &mut Vec<Case>) {
 /// it, where an Erase leaves the number.
 fn runs(seed: u64, all: &mut Vec<Case>) {
     let mut number = 0;
-    for opcode in [0x30, 0x31, 0xC0] {
+    for opcode in [0x30, 0x31, 0xC0, 0xC5] {
         for lba in [false, true] {
             for mode in 0..2 {
                 number += 1;
@@ -150,7 +154,7 @@ fn runs_of(host: &mut Host, opcode: u8, lba: bool) {
 /// them, to 0 and no further.
 fn outside(seed: u64, all: &mut Vec<Case>) {
     let mut number = 0;
-    for opcode in [0x30, 0xC0] {
+    for opcode in [0x30, 0xC0, 0xC5] {
         for mode in 0..2 {
             number += 1;
             let mut host = small(Group::BadOutside.seed(seed, number), mode);
@@ -202,8 +206,8 @@ fn all_marks(seed: u64, all: &mut Vec<Case>) {
 fn large(seed: u64, all: &mut Vec<Case>) {
     let cards = [(257, 1, 1), (4, 16, 16), (256, 1, 1), (1, 4, 255)];
     for (number, g) in cards.into_iter().enumerate() {
-        for (k, opcode) in [0x30, 0xC0].into_iter().enumerate() {
-            let seed = Group::BadLarge.seed(seed, 2 * number + k);
+        for (k, opcode) in [0x30, 0xC0, 0xC5].into_iter().enumerate() {
+            let seed = Group::BadLarge.seed(seed, 3 * number + k);
             let mut host = Host::trial(seed, geometry(g), (number % 2) as u16);
             let n = host.marks.len();
             open_over(&mut host, |at| if at == n - 1 { 2 } else { 1 });

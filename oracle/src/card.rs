@@ -1,5 +1,7 @@
-//! The card as one mutable device: its parts, opening, power-on, what is well made, what is refused.
+//! The card as one mutable device: its parts, opening, power-on, what is refused.
 
+use crate::block_cover::Since;
+use crate::blocks::Late;
 use crate::cover;
 use crate::maps::{self, Mode, Place};
 use crate::mutants::{on, Change};
@@ -113,6 +115,12 @@ pub struct Card {
     /// The running transfer moves sectors, not the buffer alone.
     pub sectors: bool,
     pub left: u16,
+    /// The block that C6H has set; 0 is none.
+    pub block: u16,
+    /// Of a running sector transfer: the sectors from one setting of the mark to the next, and how many
+    /// of them have moved. Both are 0 when none runs.
+    pub stride: u16,
+    pub place: u16,
     pub words: u16,
     pub half: Half,
     pub trace: Trace,
@@ -140,6 +148,18 @@ pub struct Trace {
     /// The same: when its present sector was asked for, and whether that is the command's first.
     pub asked: Then,
     pub first: bool,
+    /// The running transfer is that of C4H or C5H.
+    pub multiple: bool,
+    /// The C4H or C5H that the present command has dropped: the sectors at its start.
+    pub started: Option<u16>,
+    /// The place in its block where the last transfer ended.
+    pub place: u16,
+    /// What has come since the block was set or forgotten.
+    pub since: Vec<Since>,
+    /// Sectors of a block that a small change has not stored yet.
+    pub waiting: Vec<(usize, [u8; 512])>,
+    /// An error that a small change tells at the end of its block.
+    pub late: Option<Late>,
 }
 
 impl Trace {
@@ -189,6 +209,9 @@ impl Card {
             phase: Phase::Idle,
             sectors: false,
             left: 0,
+            block: 0,
+            stride: 0,
+            place: 0,
             words: 0,
             half: Half::Nothing,
             trace: Trace::default(),
@@ -204,6 +227,7 @@ impl Card {
             card.default = geometry;
             card.power_on(0);
             card.bad = opening_bad(lent.marks);
+            card.block = on(Change::OpeningSetsBlock) as u16;
             cover::opened(lent.marks);
         } else {
             cover::refusal(number);
@@ -221,7 +245,7 @@ impl Card {
         self.setting = setting;
     }
 
-    /// The power-on registers, code 00H and default geometry; no transfer, no mark.
+    /// The power-on registers, code 00H and default geometry; no transfer, no mark, no block.
     pub fn power_on_registers(&mut self) {
         self.stop_transfer();
         self.status = IDLE;
@@ -234,13 +258,21 @@ impl Card {
         self.code = 0;
         self.current = self.default;
         self.mark = false;
+        self.block = 0;
     }
 
     pub fn stop_transfer(&mut self) {
+        if self.sectors {
+            self.trace.place = self.place;
+        }
         self.phase = Phase::Idle;
         self.sectors = false;
         self.left = 0;
+        (self.stride, self.place) = (0, 0);
         self.words = 0;
+        self.trace.multiple = false;
+        self.trace.waiting.clear();
+        self.trace.late = None;
         self.trace.given = Then::default();
         self.trace.asked = Then::default();
         if !on(Change::HalfOutlives) {
@@ -324,110 +356,6 @@ fn wrong_length(geometry: Geometry, lent: &Lent) -> u8 {
         5
     } else {
         0
-    }
-}
-
-// ---------------------------------------------------------------- well made
-
-/// 01's list of what makes a card well made, and what 02 adds to it.
-#[derive(Clone, Copy, PartialEq, Eq, Debug)]
-pub enum Condition {
-    /// The geometry fits the limits.
-    Default,
-    /// Current H is 1..16.
-    Heads,
-    /// Current S is 1..255.
-    Track,
-    /// Current C is N div (H·S), at least 1.
-    Cylinders,
-    /// The map index is 0..3.
-    Index,
-    /// SRESET is not set in mode 1.
-    Sreset,
-    /// Status is 58H exactly in a transfer.
-    Status,
-    /// No transfer in a held reset.
-    Held,
-    /// Words moved are 0..255.
-    Words,
-    /// A sector transfer's address and count.
-    Sectors,
-    /// The number of bad sectors is at most N.
-    Bad,
-}
-
-const CONDITIONS: [Condition; 11] = [
-    Condition::Default,
-    Condition::Heads,
-    Condition::Track,
-    Condition::Cylinders,
-    Condition::Index,
-    Condition::Sreset,
-    Condition::Status,
-    Condition::Held,
-    Condition::Words,
-    Condition::Sectors,
-    Condition::Bad,
-];
-
-impl Card {
-    fn holds(&self, condition: Condition) -> bool {
-        match condition {
-            Condition::Default => self.default.fits(),
-            Condition::Heads => (1..=16).contains(&self.current.h),
-            Condition::Track => (1..=255).contains(&self.current.s),
-            Condition::Cylinders => self.current_c_agrees(),
-            Condition::Index => self.index() <= 3,
-            Condition::Sreset => !(self.sreset && self.mode == Mode::TrueIde),
-            Condition::Status => self.status_agrees(),
-            Condition::Held => !self.running() || !(self.sreset || self.hold),
-            Condition::Words => !self.running() || self.words <= 255,
-            Condition::Sectors => self.sectors_agree(),
-            Condition::Bad => self.bad_fits(),
-        }
-    }
-
-    pub fn well_made(&self) -> bool {
-        if CONDITIONS.into_iter().all(|c| self.holds(c)) {
-            return true;
-        }
-        let broken: Vec<Condition> = CONDITIONS.into_iter().filter(|&c| !self.holds(c)).collect();
-        if let [only] = broken[..] {
-            cover::condition(only, self);
-        }
-        broken == [Condition::Status] && on(Change::StatusIgnored)
-            || broken == [Condition::Sectors] && on(Change::SectorsIgnored)
-            || broken == [Condition::Bad] && on(Change::BadIgnored)
-    }
-
-    fn current_c_agrees(&self) -> bool {
-        let track = self.current.h as u64 * self.current.s as u64;
-        // A track of no sectors breaks the conditions on H and S, not this one.
-        track == 0 || {
-            let c = self.default.sectors() / track;
-            c >= 1 && c == self.current.c as u64
-        }
-    }
-
-    fn status_agrees(&self) -> bool {
-        match self.running() {
-            true => self.status == DATA,
-            false => matches!(self.status, IDLE | FAILED | FAULT),
-        }
-    }
-
-    fn sectors_agree(&self) -> bool {
-        !(self.running() && self.sectors)
-            || (self.locate().is_ok()
-                && (1..=256).contains(&self.left)
-                && self.left % 256 == self.count as u16)
-    }
-
-    /// "at most N", whatever the marks and the current geometry are.
-    fn bad_fits(&self) -> bool {
-        let of = if on(Change::BadByCurrent) { self.current } else { self.default };
-        let bad = self.bad as u64 + on(Change::BadBelowTotal) as u64;
-        bad <= of.sectors()
     }
 }
 

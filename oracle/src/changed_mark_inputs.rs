@@ -40,7 +40,9 @@ fn begin(host: &mut Host, plan: &Plan) {
     let lba = host.rng.flip();
     host.name_sector(plan.first, lba);
     host.put(2, plan.count as u8);
-    host.put(7, 0x30);
+    host.set_field(27, 2);
+    let opcode = host.rng.pick(&[0x30, 0xC5]);
+    host.put(7, opcode);
     for _ in 0..plan.hand {
         last_word(host, Style::Words);
     }

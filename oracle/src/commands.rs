@@ -1,7 +1,8 @@
 //! The commands of 01's table, and what follows the last byte of a sector.
 
 use crate::addresses::Located;
-use crate::card::{bad_sectors, Card, Geometry, Lent, Phase, Then, DATA, FAILED, FAULT, IDLE};
+use crate::block_cover;
+use crate::card::{bad_sectors, Card, Geometry, Lent, Phase, DATA, FAILED, FAULT, IDLE};
 use crate::cover;
 use crate::mutants::{on, Change};
 use crate::points::Kept;
@@ -16,11 +17,14 @@ pub const UNC: u8 = 0x40;
 pub enum Row {
     Read,
     Write,
+    ReadMultiple,
+    WriteMultiple,
     Verify,
     Erase,
     Identify,
     ReadBuffer,
     WriteBuffer,
+    SetMultiple,
     Parameters,
     Diagnose,
     Recalibrate,
@@ -32,7 +36,22 @@ pub enum Row {
 impl Row {
     /// Does the command look at the address registers?
     pub fn addressed(self) -> bool {
-        matches!(self, Row::Read | Row::Write | Row::Verify | Row::Erase | Row::Seek)
+        self.reads() || self.writes() || matches!(self, Row::Verify | Row::Erase | Row::Seek)
+    }
+
+    /// Does it read sectors, moving data?
+    pub fn reads(self) -> bool {
+        matches!(self, Row::Read | Row::ReadMultiple)
+    }
+
+    /// Does it write sectors, moving data?
+    pub fn writes(self) -> bool {
+        matches!(self, Row::Write | Row::WriteMultiple)
+    }
+
+    /// Does it go by the block that C6H has set?
+    pub fn by_blocks(self) -> bool {
+        matches!(self, Row::ReadMultiple | Row::WriteMultiple)
     }
 }
 
@@ -40,6 +59,9 @@ pub fn row(opcode: u8) -> Row {
     match opcode {
         0x20 | 0x21 => Row::Read,
         0x30 | 0x31 => Row::Write,
+        0xC4 => Row::ReadMultiple,
+        0xC5 => Row::WriteMultiple,
+        0xC6 => Row::SetMultiple,
         0x40 | 0x41 => Row::Verify,
         0xC0 => Row::Erase,
         0xEC => Row::Identify,
@@ -62,13 +84,22 @@ impl Card {
         if on(Change::DropStores) && self.phase == Phase::Out && self.sectors {
             self.store_buffer(lent);
         }
+        if on(Change::SetInTransferLost) && row == Row::SetMultiple && self.running() {
+            return;
+        }
         self.keep_dropped(Kept::Dropped, lent);
         if on(Change::DropLowersBad) && self.would_clear(lent) {
             self.lower_bad();
         }
         self.mark = false;
+        self.trace.started = self.sectors_at_start();
         self.trace.begin(self.phase);
         self.stop_transfer();
+        self.carry_out(row, lent);
+        block_cover::commanded(self, row);
+    }
+
+    fn carry_out(&mut self, row: Row, lent: &mut Lent) {
         if row == Row::Sense {
             return self.sense();
         }
@@ -78,8 +109,10 @@ impl Card {
         self.code = 0;
         match row {
             Row::Read | Row::Write | Row::Verify | Row::Erase => self.sector_command(row, lent),
+            Row::ReadMultiple | Row::WriteMultiple => self.block_command(row, lent),
+            Row::SetMultiple => self.set_multiple(),
             Row::Identify => self.identify(lent),
-            Row::ReadBuffer => self.offer(),
+            Row::ReadBuffer => self.offer(true),
             Row::WriteBuffer => self.ask(),
             Row::Parameters => self.parameters(lent),
             Row::Diagnose => self.diagnose(lent),
@@ -90,36 +123,41 @@ impl Card {
     }
 
     /// A command's good end that is not the good end of reading data.
-    fn good(&mut self, row: Row) {
+    pub fn good(&mut self, row: Row) {
         self.end(row, 0, 0);
         self.status = IDLE;
         self.mark = true;
     }
 
     pub fn fail(&mut self, row: Row, status: u8, error: u8, code: u8) {
+        let unmarked = self.place > 0 && on(Change::InsideErrorUnmarked);
+        if on(Change::ErrorForgetsBlock) {
+            self.block = 0;
+        }
         self.error = error;
         self.code = code;
         self.end(row, error, code);
         self.status = status;
-        self.mark = true;
+        self.mark |= !unmarked;
     }
 
     fn end(&mut self, row: Row, error: u8, code: u8) {
         cover::end(row, self.lba(), error, code);
         cover::lowered(row, self.trace.lowered, error, code);
         run_cover::ended(row, self.lba(), self.trace.done, error, code);
+        block_cover::ended(self, row, error, code);
         self.trace.lowered = 0;
         self.trace.done = 0;
         self.stop_transfer();
     }
 
-    /// The buffer becomes ready for the host to read.
-    fn offer(&mut self) {
+    /// The buffer becomes ready for the host to read, and this may set the mark.
+    pub fn offer(&mut self, marks: bool) {
         self.trace.identity = false;
         self.phase = Phase::In;
         self.words = 0;
         self.status = DATA;
-        self.mark = true;
+        self.mark |= marks;
     }
 
     /// The host is asked for the buffer's content.
@@ -149,6 +187,9 @@ impl Card {
         self.cyl_low = 0;
         self.cyl_high = 0;
         self.head &= if on(Change::DiagnoseLeavesLba) { 0x40 } else { 0 };
+        if on(Change::DiagnoseForgetsBlock) {
+            self.block = 0;
+        }
         if on(Change::DiagnoseForgetsGeometry) {
             self.current = self.default;
         }
@@ -174,6 +215,9 @@ impl Card {
         self.keep_bad(Kept::Parameters, lent);
         if on(Change::ParametersRecount) {
             self.bad = bad_sectors(lent.marks);
+        }
+        if on(Change::ParametersForgetBlock) {
+            self.block = 0;
         }
         let c = (self.default.sectors() / track) as u16;
         self.current = Geometry::new(c, h, s);
@@ -206,10 +250,11 @@ impl Card {
 // ---------------------------------------------------------------- sector commands
 
 impl Card {
-    fn sector_command(&mut self, row: Row, lent: &mut Lent) {
+    pub fn sector_command(&mut self, row: Row, lent: &mut Lent) {
         self.left = match self.count {
             0 if on(Change::CountZeroIsOne) => 1,
             0 => 256,
+            n if on(Change::CountInBlocks) && row.by_blocks() => n as u16 * self.block,
             n => n as u16,
         };
         run_cover::begun(self, row, lent.marks);
@@ -217,23 +262,34 @@ impl Card {
             return self.end_past(row, lent);
         }
         match row {
-            Row::Read => self.read_sector(lent),
-            Row::Write => self.ask_first(lent),
+            _ if row.reads() => self.read_first(row, lent),
+            _ if row.writes() => self.ask_first(row, lent),
             _ => while self.quiet_sector(row, lent) {},
         }
     }
 
+    fn read_first(&mut self, row: Row, lent: &mut Lent) {
+        self.begin_block(row);
+        if on(Change::ReadForgetsBlock) && row == Row::Read {
+            self.block = 0;
+        }
+        self.read_sector(lent);
+    }
+
     /// Makes the present sector ready to be read, or ends in error.
     fn read_sector(&mut self, lent: &mut Lent) {
-        let Some(at) = self.sound(Row::Read, lent) else {
+        let Some(at) = self.sound(self.reading(), lent) else {
             return;
         };
         self.buffer.copy_from_slice(&lent.store[512 * at..512 * at + 512]);
         self.sectors = true;
-        self.offer();
+        block_cover::asked(self, self.reading());
+        self.offer(self.marks_block());
     }
 
-    fn ask_first(&mut self, lent: &Lent) {
+    fn ask_first(&mut self, row: Row, lent: &Lent) {
+        self.begin_block(row);
+        self.mark |= on(Change::FirstBlockMarks) && row == Row::WriteMultiple;
         self.trace.given = self.then(lent);
         self.trace.first = true;
         self.ask_sector(lent);
@@ -242,9 +298,10 @@ impl Card {
     /// Asks for the present sector of a write, if there is such a sector.
     fn ask_sector(&mut self, lent: &Lent) {
         match self.locate() {
-            Err(code) => self.fail(Row::Write, FAILED, IDNF, code),
+            Err(code) => self.fail(self.writing(), FAILED, IDNF, code),
             Ok(_) => {
                 self.sectors = true;
+                block_cover::asked(self, self.writing());
                 self.ask();
                 self.trace.asked = self.then(lent);
                 if on(Change::BadLoweredEarly) && self.would_clear(lent) {
@@ -289,7 +346,7 @@ impl Card {
                     1 => true,
                     _ => !on(Change::MarkAboveSound),
                 };
-                if !bad {
+                if !bad && !self.bad_ahead(at, lent) || self.passed_over() || self.put_off() {
                     return Some(at);
                 }
                 self.keep_bad(Kept::Unreadable, lent);
@@ -316,14 +373,21 @@ impl Card {
         cover::stored(row, mark, self.bad, lent.marks);
         cover::changed(&self.trace, at, mark);
         let [faulting, clearing] = self.deciding(at, mark);
-        if faulting == 2 {
+        if faulting == 2 && self.put_off() {
+            return true;
+        }
+        if faulting == 2 && !self.passed_over() {
             if on(Change::FaultLowersBad) {
                 self.lower_bad();
             }
             self.fail(row, FAULT, ABRT, 0x03);
             return false;
         }
-        lent.store[512 * at..512 * at + 512].copy_from_slice(bytes);
+        if on(Change::BlockStoredWhole) {
+            self.store_block(at, bytes, lent);
+        } else {
+            lent.store[512 * at..512 * at + 512].copy_from_slice(bytes);
+        }
         self.cleared(row, clearing);
         if !on(Change::WriteLeavesMark) {
             lent.marks[at] = 0;
@@ -351,7 +415,7 @@ impl Card {
     /// true; else the registers name the next sector.
     fn one_done(&mut self, row: Row) -> bool {
         self.left = self.left.saturating_sub(1);
-        self.trace.done += 1;
+        self.trace.done = self.trace.done.saturating_add(1);
         self.count = self.left as u8;
         if self.left == 0 {
             self.good_sectors(row);
@@ -365,17 +429,29 @@ impl Card {
         if on(Change::EndNamesNext) {
             self.advance();
         }
-        if row == Row::Read && !on(Change::ReadEndMarks)
-            || row == Row::Verify && on(Change::VerifyEndUnmarked)
-        {
+        if on(Change::EndForgetsBlock) && row.by_blocks() {
+            self.block = 0;
+        }
+        if self.leaves_mark(row) {
             self.good_read(row);
         } else {
             self.good(row);
         }
     }
 
+    /// "except a good end of reading data".
+    fn leaves_mark(&self, row: Row) -> bool {
+        match row {
+            Row::Read => !on(Change::ReadEndMarks),
+            Row::ReadMultiple => !on(Change::BlockReadEndMarks),
+            Row::WriteMultiple => on(Change::BlockWriteEndUnmarked),
+            Row::Verify => on(Change::VerifyEndUnmarked),
+            _ => false,
+        }
+    }
+
     /// The good end of reading data leaves the mark as it is.
-    fn good_read(&mut self, row: Row) {
+    pub fn good_read(&mut self, row: Row) {
         self.end(row, 0, 0);
         self.status = IDLE;
     }
@@ -386,6 +462,10 @@ impl Card {
 impl Card {
     /// All 512 bytes of the present sector or buffer have moved.
     pub fn sector_moved(&mut self, lent: &mut Lent) {
+        block_cover::moved(self);
+        if self.ends_late() {
+            return;
+        }
         match (self.phase, self.sectors) {
             (Phase::In, true) => self.sector_was_read(lent),
             (Phase::Out, true) => self.sector_was_written(lent),
@@ -396,170 +476,29 @@ impl Card {
     }
 
     fn sector_was_read(&mut self, lent: &mut Lent) {
-        if !self.one_done(Row::Read) {
+        if !self.one_done(self.reading()) {
+            self.next_in_block();
             self.read_sector(lent);
         }
     }
 
     fn sector_was_written(&mut self, lent: &mut Lent) {
-        if self.store_buffer(lent) && !self.one_done(Row::Write) {
+        if self.store_buffer(lent) && !self.one_done(self.writing()) {
             self.trace.first = false;
+            self.next_in_block();
+            // The first sector of a second or later block is asked for; an error end sets the mark
+            // as well.
+            let marks = self.marks_block() && !on(Change::SecondSectorUnmarked);
             self.ask_sector(lent);
-            // A second or later sector is asked for; an error end sets the mark as well.
-            self.mark |= !on(Change::SecondSectorUnmarked);
+            self.mark |= marks;
         }
     }
 
     fn store_buffer(&mut self, lent: &mut Lent) -> bool {
         let bytes = self.buffer;
         match self.locate() {
-            Ok(found) => self.put_sector(Row::Write, found.at, &bytes, lent),
+            Ok(found) => self.put_sector(self.writing(), found.at, &bytes, lent),
             Err(_) => false,
         }
     }
-}
-
-// ---------------------------------------------------------------- the number of bad sectors
-
-impl Card {
-    /// A stored sector's mark, not yet 0: "writes and Erase can lower it". The stored mark decides;
-    /// a sound sector's leaves it.
-    fn cleared(&mut self, row: Row, mark: u8) {
-        let lowers = match mark {
-            0 => on(Change::SoundLowersBad),
-            3.. => !on(Change::AboveLeavesBad),
-            _ => true,
-        };
-        let left = match row {
-            Row::Erase => on(Change::EraseLeavesBad),
-            _ => on(Change::WriteLeavesBad) || on(Change::BadLoweredEarly),
-        };
-        if lowers && !left {
-            self.lower_bad();
-        }
-    }
-
-    /// "never below 0".
-    pub fn lower_bad(&mut self) {
-        self.trace.kept = None;
-        self.trace.lowered += (self.bad > 0) as u16;
-        self.bad = match self.bad {
-            0 if on(Change::BadWraps) => u16::MAX,
-            bad => bad.saturating_sub(1),
-        };
-    }
-
-    /// The last byte of the sector that is being written would turn its mark into 0.
-    fn would_clear(&self, lent: &Lent) -> bool {
-        let writing = self.phase == Phase::Out && self.sectors;
-        writing && self.locate().is_ok_and(|found| !matches!(lent.marks[found.at], 0 | 2))
-    }
-
-    /// The marks and the number as they are.
-    fn then(&self, lent: &Lent) -> Then {
-        Then { marks: lent.marks.to_vec(), bad: self.bad }
-    }
-
-    /// What keeps the number is about to be done; for the coverage table alone.
-    pub fn keep_bad(&mut self, what: Kept, lent: &Lent) {
-        cover::kept(what, self.bad, lent.marks);
-        self.trace.kept = Some(what).filter(|what| what.shown());
-    }
-
-    /// The same of a write that is broken off where its last byte would lower it.
-    pub fn keep_dropped(&mut self, what: Kept, lent: &Lent) {
-        if self.would_clear(lent) {
-            self.keep_bad(what, lent);
-        }
-    }
-
-    /// The present word has moved; of Identify's word 129 the coverage table is told.
-    pub fn word_shown(&mut self, lent: &Lent) {
-        if self.phase == Phase::In && self.trace.identity && self.words == 129 {
-            cover::bad_shown(self, lent.marks);
-            self.trace.told = Some(u16::from_le_bytes([self.buffer[258], self.buffer[259]]));
-            self.trace.kept = None;
-        }
-    }
-}
-
-// ---------------------------------------------------------------- Identify
-
-impl Card {
-    fn identify(&mut self, lent: &Lent) {
-        let bad = if on(Change::IdentifyRecounts) { bad_sectors(lent.marks) } else { self.bad };
-        for (i, word) in self.identify_words(bad).into_iter().enumerate() {
-            self.buffer[2 * i..2 * i + 2].copy_from_slice(&word.to_le_bytes());
-        }
-        self.offer();
-        self.trace.identity = true;
-        cover::identify();
-    }
-
-    fn identify_was_read(&mut self) {
-        cover::identified(self);
-        self.trace.shown = Some(self.current);
-        self.good_read(Row::Identify);
-    }
-
-    fn identify_words(&self, bad: u16) -> [u16; 256] {
-        let mut w = self.plain_words(self.current, bad);
-        let summed = if on(Change::IntegrityByDefault) {
-            self.plain_words(self.default, bad)
-        } else if on(Change::IntegrityWithoutBad) {
-            self.plain_words(self.current, 0)
-        } else {
-            w
-        };
-        w[255] = integrity(&summed[..255]);
-        w
-    }
-
-    /// The words of 01 for this current geometry and 02's word 129 for so many bad sectors; word
-    /// 255 is still 0.
-    fn plain_words(&self, now: Geometry, bad: u16) -> [u16; 256] {
-        let mut w = [0u16; 256];
-        let all = self.default;
-        let n = all.sectors() as u32;
-        let capacity = now.sectors() as u32;
-        let high = |x: u32| (x >> 16) as u16;
-        let low = |x: u32| x as u16;
-        w[0] = 0x848A;
-        (w[1], w[3], w[6]) = (all.c, all.h, all.s);
-        (w[7], w[8]) = if on(Change::TotalSwapped) { (low(n), high(n)) } else { (high(n), low(n)) };
-        for blank in (10..=19).chain(23..=46) {
-            w[blank] = 0x2020;
-        }
-        w[49] = 0x0200;
-        w[53] = 1;
-        (w[54], w[55], w[56]) = (now.c, now.h, now.s);
-        (w[57], w[58]) = if on(Change::CapacityIsTotal) {
-            (low(n), high(n))
-        } else {
-            (low(capacity), high(capacity))
-        };
-        (w[60], w[61]) = (low(n), high(n));
-        w[if on(Change::BadInWord128) { 128 } else { 129 }] = match bad {
-            _ if on(Change::BadByLowByte) => bad & 0xFF,
-            _ if on(Change::BadSwapped) => bad.swap_bytes(),
-            _ => bad,
-        };
-        w
-    }
-}
-
-/// Word 255 after these words: "low byte A5H, and the high byte such that all 512 bytes, summed
-/// with wrap-around in eight bits, give 0". So the high byte fills the sum up to a multiple of 256.
-fn integrity(words: &[u16]) -> u16 {
-    const LOW: u8 = 0xA5;
-    let bytes = words.iter().flat_map(|word| word.to_le_bytes());
-    let first = on(Change::IntegrityWithoutFirst) as usize;
-    let low = if on(Change::IntegrityWithoutLow) { 0 } else { LOW };
-    let sum: u32 = bytes.skip(first).chain([low]).map(u32::from).sum();
-    let high = match sum.next_multiple_of(256) - sum {
-        _ if on(Change::IntegrityIsSum) => sum as u8,
-        0 if on(Change::IntegrityNeverZero) => 0xFF,
-        fill => fill as u8,
-    };
-    u16::from_le_bytes(if on(Change::IntegritySwapped) { [high, LOW] } else { [LOW, high] })
 }

@@ -84,23 +84,10 @@ pub fn coverage(seed: u64) -> bool {
 // ---------------------------------------------------------------- one suite
 
 fn run_suite(name: &str, suite: &Suite, program: &str) -> (usize, usize) {
-    let next = AtomicUsize::new(0);
-    let faults = Mutex::new(Vec::new());
-    thread::scope(|scope| {
-        for _ in 0..2 {
-            scope.spawn(|| loop {
-                let i = next.fetch_add(1, Relaxed);
-                if i >= suite.cases.len() {
-                    return;
-                }
-                if let Err(why) = one(program, &suite.cases[i], &suite.texts[i]) {
-                    faults.lock().unwrap().push((i, why));
-                }
-            });
-        }
+    let faults = on_two_threads(suite.cases.len(), |i| {
+        one(program, &suite.cases[i], &suite.texts[i]).err().map(|why| (i, why))
     });
-    let mut faults = faults.into_inner().unwrap();
-    faults.sort();
+    let faults: Vec<(usize, String)> = faults.into_iter().flatten().collect();
     for (i, why) in faults.iter().take(SHOWN) {
         println!("{}: {why}", suite.cases[*i].name);
     }
@@ -115,6 +102,27 @@ fn run_suite(name: &str, suite: &Suite, program: &str) -> (usize, usize) {
         faults.len()
     );
     (passed, faults.len())
+}
+
+/// What `work` gives for each number below `count`, in that order.
+fn on_two_threads<T: Send>(count: usize, work: impl Fn(usize) -> T + Sync) -> Vec<T> {
+    let next = AtomicUsize::new(0);
+    let done = Mutex::new(Vec::new());
+    thread::scope(|scope| {
+        for _ in 0..2 {
+            scope.spawn(|| loop {
+                let i = next.fetch_add(1, Relaxed);
+                if i >= count {
+                    return;
+                }
+                let given = work(i);
+                done.lock().unwrap().push((i, given));
+            });
+        }
+    });
+    let mut done = done.into_inner().unwrap();
+    done.sort_by_key(|&(i, _)| i);
+    done.into_iter().map(|(_, given)| given).collect()
 }
 
 fn one(program: &str, case: &Case, expected: &str) -> Result<(), String> {
@@ -235,18 +243,8 @@ fn record_at(bytes: &[u8], number: usize) -> Option<String> {
 /// `oracle mutants`: each small change of this program has to be found.
 pub fn mutants(seed: u64) -> bool {
     let suites = [Suite::sessions(seed), Suite::trials(seed)];
-    let found: Vec<Option<String>> = thread::scope(|scope| {
-        let halves = [0, 1].map(|odd| {
-            let suites = &suites;
-            scope.spawn(move || {
-                let places = (0..Change::TABLE.len()).filter(|i| i % 2 == odd);
-                places.map(|i| (i, find(Change::TABLE[i].0, suites))).collect::<Vec<_>>()
-            })
-        });
-        let mut all: Vec<_> = halves.into_iter().flat_map(|h| h.join().unwrap()).collect();
-        all.sort();
-        all.into_iter().map(|(_, f)| f).collect()
-    });
+    let order = in_turns(&suites);
+    let found = on_two_threads(Change::TABLE.len(), |i| find(Change::TABLE[i].0, &order));
     for (f, (change, says)) in found.iter().zip(Change::TABLE) {
         let by = f.as_deref().unwrap_or("NOT FOUND");
         println!("{change:?}: {says}: {by}");
@@ -256,20 +254,21 @@ pub fn mutants(seed: u64) -> bool {
     passed == found.len()
 }
 
+/// The inputs of all suites in turns, so that a change which one suite alone shows is found soon.
+fn in_turns(suites: &[Suite]) -> Vec<(&Suite, usize)> {
+    let most = suites.iter().map(|suite| suite.cases.len()).max().unwrap_or(0);
+    let turn = |i| suites.iter().filter(move |suite| i < suite.cases.len()).map(move |s| (s, i));
+    (0..most).flat_map(turn).collect()
+}
+
 /// The first input that tells a changed program from this one.
-fn find(change: Change, suites: &[Suite]) -> Option<String> {
+fn find(change: Change, order: &[(&Suite, usize)]) -> Option<String> {
     switch(Some(change));
-    let mut first = None;
-    for suite in suites {
-        let by =
-            (0..suite.cases.len()).find(|&i| (suite.play)(&suite.cases[i].bytes) != suite.texts[i]);
-        if let Some(i) = by {
-            first = Some(suite.cases[i].name.clone());
-            break;
-        }
-    }
+    let told =
+        |&&(suite, i): &&(&Suite, usize)| (suite.play)(&suite.cases[i].bytes) != suite.texts[i];
+    let by = order.iter().find(told).map(|&(suite, i)| suite.cases[i].name.clone());
     switch(None);
-    first
+    by
 }
 
 // ---------------------------------------------------------------- files

@@ -4,12 +4,12 @@ use std::cell::{Cell, RefCell};
 use std::cmp::Ordering;
 use std::collections::HashMap;
 
-use crate::card::{
-    bad_sectors, Access, Card, Condition, Geometry, Half, Phase, Then, Touch, Trace,
-};
+use crate::block_cover::{self, Stop};
+use crate::card::{bad_sectors, Access, Card, Geometry, Half, Phase, Then, Touch, Trace};
 use crate::commands::Row;
 use crate::maps::{Mode, Place};
 use crate::points::*;
+use crate::well_made::Condition;
 
 /// Who reaches a point.
 #[derive(Clone, Copy, PartialEq, Eq, Debug)]
@@ -48,6 +48,10 @@ pub fn hit(point: Point) {
 
 pub fn command(card: &Card, opcode: u8, row: Row) {
     hit(Point::Opcode(opcode));
+    block_cover::stopped(card, Stop::Command);
+    if row == Row::SetMultiple {
+        block_cover::set_inside(card);
+    }
     if card.running() {
         hit(Point::Drop(row, card.phase));
     }
@@ -202,7 +206,7 @@ fn changed_since(when: Changed, then: &Then, at: usize, mark: u8) {
 
 /// A command ends that has lowered the number so often.
 pub fn lowered(row: Row, times: u16, error: u8, code: u8) {
-    if times > 0 && matches!(row, Row::Write | Row::Erase) {
+    if times > 0 && (row.writes() || row == Row::Erase) {
         hit(Point::Lowered(row, ending(error, code)));
     }
 }
@@ -242,7 +246,7 @@ pub fn bad_shown(card: &Card, marks: &[u8]) {
 
 // ---------------------------------------------------------------- accesses
 
-fn map(card: &Card) -> Map {
+pub fn map(card: &Card) -> Map {
     match card.mode {
         Mode::TrueIde => Map::TrueIde,
         Mode::PcCard => Map::Index(card.index()),
@@ -281,6 +285,7 @@ fn silent(mode: Mode, space: u8) -> Silent {
 pub fn register(card: &Card, offset: u8, a: &Access) {
     let write = a.write;
     hit(Point::Register { map: map(card), offset, write, word: a.width == 2 });
+    block_cover::register(card, offset, write);
     if card.hold {
         hit(Point::Held { offset, write });
     } else if card.running() && write {
@@ -314,6 +319,9 @@ pub fn refusal(number: u8) {
 }
 
 pub fn control_write(card: &Card, value: u8) {
+    if value & 4 != 0 {
+        block_cover::stopped(card, Stop::Hold);
+    }
     hit(Point::Control(match (card.hold, value & 4 != 0, card.phase) {
         (false, true, Phase::Idle) => Control::HoldIdle,
         (false, true, Phase::In) => Control::HoldInDataIn,
@@ -327,6 +335,9 @@ pub fn control_write(card: &Card, value: u8) {
 }
 
 pub fn option_write(card: &Card, value: u8) {
+    if value & 0x80 != 0 {
+        block_cover::stopped(card, Stop::Sreset);
+    }
     hit(Point::Setting(match (card.sreset, value & 0x80 != 0, card.phase) {
         (false, true, _) if card.hold => Setting::SresetInHold,
         (false, true, Phase::Idle) => Setting::SresetIdle,
@@ -369,7 +380,7 @@ pub fn opening(g: Geometry, mode: u16) {
 
 /// Just this condition of the well-made list fails.
 pub fn condition(only: Condition, card: &Card) {
-    hit(Point::Unmade(match only {
+    let how = match only {
         Condition::Default if card.default.h > 16 => Unmade::DefaultHeads,
         Condition::Default if card.default.s > 255 => Unmade::DefaultTrack,
         Condition::Default => Unmade::DefaultTotal,
@@ -390,7 +401,10 @@ pub fn condition(only: Condition, card: &Card) {
         Condition::Sectors => transfer_fault(card),
         Condition::Bad if card.bad as u64 == card.default.sectors() + 1 => Unmade::BadOneAbove,
         Condition::Bad => Unmade::BadAbove,
-    }));
+        Condition::Block | Condition::Stride | Condition::Place => block_cover::fault(card, only),
+    };
+    hit(Point::Unmade(how));
+    block_cover::unmade(card, only, how);
 }
 
 fn transfer_fault(card: &Card) -> Unmade {

@@ -1,5 +1,6 @@
 //! The coverage table: every point that has to be reached, by whom, and whether it was.
 
+use crate::block_table;
 use crate::card::{Half, Phase, Touch};
 use crate::commands::Row;
 use crate::cover::{self, By};
@@ -63,8 +64,20 @@ fn of_commands() -> Vec<Group> {
         group("Bad starts of runs longer than the card", run_cover::bad_starts()),
         group("Marks in runs past the end, by the first that is not 0", run_cover::past_marks()),
         group("Runs past the end", run_cover::past_states()),
+        group("C6H by Count", block_table::counts()),
+        group("C6H by the old block and the address", block_table::settings()),
+        group("C6H in C4H and C5H after sectors have moved", block_table::set_inside()),
+        group("C4H and C5H without a block", block_table::without()),
+        group("C4H and C5H begun, by block and sectors", block_table::begun()),
+        group("C4H and C5H done, by block and sectors", block_table::done()),
+        group("C4H and C5H after what keeps or forgets the block", block_table::after()),
+        group("Sectors of a block, by the mark before", block_table::sectors()),
+        group("Errors in a block after sectors were done", block_table::errors()),
+        group("Marks in a block, by place", block_table::faults()),
+        group("Accesses in C4H and C5H", block_table::states()),
         group("Codes told by 03H", codes()),
         group("Identify", by_sessions(Identity::TABLE, Point::Identify)),
+        group("Identify's word 47, by the block", block_table::most()),
         group("Identify's integrity byte", integrity_bytes()),
     ]
 }
@@ -118,6 +131,7 @@ fn of_files_and_cards() -> Vec<Group> {
             "Just one condition of the well-made list fails",
             by_trials(Unmade::TABLE, Point::Unmade),
         ),
+        group("Just a block, stride or place fails", block_table::unmade()),
         group("The line", by_trials(Line::TABLE, Point::Line)),
         group("Marks met", marks()),
         group("Carries", by_trials(Carry::TABLE, Point::Carry)),
@@ -176,9 +190,12 @@ pub fn can_end(command: Row, ending: Ending, lba: bool) -> bool {
         Ending::Good => (addressed || !lba) && command != Row::Other,
         Ending::Idnf21 => addressed && !lba,
         Ending::Idnf2F => addressed,
-        Ending::Unc => matches!(command, Row::Read | Row::Verify),
-        Ending::Dwf => matches!(command, Row::Write | Row::Erase),
-        Ending::Abrt20 => command == Row::Other && !lba,
+        Ending::Unc => command.reads() || command == Row::Verify,
+        Ending::Dwf => command.writes() || command == Row::Erase,
+        Ending::Abrt20 => match command {
+            Row::Other | Row::SetMultiple => !lba,
+            _ => command.by_blocks(),
+        },
         Ending::Abrt21 => command == Row::Parameters && !lba,
     }
 }
@@ -189,13 +206,14 @@ fn codes() -> Vec<Reached> {
     CODES.into_iter().map(told).collect()
 }
 
-/// Trials alone have marks and cards of more than 32 sectors; without either the byte is 26H..C1H.
+/// Trials alone have marks and cards of more than 32 sectors; without either the byte is 16H..B1H.
 fn integrity_bytes() -> Vec<Reached> {
     (0..=255).map(|i| row(Point::Integrity(i), format!("{i:02X}"), By::Trials)).collect()
 }
 
-/// The two commands that store sectors.
-const STORING: [(Row, &str); 2] = [(Row::Write, "write"), (Row::Erase, "erase")];
+/// The commands that store sectors.
+const STORING: [(Row, &str); 3] =
+    [(Row::Write, "write"), (Row::WriteMultiple, "C5H"), (Row::Erase, "erase")];
 
 fn stored() -> Vec<Reached> {
     let mut rows = Vec::new();
@@ -254,7 +272,7 @@ fn kept_and_shown() -> Vec<Reached> {
 
 fn marks() -> Vec<Reached> {
     let mut rows = Vec::new();
-    for &(command, name) in &COMMANDS[..4] {
+    for &(command, name) in sector_commands() {
         for &(mark, says) in Mark::TABLE {
             rows.push(row(Point::Mark(command, mark), format!("{name} at {says}"), By::Trials));
         }

@@ -106,6 +106,9 @@ fn mend(host: &mut Host, whole: &Card, fields: &[(u16, u16)]) {
             24 => whole.phase as u16,
             25 => whole.sectors as u16,
             26 => whole.bad,
+            27 => whole.block,
+            28 => whole.stride,
+            29 => whole.place,
             _ => whole.left,
         };
         host.set_field(field, value);
@@ -153,7 +156,7 @@ pub fn breaks(seed: u64, all: &mut Vec<Case>) {
         for _ in 0..60 {
             prepare(&mut host);
             let whole = host.card.clone();
-            let field = 1 + host.rng.below(26) as u16;
+            let field = 1 + host.rng.below(29) as u16;
             let value = some_value(&mut host, field);
             host.set_field(field, value);
             poke(&mut host);
@@ -201,12 +204,18 @@ fn make_up(host: &mut Host) {
     let half = host.rng.below(3) as u16;
     let high = host.rng.pick(&[0, 0x20, 0x80, 0xA0]);
     let head = host.card.head as u16 | high;
+    let block = host.rng.pick(&[0, 1, 2, 4, 8, 16]);
+    let stride = if host.rng.flip() { block.max(1) } else { 1 };
+    let in_block = host.rng.below(stride as usize) as u16;
     for (field, value) in [
         (24, phase),
         (25, sectors),
         (20, half),
         (21, words),
         (22, left),
+        (27, block),
+        (28, stride),
+        (29, in_block),
         (14, left),
         (12, 0x58),
         (18, head),
@@ -226,10 +235,15 @@ fn prepare(host: &mut Host) {
     if host.card.hold && host.rng.flip() {
         host.put(0xE, 0);
     }
+    if host.card.block == 0 && host.rng.percent(40) {
+        host.new_block();
+    }
     if host.rng.percent(70) {
         host.aim();
-        let (count, opcode) =
-            (host.rng.pick(&[1, 2, 3, 0]), host.rng.pick(&[0x20, 0x30, 0xE8, 0xEC, 0x40, 0x91]));
+        let (count, opcode) = (
+            host.rng.pick(&[1, 2, 3, 0]),
+            host.rng.pick(&[0x20, 0x30, 0xE8, 0xEC, 0x40, 0x91, 0xC4, 0xC5]),
+        );
         host.put(2, count);
         host.put(7, opcode);
     }
@@ -250,6 +264,8 @@ fn some_value(host: &mut Host, field: u16) -> u16 {
         21 => host.rng.pick(&[0, 1, 254, 255, 256, any]),
         22 => host.rng.pick(&[0, 1, 2, 255, 256, 257, any]),
         26 => some_bad(host),
+        27 | 28 => host.rng.pick(&[0, 1, 2, 3, 4, 8, 16, 17, 0x101, 0x104, any]),
+        29 => host.rng.pick(&[0, 1, 2, 3, 7, 15, 16, 0x100, any]),
         1 | 4 => host.rng.pick(&[near, any, 4, 300]),
         2 | 3 | 5 | 6 => host.rng.pick(&[near, near, 16, 17, 255, 256, any]),
         _ => host.rng.pick(&[near, any]),
@@ -278,7 +294,7 @@ fn poke(host: &mut Host) {
 
 /// Gives every settable field its former value.
 fn set_back(host: &mut Host, whole: &Card) {
-    let fields = [1, 2, 3, 4, 5, 6, 7, 8, 9, 12, 14, 15, 16, 17, 18, 23, 24, 25, 20, 21, 22, 26];
-    let fields: Vec<(u16, u16)> = fields.iter().map(|&f| (f, 0)).collect();
+    let fields = (1..=9).chain([12]).chain(14..=18).chain(23..=25).chain(20..=22).chain(26..=29);
+    let fields: Vec<(u16, u16)> = fields.map(|f| (f, 0)).collect();
     mend(host, whole, &fields);
 }

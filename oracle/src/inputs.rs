@@ -1,6 +1,7 @@
 //! What the inputs of the comparison share: a case, its seed, and a card brought into a state.
 
 use crate::card::{Geometry, Half, Phase};
+use crate::commands::row;
 use crate::host::Host;
 
 pub struct Case {
@@ -64,6 +65,24 @@ pub enum Group {
     RunFields = 50,
     RunLines = 51,
     RunTrialWanderings = 52,
+    BlockCounts = 53,
+    BlockTransfers = 54,
+    BlockEnds = 55,
+    BlockAddresses = 56,
+    BlockBetween = 57,
+    BlockResets = 58,
+    BlockIdentities = 59,
+    BlockWanderings = 60,
+    BlockMarks = 61,
+    BlockFaults = 62,
+    BlockLines = 63,
+    BlockTable = 64,
+    BlockFields = 65,
+    BlockHands = 66,
+    BlockStops = 67,
+    BlockTrialWanderings = 68,
+    BlockTrialEnds = 69,
+    BlockFits = 70,
 }
 
 impl Group {
@@ -131,9 +150,13 @@ pub fn bring(host: &mut Host, map: u8, state: State) {
 /// Begins a transfer and moves half a word if the state wants it.
 fn begin(host: &mut Host, state: State) {
     let writing = matches!(state, State::Out | State::OutLow | State::OutHigh);
-    let opcode =
-        if writing { host.rng.pick(&[0x30, 0xE8]) } else { host.rng.pick(&[0x20, 0xEC, 0xE4]) };
+    let opcodes: &[u8] = if writing { &[0x30, 0xE8, 0xC5] } else { &[0x20, 0xEC, 0xE4, 0xC4] };
+    let opcode = host.rng.pick(opcodes);
     host.put(7, 0x90);
+    if row(opcode).by_blocks() {
+        host.put(2, 4);
+        host.put(7, 0xC6);
+    }
     host.put(7, opcode);
     match state {
         State::InLow | State::OutLow => host.data_byte(0),

@@ -2,7 +2,15 @@
 //! a seed, and compares other programs with itself.
 
 mod addresses;
+mod bad_number;
 mod bad_sector_inputs;
+mod block_cover;
+mod block_field_inputs;
+mod block_selftest;
+mod block_session_inputs;
+mod block_table;
+mod block_trial_inputs;
+mod blocks;
 mod broken_inputs;
 mod card;
 mod changed_mark_inputs;
@@ -12,6 +20,7 @@ mod cover;
 mod cover_table;
 mod field_inputs;
 mod host;
+mod identify;
 mod inputs;
 mod maps;
 mod mutants;
@@ -34,6 +43,7 @@ mod trial_kinds;
 mod trial_player;
 mod tuple_inputs;
 mod tuples;
+mod well_made;
 
 use std::io::{Read, Write};
 use std::process::ExitCode;

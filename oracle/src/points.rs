@@ -1,5 +1,6 @@
 //! The points that an input can reach, by name, and what the coverage table says of each.
 
+use crate::block_cover::{Failing, Fit, Moving, Refused, Since, Spot, Stand, Start, Stop};
 use crate::card::{Half, Phase, Touch};
 use crate::commands::Row;
 use crate::names::named;
@@ -26,6 +27,46 @@ pub enum Point {
     PastDrop(Row, Phase),
     /// The line at a run past the end; true, if it is masked.
     PastLine(Row, bool),
+    /// A C6H with this Count.
+    SetCount(u8),
+    /// A C6H that is taken: the old block and the new one.
+    SetBlock(u16, u8),
+    /// A C6H that is refused, by the old block.
+    SetRefused(u16, Refused),
+    /// A C6H, taken or not, by the address in the registers.
+    SetAddress(bool, Start),
+    /// A C6H, taken or not, in C4H or C5H after sectors have moved.
+    SetInside(Row, bool),
+    /// C4H or C5H without a block; in LBA, or not.
+    NoBlock(Row, Start, bool),
+    /// C4H or C5H begun with this block, and done to a good end.
+    Blocks(Row, u16, Fit),
+    BlocksDone(Row, u16, Fit),
+    /// C4H or C5H after something that has kept the block, or forgotten it.
+    After(Since, Row),
+    /// A sector of a block, and whether the interrupt mark was set before.
+    BlockSector(Row, Spot, bool),
+    /// The line at the first sector of a later block; true, if it is masked.
+    BlockLine(Row, bool),
+    /// A second or later sector of 20H or 30H beside this block, and the mark before.
+    PlainSector(Row, u16, bool),
+    /// C4H or C5H ends in error after sectors were done; in LBA, or not.
+    BlockError(Row, Ending, Failing, bool),
+    /// A mark ends C4H or C5H with this block at this place in it.
+    BlockFault(Row, u16, u16),
+    /// A sector of C4H or C5H moved through this map.
+    BlockMap(Row, Map),
+    /// C4H or C5H ended from outside; true, if inside a block.
+    BlockStop(Row, Stop, bool),
+    /// This register read in C4H or C5H, and written.
+    BlockLook(Row, u8, Stand),
+    BlockBusy(Row, u8),
+    /// A place and a number of sectors left that no command gives together.
+    Untied(Row),
+    /// Identify's word 47 read with this block.
+    Most(u16),
+    /// A block, stride or place that alone is not well made.
+    UnmadeBlock(Unmade, Moving),
     /// This code told by 03H.
     Sense(u8),
     Identify(Identity),
@@ -109,14 +150,17 @@ pub const MAPS: [Map; 5] =
     [Map::Index(0), Map::Index(1), Map::Index(2), Map::Index(3), Map::TrueIde];
 
 /// The commands as the table says them.
-pub const COMMANDS: [(Row, &str); 13] = [
+pub const COMMANDS: [(Row, &str); 16] = [
     (Row::Read, "read"),
     (Row::Write, "write"),
+    (Row::ReadMultiple, "C4H"),
+    (Row::WriteMultiple, "C5H"),
     (Row::Verify, "verify"),
     (Row::Erase, "erase"),
     (Row::Identify, "identify"),
     (Row::ReadBuffer, "E4H"),
     (Row::WriteBuffer, "E8H"),
+    (Row::SetMultiple, "C6H"),
     (Row::Parameters, "91H"),
     (Row::Diagnose, "90H"),
     (Row::Recalibrate, "1XH"),
@@ -124,6 +168,11 @@ pub const COMMANDS: [(Row, &str); 13] = [
     (Row::Sense, "03H"),
     (Row::Other, "others"),
 ];
+
+/// Those of them that go over sectors.
+pub fn sector_commands() -> &'static [(Row, &'static str)] {
+    &COMMANDS[..6]
+}
 
 /// The codes that 01 gives.
 pub const CODES: [u8; 6] = [0x00, 0x20, 0x21, 0x2F, 0x03, 0x11];
@@ -381,6 +430,15 @@ named! {
         LeftUnlikeCount: "left unlike Count",
         BadOneAbove: "N + 1 bad sectors",
         BadAbove: "more than N + 1 bad sectors",
+        BlockBetween: "a block of 3, 5..7 or 9..15",
+        BlockAbove: "a block above 16",
+        BlockLowFits: "a block above 255 with a low byte that fits",
+        StrideWithoutBlock: "a stride without a block",
+        StrideUnlikeBlock: "a stride unlike the block",
+        StrideLowFits: "a stride above 255 with a low byte that fits",
+        PlaceAtStride: "a place at the stride",
+        PlaceAboveStride: "a place above the stride",
+        PlaceLowFits: "a place above 255 with a low byte that fits",
     }
 }
 

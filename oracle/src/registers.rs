@@ -1,5 +1,6 @@
 //! The register file: reads and writes, the two resets, and the data register.
 
+use crate::block_cover::{self, Since};
 use crate::card::{bad_sectors, moves, touch, Access, Card, Half, Lent, Moves, Phase, Touch, IDLE};
 use crate::cover;
 use crate::maps::Place;
@@ -44,11 +45,13 @@ impl Card {
 
     fn register(&self, offset: u8) -> u8 {
         match offset {
+            2 if on(Change::CountByBlock) => self.count.wrapping_add(self.place as u8),
             2 => self.count,
             3 => self.sector,
             4 => self.cyl_low,
             5 => self.cyl_high,
             6 => self.head | 0xA0,
+            7 | 0xE if self.shows_between() => IDLE,
             7 | 0xE => self.status,
             0xF => self.drive_address(),
             _ => self.error,
@@ -57,6 +60,7 @@ impl Card {
 
     fn drive_address(&self) -> u8 {
         let writing = self.phase == Phase::Out && (self.sectors || !on(Change::BufferWriteGate));
+        let writing = writing && !(on(Change::BlockWriteGate) && self.in_blocks());
         let drive_1 = self.head & 0x10 != 0;
         let head = (!self.head & 0x0F) << 2;
         let drive = if drive_1 { 0x01 } else { 0x02 };
@@ -107,6 +111,9 @@ impl Card {
         }
         self.stop_transfer();
         self.mark = false;
+        if on(Change::EntryForgetsBlock) {
+            self.block = 0;
+        }
         if on(Change::ResetClearsBad) {
             self.bad = 0;
         }
@@ -124,7 +131,13 @@ impl Card {
                 self.setting = setting;
             }
             (true, false) => self.leave_sreset(setting, lent),
-            _ => self.setting = setting,
+            _ => {
+                block_cover::came(self, Since::Map);
+                self.setting = setting;
+            }
+        }
+        if on(Change::MapForgetsBlock) {
+            self.block = 0;
         }
         if on(Change::MapEndsTransfer) && self.running() {
             self.enter_reset();
@@ -133,9 +146,13 @@ impl Card {
 
     fn leave_sreset(&mut self, setting: u8, lent: &Lent) {
         self.keep_bad(Kept::SresetLeft, lent);
-        let (hold, buffer) = (self.hold, self.buffer);
+        block_cover::forgets(self, Since::Sreset);
+        let (hold, buffer, block) = (self.hold, self.buffer, self.block);
         self.power_on(if on(Change::SresetForgetsIndex) { 0 } else { setting });
         self.hold = hold && on(Change::SresetLeavesHold);
+        if on(Change::SresetKeepsBlock) {
+            self.block = block;
+        }
         if on(Change::SresetLeavesBuffer) {
             self.buffer = buffer;
         }
@@ -157,16 +174,23 @@ impl Card {
                 self.hold = true;
             }
             (true, false) => self.leave_hold(lent),
-            _ => {}
+            _ => block_cover::came(self, Since::Mask),
         }
         self.mask = value & 2 != 0;
+        if on(Change::MaskForgetsBlock) {
+            self.block = 0;
+        }
     }
 
     fn leave_hold(&mut self, lent: &Lent) {
         self.keep_bad(Kept::HoldLeft, lent);
-        let (code, current) = (self.code, self.current);
+        block_cover::forgets(self, Since::Hold);
+        let (code, current, block) = (self.code, self.current, self.block);
         self.power_on_registers();
         self.hold = false;
+        if on(Change::HoldKeepsBlock) {
+            self.block = block;
+        }
         if on(Change::HoldLeavesCode) {
             self.code = code;
         }

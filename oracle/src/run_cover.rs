@@ -7,7 +7,7 @@ use crate::commands::Row;
 use crate::cover::{ending, hit, hit_all, sort, By};
 use crate::cover_table::{by, can_end, row, Reached, PHASES};
 use crate::names::named;
-use crate::points::{Ending, Mark, Point, COMMANDS};
+use crate::points::{sector_commands, Ending, Mark, Point};
 use crate::runs::marks_from;
 
 named! {
@@ -191,7 +191,7 @@ pub fn past_states() -> Vec<Reached> {
 
 pub fn midway() -> Vec<Reached> {
     let mut rows = Vec::new();
-    for (command, lba, name) in both_ways(&COMMANDS[..4]) {
+    for (command, lba, name) in both_ways(sector_commands()) {
         for &(ending, says) in Ending::TABLE.iter().filter(|(ending, _)| stops(command, *ending)) {
             let point = Point::Midway(command, ending, lba);
             rows.push(row(point, format!("{name} {says}"), by(ending != Ending::Idnf2F)));
@@ -204,7 +204,7 @@ pub fn midway() -> Vec<Reached> {
 /// and a good sector number; in a run of Verify or Erase that fits it is good.
 pub fn stops(command: Row, ending: Ending) -> bool {
     match ending {
-        Ending::Idnf2F => matches!(command, Row::Read | Row::Write),
+        Ending::Idnf2F => command.reads() || command.writes(),
         Ending::Unc | Ending::Dwf => can_end(command, ending, true),
         _ => false,
     }

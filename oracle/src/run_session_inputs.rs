@@ -3,12 +3,12 @@
 
 use crate::host::{Host, Style};
 use crate::inputs::{bring, geometry, Case, Group, State};
-use crate::session_inputs::{finish, host_in, SMALL};
+use crate::session_inputs::{finish, host_in, stepped, SMALL};
 
 pub fn runs(seed: u64, all: &mut Vec<Case>) {
     about_the_end(seed, all);
     with_data(seed, all);
-    wanderings(seed, all);
+    stepped(("run-wander", Group::RunWanderings, 30), seed, step, all);
 }
 
 // ---------------------------------------------------------------- what they share
@@ -32,7 +32,7 @@ pub fn lengths(remain: usize) -> Vec<usize> {
 }
 
 /// Ends a transfer, if one runs, so that registers take what is written.
-fn end_transfer(host: &mut Host) {
+pub fn end_transfer(host: &mut Host) {
     if host.card.running() {
         host.put(7, 0x10);
     }
@@ -184,17 +184,6 @@ fn with_data(seed: u64, all: &mut Vec<Case>) {
 }
 
 // ---------------------------------------------------------------- wanderings
-
-fn wanderings(seed: u64, all: &mut Vec<Case>) {
-    for number in 0..30 {
-        let g = geometry(SMALL[number % 12]);
-        let mut host = host_in((number % 5) as u8, g, Group::RunWanderings.seed(seed, number));
-        while !host.full {
-            step(&mut host);
-        }
-        finish(format!("run-wander-{number}"), host, all);
-    }
-}
 
 /// Something about the end: mostly a run of any length.
 pub fn step(host: &mut Host) {

@@ -91,6 +91,7 @@ fn looks_at_remaining(row: Row) -> bool {
         Row::Erase => !on(Change::EraseRunUntested),
         Row::Read => on(Change::ReadRunTested),
         Row::Write => on(Change::WriteRunTested),
+        Row::ReadMultiple | Row::WriteMultiple => on(Change::BlockRunTested),
         _ => false,
     }
 }

@@ -1,6 +1,8 @@
 //! 01's sample session, its thirteen samples, the old model's errors, Identify's integrity word, the
-//! number of bad sectors and (`run_selftest`) runs past the end, checked on this program.
+//! number of bad sectors, (`run_selftest`) runs past the end and (`block_selftest`) blocks of several
+//! sectors, checked on this program.
 
+use crate::block_selftest;
 use crate::card::{Access, Geometry};
 use crate::host::{push_access, push_opening, Host, Style};
 use crate::run_selftest;
@@ -110,6 +112,7 @@ pub fn run() -> bool {
         alternate_status(),
     ];
     checks.extend(run_selftest::checks());
+    checks.extend(block_selftest::checks());
     let passed = checks.iter().filter(|&&c| c).count();
     println!("{passed} passed, {} failed", checks.len() - passed);
     passed == checks.len()
@@ -213,8 +216,8 @@ fn new_geometry() -> bool {
     t.put(7, 0x40);
     t.ended(0x50, 0, 0);
     t.put(7, 0xEC);
-    // As at power-on, but words 54..57 give 40: in all 2,728, which lacks 58H to 11·256.
-    for word in identify([2, 3, 5, 30, 0], 0x58A5) {
+    // As at power-on, but words 54..57 give 40: in all 2,744, which lacks 48H to 11·256.
+    for word in identify([2, 3, 5, 30, 0], 0x48A5) {
         t.get_word(word);
     }
     t.check("8: 91H with Count 5, nibble 2")
@@ -227,7 +230,7 @@ fn identify(now: [u16; 5], integrity: u16) -> Vec<u16> {
     for i in [10..20, 23..27, 27..47].into_iter().flatten() {
         w[i] = 0x2020;
     }
-    (w[49], w[53], w[60]) = (0x0200, 1, 32);
+    (w[47], w[49], w[53], w[60]) = (0x0010, 0x0200, 1, 32);
     w[54..59].copy_from_slice(&now);
     w[255] = integrity;
     w
@@ -286,9 +289,9 @@ fn drive_address() -> bool {
 fn identify_halves() -> bool {
     let mut t = Talk::new(3);
     t.put(7, 0xEC);
-    // Word 0 gives 270; 1, 3, 6, 8 give 42; the 34 words 2020H 2,176; 49, 53 give 3; 54..57 give
-    // 42; 60 gives 32; A5H is 165: in all 2,730, which lacks 56H to 11·256.
-    for word in identify([4, 2, 4, 32, 0], 0x56A5) {
+    // Word 0 gives 270; 1, 3, 6, 8 give 42; the 34 words 2020H 2,176; 47, 49, 53 give 19; 54..57
+    // give 42; 60 gives 32; A5H is 165: in all 2,746, which lacks 46H to 11·256.
+    for word in identify([4, 2, 4, 32, 0], 0x46A5) {
         t.get_word(word);
     }
     t.get(7, 0x50);
@@ -307,15 +310,15 @@ fn identified(g: Geometry, parameters: Option<(u8, u8)>) -> Vec<u16> {
     (0..256).map(|_| host.get_word(0)).collect()
 }
 
-/// C 4, H 2, S 4 as above; C 142, H 1, S 1, whose other bytes give 3,328 = 13·256.
+/// C 4, H 2, S 4 as above; C 190, H 1, S 1, whose other bytes give 3,584 = 14·256.
 fn integrity_words() -> bool {
     let last = |c, h, s| identified(Geometry::new(c, h, s), None)[255];
-    told("Identify, the integrity word", last(4, 2, 4) == 0x56A5 && last(142, 1, 1) == 0x00A5)
+    told("Identify, the integrity word", last(4, 2, 4) == 0x46A5 && last(190, 1, 1) == 0x00A5)
 }
 
 /// At power-on and after 91H, taken or not.
 fn integrity_sums() -> bool {
-    let cards = [(4, 2, 4), (1, 1, 1), (142, 1, 1), (1000, 1, 1), (2, 2, 255), (1, 16, 63)];
+    let cards = [(4, 2, 4), (1, 1, 1), (190, 1, 1), (1000, 1, 1), (2, 2, 255), (1, 16, 63)];
     let changes = [None, Some((1, 0)), Some((5, 2)), Some((63, 15)), Some((255, 1))];
     let zero = |words: Vec<u16>| {
         let bytes: Vec<u8> = words.into_iter().flat_map(u16::to_le_bytes).collect();
@@ -352,8 +355,8 @@ fn at_sector(host: &mut Host, opcode: u8, lba: u32) {
     host.rest_of_sector(Style::Words);
 }
 
-/// Three marks make 3 of word 129, and 53H of 56H in word 255; one written leaves 2 and 54H, a sound
-/// and a faulty sector leave that, and Erase leaves 1 and 55H, which a hold and 90H leave.
+/// Three marks make 3 of word 129, and 43H of 46H in word 255; one written leaves 2 and 44H, a sound
+/// and a faulty sector leave that, and Erase leaves 1 and 45H, which a hold and 90H leave.
 fn bad_shown() -> bool {
     let mut host = marked(&[(3, 1), (9, 2), (30, 1)]);
     let mut words = vec![bad_words(&mut host)];
@@ -365,9 +368,9 @@ fn bad_shown() -> bool {
     host.put(0xE, 0);
     host.put(7, 0x90);
     words.push(bad_words(&mut host));
-    let (two, one) = ([2, 0x54A5], [1, 0x55A5]);
-    let good = words == [[3, 0x53A5], two, two, two, one, one, one];
-    told("Identify, the number of bad sectors", good && bad_words(&mut marked(&[])) == [0, 0x56A5])
+    let (two, one) = ([2, 0x44A5], [1, 0x45A5]);
+    let good = words == [[3, 0x43A5], two, two, two, one, one, one];
+    told("Identify, the number of bad sectors", good && bad_words(&mut marked(&[])) == [0, 0x46A5])
 }
 
 /// Marks from outside take off a number that never had them, to 0 and no further; a mark cleared from

@@ -1,5 +1,6 @@
 //! The sessions of the comparison, from a seed.
 
+use crate::block_session_inputs;
 use crate::broken_inputs;
 use crate::card::{Access, Geometry};
 use crate::host::{Host, Style, STYLES};
@@ -26,10 +27,13 @@ pub const SMALL: [(u16, u16, u16); 12] = [
 const LONG: usize = 600;
 const SHORT: usize = 300;
 
-/// All sessions of a seed.
+/// All sessions of a seed; those that one rule alone is seen in come first, so that a small change is
+/// found soon.
 pub fn sessions(seed: u64) -> Vec<Case> {
     let mut all = Vec::new();
+    broken_inputs::files(seed, &mut all);
     opcodes(seed, &mut all);
+    block_session_inputs::blocks(seed, &mut all);
     sweeps(seed, &mut all);
     transfers(seed, &mut all);
     addresses(seed, &mut all);
@@ -37,7 +41,6 @@ pub fn sessions(seed: u64) -> Vec<Case> {
     identities(seed, &mut all);
     run_session_inputs::runs(seed, &mut all);
     wanderings(seed, &mut all);
-    broken_inputs::files(seed, &mut all);
     all
 }
 
@@ -134,19 +137,20 @@ fn sweep(host: &mut Host, map: u8, state: State, space: u8) {
     }
 }
 
+/// Every map and style, without accesses between and with some: (map, style, noise), from number 1.
+pub fn ways() -> impl Iterator<Item = (usize, (u8, Style, usize))> {
+    let styles =
+        |map| STYLES.into_iter().flat_map(move |style| [(map, style, 0), (map, style, 20)]);
+    (1..).zip((0..5).flat_map(styles))
+}
+
 /// Whole transfers in every map and style, read back.
 fn transfers(seed: u64, all: &mut Vec<Case>) {
-    let mut number = 0;
-    for map in 0..5u8 {
-        for style in STYLES {
-            for noise in [0, 20] {
-                number += 1;
-                let g = geometry(SMALL[number % 12]);
-                let mut host = host_in(map, g, Group::Transfers.seed(seed, number));
-                whole_transfers(&mut host, map, style, noise);
-                finish(format!("transfer-map{map}-{style:?}-{noise}"), host, all);
-            }
-        }
+    for (number, (map, style, noise)) in ways() {
+        let g = geometry(SMALL[number % 12]);
+        let mut host = host_in(map, g, Group::Transfers.seed(seed, number));
+        whole_transfers(&mut host, map, style, noise);
+        finish(format!("transfer-map{map}-{style:?}-{noise}"), host, all);
     }
 }
 
@@ -186,7 +190,7 @@ fn addresses(seed: u64, all: &mut Vec<Case>) {
     }
 }
 
-fn all_chs(host: &mut Host, opcode: u8) {
+pub fn all_chs(host: &mut Host, opcode: u8) {
     let g = host.card.current;
     for c in [0, g.c - 1, g.c, 0x100] {
         for h in [0, g.h - 1, g.h, 15] {
@@ -198,7 +202,7 @@ fn all_chs(host: &mut Host, opcode: u8) {
     }
 }
 
-fn all_lba(host: &mut Host, opcode: u8) {
+pub fn all_lba(host: &mut Host, opcode: u8) {
     let n = host.card.default.sectors() as u32;
     for lba in [0, n - 1, n, n + 1, 0xFF, 0x100, 0xFFFF, 0x1_0000, 0x100_0000, 0xFFF_FFFF] {
         host.set_lba(lba);
@@ -241,6 +245,23 @@ fn identities(seed: u64, all: &mut Vec<Case>) {
         let mut host = host_in(map, geometry(g), Group::Identities.seed(seed, number));
         host.identities_story();
         finish(format!("identify-{}-{}-{}", g.0, g.1, g.2), host, all);
+    }
+}
+
+/// Sessions of steps, so many, in every map and over every small geometry.
+pub fn stepped(
+    (name, group, count): (&str, Group, usize),
+    seed: u64,
+    step: fn(&mut Host),
+    all: &mut Vec<Case>,
+) {
+    for number in 0..count {
+        let g = geometry(SMALL[number % 12]);
+        let mut host = host_in((number % 5) as u8, g, group.seed(seed, number));
+        while !host.full {
+            step(&mut host);
+        }
+        finish(format!("{name}-{number}"), host, all);
     }
 }
 

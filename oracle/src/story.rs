@@ -1,11 +1,12 @@
 //! What a host does: whole commands, broken-off ones, resets, long wanderings.
 
 use crate::card::{Access, Geometry, Half};
-use crate::commands::{row, Row};
+use crate::commands::row;
 use crate::host::{Host, Style, STYLES};
 
-const COMMANDS: [u8; 16] = [
+const COMMANDS: [u8; 19] = [
     0x20, 0x21, 0x30, 0x31, 0x40, 0x41, 0xC0, 0xEC, 0xE4, 0xE8, 0x91, 0x90, 0x10, 0x70, 0x03, 0xFF,
+    0xC4, 0xC5, 0xC6,
 ];
 
 // ---------------------------------------------------------------- resets
@@ -141,7 +142,7 @@ impl Host {
     /// One sector command, moved whole or in part, ended or left to what comes.
     fn sector_story(&mut self, opcode: u8) {
         self.aim();
-        let data = matches!(row(opcode), Row::Read | Row::Write);
+        let data = row(opcode).reads() || row(opcode).writes();
         let count = self.some_count(data);
         self.put(2, count);
         self.put(7, opcode);
@@ -150,6 +151,24 @@ impl Host {
         }
         self.move_some(3);
         self.after();
+    }
+
+    /// C6H, mostly with a block that it takes.
+    pub fn new_block(&mut self) {
+        let any = self.rng.byte();
+        let count = self.rng.pick(&[1, 2, 2, 4, 4, 8, 16, 0, 3, any]);
+        self.put(2, count);
+        self.put(7, 0xC6);
+    }
+
+    /// C4H or C5H, mostly with a block.
+    fn block_story(&mut self) {
+        if self.card.block == 0 && self.rng.percent(80) || self.rng.percent(20) {
+            self.new_block();
+            self.after();
+        }
+        let opcode = self.rng.pick(&[0xC4, 0xC5]);
+        self.sector_story(opcode);
     }
 
     /// Moves a running transfer whole, or in part and then breaks it off.
@@ -416,7 +435,7 @@ impl Host {
 
     /// One chapter of a wandering.
     pub fn chapter(&mut self) {
-        match self.rng.below(20) {
+        match self.rng.below(22) {
             0..=2 => {
                 let opcode = 0x20 | self.rng.below(2) as u8;
                 self.sector_story(opcode)
@@ -440,6 +459,7 @@ impl Host {
             16 => self.sreset(),
             17 => self.disturb(),
             18 => self.against(),
+            19 | 20 => self.block_story(),
             _ => self.random_access(),
         }
     }

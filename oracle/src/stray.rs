@@ -150,8 +150,17 @@ impl Host {
     pub fn simple(&mut self, space: u8, address: u16) {
         let width = 1 + self.rng.below(2) as u8;
         let write = self.rng.flip();
-        let value = if width == 1 { self.rng.byte() as u16 } else { self.rng.next() as u16 };
+        let value = if width == 1 { self.some_byte() as u16 } else { self.rng.next() as u16 };
         self.access(Access { space, width, write, address, value: if write { value } else { 0 } });
+    }
+
+    /// Any byte; sometimes one that says something of blocks, as a Count or as a command.
+    fn some_byte(&mut self) -> u8 {
+        if self.rng.percent(15) {
+            self.rng.pick(&[1, 2, 4, 8, 16, 0xC4, 0xC5, 0xC6])
+        } else {
+            self.rng.byte()
+        }
     }
 
     /// Any access at all, even one that ends a transfer.

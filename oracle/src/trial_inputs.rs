@@ -1,6 +1,8 @@
 //! The trial inputs of the comparison, from a seed.
 
 use crate::bad_sector_inputs;
+use crate::block_field_inputs;
+use crate::block_trial_inputs;
 use crate::card::{Access, Geometry};
 use crate::changed_mark_inputs;
 use crate::field_inputs;
@@ -25,16 +27,21 @@ const LARGE: [(u16, u16, u16); 10] = [
 ];
 
 /// Cylinders of cards with H 1, S 1 and no marks whose integrity byte is 0, 1 or 255. At power-on
-/// Identify's other bytes give 2,614 + 4 + 5·(the two bytes of C): for 142 and 397 (1 + 141) a
-/// multiple of 256, for 193 one less, for 91 one more. For 407 they give 2,614 + 970 = 14·256 in one
+/// Identify's other bytes give 2,630 + 4 + 5·(the two bytes of C): for 190 and 445 (1 + 189) a
+/// multiple of 256, for 241 one less, for 139 one more. For 487 they give 2,630 + 1,210 = 15·256 in one
 /// track of 255. With marks every byte comes up (`bad_sector_inputs`).
-const FULL_SUMS: [u16; 5] = [142, 397, 407, 193, 91];
+const FULL_SUMS: [u16; 5] = [190, 445, 487, 241, 139];
 
+/// All trials of a seed, as the sessions in this order.
 pub fn trials(seed: u64) -> Vec<Case> {
     let mut all = Vec::new();
     openings(&mut all);
     lent_lengths(seed, &mut all);
+    tuple_inputs::chains(seed, &mut all);
+    tuple_inputs::lists(seed, &mut all);
     field_inputs::conditions(seed, &mut all);
+    block_field_inputs::fields(seed, &mut all);
+    block_trial_inputs::blocks(seed, &mut all);
     marks(seed, &mut all);
     carries(seed, &mut all);
     lines(seed, &mut all);
@@ -45,8 +52,6 @@ pub fn trials(seed: u64) -> Vec<Case> {
     wanderings(seed, &mut all);
     field_inputs::breaks(seed, &mut all);
     field_inputs::made_up(seed, &mut all);
-    tuple_inputs::chains(seed, &mut all);
-    tuple_inputs::lists(seed, &mut all);
     oddities(seed, &mut all);
     all
 }
@@ -91,7 +96,7 @@ fn oddities(seed: u64, all: &mut Vec<Case>) {
         host.record(&[kinds::SHOW]);
     }
     host.lend_right(Geometry::new(4, 2, 4));
-    for field in 0..30 {
+    for field in 0..33 {
         for value in [0x1FF, 0, 1, 2, 3, 0x8000, 0xFFFF] {
             host.record(&[kinds::BREAK, field, value]);
             host.record(&[kinds::ACCESS, 3, 1, 0, 0x16, 0, 0, 0]);
@@ -246,7 +251,7 @@ fn carry(host: &mut Host, opcode: u8, lba: bool) {
 /// The interrupt line: every command, masked and not, Status read or not.
 fn lines(seed: u64, all: &mut Vec<Case>) {
     for (number, opcode) in
-        [0x20, 0x30, 0x40, 0xC0, 0xEC, 0xE4, 0xE8, 0x91, 0x90, 0x10, 0x70, 0x03, 0xFF]
+        [0x20, 0x30, 0x40, 0xC0, 0xEC, 0xE4, 0xE8, 0x91, 0x90, 0x10, 0x70, 0x03, 0xFF, 0xC6]
             .into_iter()
             .enumerate()
     {

@@ -214,7 +214,8 @@ impl Bench {
         let now = k.current;
         let _ = write!(text, " {} {:04X} {:04X} {:04X}", k.mark as u8, now.c, now.h, now.s);
         let (phase, half) = (k.phase as u8, k.half as u8);
-        let _ = writeln!(text, " {phase} {half} {:04X} {:04X} {:04X}", k.words, k.left, k.bad);
+        let _ = write!(text, " {phase} {half} {:04X} {:04X} {:04X}", k.words, k.left, k.bad);
+        let _ = writeln!(text, " {:04X} {:04X} {:04X}", k.block, k.stride, k.place);
     }
 }
 
@@ -270,7 +271,8 @@ pub fn set_field(k: &mut Card, field: u16, value: u16) {
         23 => set_mode(k, value),
         24 => set_phase(k, value),
         26 => k.bad = value,
-        20..=25 if k.phase != Phase::Idle => set_transfer_field(k, field, value),
+        27 => k.block = value,
+        20..=25 | 28 | 29 if k.phase != Phase::Idle => set_transfer_field(k, field, value),
         _ => {}
     }
 }
@@ -300,8 +302,10 @@ fn set_transfer_field(k: &mut Card, field: u16, value: u16) {
         (20, 2) => k.half = Half::High,
         (21, _) => k.words = value,
         (22, _) if k.sectors => k.left = value,
-        (25, 0) => (k.sectors, k.left) = (false, 0),
-        (25, 1) => k.sectors = true,
+        (25, 0) => (k.sectors, k.left, k.stride, k.place) = (false, 0, 0, 0),
+        (25, 1) if !k.sectors => (k.sectors, k.left, k.stride, k.place) = (true, 0, 1, 0),
+        (28, _) if k.sectors => k.stride = value,
+        (29, _) if k.sectors => k.place = value,
         _ => {}
     }
 }

@@ -2,6 +2,7 @@
 import re
 
 from . import card
+from .blocks import Blocks
 from .calls import shortened
 from .explain import explained, opening_fault, opening_told
 from .follower import Follower
@@ -39,7 +40,7 @@ def misfit(access, answer, value, follower):
 def access_pairs(records, printed):
     """(printed line, its explanation, whether it is plain data) for each access of a run."""
     opening = records[0]
-    follower, identify = Follower(opening.mode), Identify(opening.c * opening.h * opening.s)
+    follower, tellers = Follower(opening.mode), (Identify(opening.c * opening.h * opening.s), Blocks(opening))
     for count, access in enumerate(records[1:], 1):
         line = printed[count] if count < len(printed) else None
         if line is None:
@@ -52,7 +53,7 @@ def access_pairs(records, printed):
         words, said = explained(access, answer, value, follower), ""
         plain = answer == 0 and not follower.held and access.space != 0 and follower.offset(access) in card.DATA
         if answer == 0:
-            said = identify.follow(access, value, follower)
+            said = ". ".join(filter(None, [teller.follow(access, value, follower) for teller in tellers]))
             follower.follow(access, value)
         if said:
             yield line, f"{words}. {said}", None

@@ -37,14 +37,23 @@ def text_of(path):
 def test_sessions_are_well_formed_and_equal_each_time():
     for kind in sessions.KINDS:
         lengths = sessions.lengths(kind)
-        counts = [sessions.session(kind, blocks)[1] for blocks in lengths]
+        counts = [sessions.session(kind, parts)[1] for parts in lengths]
         assert len(lengths) > 2 and counts[0] >= 999 > sessions.session(kind, lengths[0] - 1)[1], (kind, lengths, counts)
-        for blocks in lengths:
-            file, accesses = sessions.session(kind, blocks)
+        for parts in lengths:
+            file, accesses = sessions.session(kind, parts)
             records, broken = records_of(file)
             assert broken is None and len(records) == accesses + 1 and len(file) <= LONGEST
-            assert file == sessions.session(kind, blocks)[0]
+            assert file == sessions.session(kind, parts)[0]
         assert len(sessions.session(kind, lengths[-1] + 1)[0]) > LONGEST
+
+
+def test_every_command_of_a_session_that_moves_data_ends_well():
+    measuring.build("oracle")
+    for kind in (kind for kind in sessions.KINDS if kind.startswith(("words", "bytes"))):
+        file, _ = sessions.session(kind, 2)
+        done = subprocess.run([measuring.INDEPENDENT, "play"], input=file, stdout=subprocess.PIPE, check=True).stdout.decode().splitlines()
+        status = [line[-4:] for line, access in zip(done[1:], records_of(file)[0][1:]) if not access.write and access.address == 7]
+        assert len(status) == (2 if kind.endswith(("read", "written")) else 4) and set(status) == {"0050"}, (kind, status)
 
 
 def test_the_line_is_straight_or_told():
@@ -57,7 +66,7 @@ def test_the_line_is_straight_or_told():
 
 def test_the_digits_of_access_numbers_bend_no_line():
     for kind in sessions.KINDS:
-        counts = [sessions.session(kind, blocks)[1] for blocks in sessions.lengths(kind)]
+        counts = [sessions.session(kind, parts)[1] for parts in sessions.lengths(kind)]
         assert limits.bend([(count, sum(140 + 5 * len(str(number)) for number in range(1, count + 1))) for count in counts]) < 1e-9
 
 
@@ -136,13 +145,16 @@ def test_what_stands_by_hand_on_the_page_is_kept():
 def test_the_plot_is_svg():
     text = plot.svg("title", "across", "up", [("one, a", False, [(0, 0), (10, 123456)]), ("one, b", True, [(0, 5), (10, 10)])])
     assert xml.etree.ElementTree.fromstring(text).tag.endswith("svg") and text.count("<polyline") == 2
+    assert len(set(plot.COLOURS)) >= len(sessions.KINDS)
+    both = plot.svg("title", "across", "up", [(f"{kind}, {name}", False, [(0, 0), (10, 10)]) for kind in sessions.KINDS for name in ("a", "b")])
+    assert max(int(y) for y in re.findall(r'y="(\d+)">[\w-]+, [ab]</text>', both)) < plot.HIGH
 
 
 def test_times_of_both_programs_are_in_the_table():
     class Quick:
         programs = {"cardrun": ["true"], "independent": ["true"]}
 
-        def path(self, kind, blocks):
+        def path(self, kind, parts):
             return "README.md"
 
     head, _, *rows = tables.time_table(Quick(), 1).splitlines()

@@ -1,29 +1,13 @@
 """What tools/session --annotate says of an Identify."""
-from cardtools.annotate import annotated
-from cardtools.from_text import file_from
-from cardtools.records import records_of
+from steps import lines_of
 
 WHOLE = "Identify is read whole: its 512 bytes give "
-WORDS = [0x848A] + [0] * 254 + [0x4DA5]  # 84H + 8AH + A5H + 4DH is 2 times 256
+WORDS = [0x848A] + [0] * 46 + [0x0010] + [0] * 207 + [0x3DA5]  # 84H + 8AH + 10H + A5H + 3DH is 2 times 256
 BYTES = [byte for word in WORDS for byte in (word % 256, word // 256)]
+MOST = "Word 47 of Identify, most sectors of a block: "
 BAD = "Word 129 of Identify, bad sectors: "
 BEFORE, LAST = ("read word ide 0 x255", WORDS[:-1]), ("read word ide 0", WORDS[-1:])
 ECH = ("write ide 7 EC",)
-
-
-def lines_of(mode, *steps, fold=False):
-    """The explained lines of a run. A step is a text, after it the values that its reads printed, or the number of their refusal."""
-    opening = f"open 4 2 4 {mode}\n"
-    printed = ["n op answer value"]
-    for text, *rest in steps:
-        given = rest[0] if rest else []
-        answer = given if isinstance(given, int) else 0
-        values = iter([] if answer else given)
-        for access in records_of(file_from(f"{opening}{text}\n"))[0][1:]:
-            value = 0 if answer else access.value if access.write else next(values)
-            printed.append(f"{len(printed)} {'W' if access.write else 'R'} {answer} {value:04X}")
-        assert next(values, None) is None, text
-    return list(annotated(*records_of(file_from(opening + "\n".join(text for text, *_ in steps) + "\n")), printed, fold))
 
 
 def verdicts(mode, *steps):
@@ -41,8 +25,8 @@ def test_a_whole_identify_is_summed_however_it_was_read():
 
 def test_a_sum_that_is_not_0_and_a_low_byte_that_is_not_A5H_are_told():
     assert verdicts(1, ECH, ("read word ide 0 x256", [0x848B] + WORDS[1:])) == [(257, "01H, not 0")]
-    assert verdicts(1, ECH, BEFORE, ("read word ide 0", [0x4CA5])) == [(257, "FFH, not 0")]
-    assert verdicts(1, ECH, BEFORE, ("read word ide 0", [0xA54D])) == [(257, "0, and the low byte of word 255 is 4DH, not A5H")]
+    assert verdicts(1, ECH, BEFORE, ("read word ide 0", [0x3CA5])) == [(257, "FFH, not 0")]
+    assert verdicts(1, ECH, BEFORE, ("read word ide 0", [0xA53D])) == [(257, "0, and the low byte of word 255 is 3DH, not A5H")]
     assert verdicts(1, ECH, ("read word ide 0 x256", [0xFFFF] * 256)) == [(257, "0, and the low byte of word 255 is FFH, not A5H")]
 
 
@@ -79,7 +63,7 @@ def named(mode, *steps):
 
 
 def test_the_number_of_bad_sectors_is_named():
-    words = WORDS[:129] + [0x0012] + WORDS[130:-1] + [0x3BA5]  # 12H more: as much less in the high byte
+    words = WORDS[:129] + [0x0012] + WORDS[130:-1] + [0x2BA5]  # 12H more: as much less in the high byte
     data = [byte for word in words for byte in (word % 256, word // 256)]
     assert named(1, ECH, ("read word ide 0 x256", words)) == [(131, "18")]
     assert verdicts(1, ECH, ("read word ide 0 x256", words)) == [(257, "0")]
@@ -97,13 +81,24 @@ def test_more_bad_sectors_than_sectors_are_told():
         assert named(1, ECH, ("read word ide 0 x130", WORDS[:129] + [value])) == [(131, said)]
 
 
+def test_the_most_sectors_of_a_block_are_named():
+    for word, said in ((0x0010, "16"), (0x0000, "0, and the word is 0000H, not 0010H"), (0x8010, "16, and the word is 8010H, not 0010H")):
+        lines = lines_of(1, ECH, ("read word ide 0 x48", WORDS[:47] + [word]))
+        assert [number for number, line in enumerate(lines) if "Word 47" in line] == [49], lines
+        assert lines[49].endswith(f". {MOST}{said}"), lines[49]
+    by_bytes = lines_of(1, ECH, ("read ide 0 x96", BYTES[:96]))
+    assert by_bytes[97].endswith(f"{MOST}16") and MOST not in by_bytes[96], by_bytes[96:]
+    assert not [line for line in lines_of(1, ECH, ("read ide 7", [0x50]), ("read word ide 0 x48", [0xFFFF] * 48)) if MOST in line]
+
+
 def test_each_identify_is_summed_once():
     assert verdicts(1, ECH, BEFORE, LAST, ("read word ide 0 x256", [0xFFFF] * 256)) == [(257, "0")]
     assert verdicts(1, ECH, ("read ide 0", [0x8A]), ECH, ("read ide 0 x512", BYTES)) == [(515, "0")]
-    assert verdicts(1, ECH, BEFORE, LAST, ECH, BEFORE, ("read word ide 0", [0x4EA5])) == [(257, "0"), (514, "01H, not 0")]
+    assert verdicts(1, ECH, BEFORE, LAST, ECH, BEFORE, ("read word ide 0", [0x3EA5])) == [(257, "0"), (514, "01H, not 0")]
 
 
 def test_fold_leaves_what_is_said_a_line():
     folded = lines_of(1, ECH, BEFORE, LAST, fold=True)
-    assert len(folded) == 6 and "129 times" in folded[2] and folded[3].endswith(f"{BAD}0"), folded
-    assert "125 times" in folded[4] and folded[5].endswith(f"{WHOLE}0"), folded
+    assert len(folded) == 8 and "47 times" in folded[2] and folded[3].endswith(f"{MOST}16"), folded
+    assert "81 times" in folded[4] and folded[5].endswith(f"{BAD}0"), folded
+    assert "125 times" in folded[6] and folded[7].endswith(f"{WHOLE}0"), folded

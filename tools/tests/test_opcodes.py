@@ -7,7 +7,7 @@ import tempfile
 from cardtools import card, opcodes
 from faults import fault_of
 
-# 01, "Commands", with the CFA's names.
+# 01, "Commands", and 02, "One", with the CFA's names; 02 leaves out the word Mode of Set Multiple Mode.
 NAMES = {
     "Read Sectors": (0x20, 0x21),
     "Write Sectors": (0x30, 0x31),
@@ -21,6 +21,9 @@ NAMES = {
     "Recalibrate": range(0x10, 0x20),
     "Seek": range(0x70, 0x80),
     "Request Sense": (0x03,),
+    "Set Multiple": (0xC6,),
+    "Read Multiple": (0xC4,),
+    "Write Multiple": (0xC5,),
 }
 
 
@@ -64,7 +67,7 @@ def test_each_letter_stands_at_its_opcodes():
 
 def test_the_page_follows_the_source():
     before = list(opcodes.page(opcodes.read()))
-    after = list(opcodes.page(changed("[U, o, o, o, o, o,", "[o, o, o, o, Q, Q,")))
+    after = list(opcodes.page(changed("[U, o, o, o, A, E, M,", "[o, o, o, o, Q, Q, o,")))
     assert [line for line in before if line not in after] == [before[13]], after
     assert after[13] == "CXH   . . . . Q Q . . . . . . . . . .   C4H C5H Request Sense", after[13]
     assert list(opcodes.page(changed("// Seek: seeK\n", "// Sought: the heads\n")))[8].endswith("   70H..7FH Sought")

@@ -12,6 +12,7 @@ use Rattle.ground.specs.Left.{leaving}
 use Rattle.geometry.specs.declared.Spot.{Spot}
 use Rattle.geometry.specs.declared.Located.{Located}
 use Rattle.geometry.proofs.Kept.{Bytes}
+use Rattle.registers.specs.declared.Pace.{Pace}
 use Rattle.registers.specs.declared.State.{State}
 use Rattle.registers.specs.declared.Core.{Core}
 use Rattle.registers.specs.State.{locatedIn}
@@ -69,36 +70,36 @@ run-by false plain past rest spot c n p done v r e f =
     let z = ltb-false (spot .remain) n v in
     rw (le-leb (spot .index + n) (c .room) (omega arith)) f
 
-module _ (n : ℕ) (m : Machine) (b : Bytes (m .state .registers .address)) (c : m .state .registers .count ≡ suc n % 256) where
+module _ (n : ℕ) (pace : Pace) (m : Machine) (b : Bytes (m .state .registers .address)) (c : m .state .registers .count ≡ suc n % 256) where
   pub read-begins : (l : Located) (d : List ℕ) → Ground In m → locatedIn (m .state) ≡ l →
-      rest (readSector (suc n) m) d ≡ fromFirst (asAddressed l) silent (λ i. readSectors (courseOf (plainOf m)) i (suc n) (plainOf m)) (plainOf m)
+      rest (readSector (suc n) pace m) d ≡ fromFirst (asAddressed l) silent (λ i. readSectors (courseOf (plainOf m)) i (suc n) (plainOf m)) (plainOf m)
   unfolding readSector sectorTest addressTest restAt
   read-begins (Located.Good spot) d g e =
-      read-rest n (courseIn (m .state)) (spot .index) m d (g .0) (g .1) (seated n spot (m .state) b c e) (where-first (m .state) spot (g .0) e)
+      read-rest n pace (courseIn (m .state)) (spot .index) m d (g .0) (g .1) (seated n spot (m .state) b c e) (where-first (m .state) spot (g .0) e)
   read-begins Located.BadHeadOrSector d g e = rw e
   read-begins Located.BadCylinder d g e = rw e
   read-begins Located.BadLba d g e = rw e
 
-  pub read-begins-between : (l : Located) → Ground In m → locatedIn (m .state) ≡ l → Between In (readSector (suc n) m) None
+  pub read-begins-between : (l : Located) → Ground In m → locatedIn (m .state) ≡ l → Between In (readSector (suc n) pace m) None
   unfolding readSector sectorTest addressTest
-  read-begins-between (Located.Good spot) g e = read-between n (courseIn (m .state)) (spot .index) m g (seated n spot (m .state) b c e) (where-first (m .state) spot (g .0) e)
+  read-begins-between (Located.Good spot) g e = read-between n pace (courseIn (m .state)) (spot .index) m g (seated n spot (m .state) b c e) (where-first (m .state) spot (g .0) e)
   read-begins-between Located.BadHeadOrSector g e = rw e (g, refl)
   read-begins-between Located.BadCylinder g e = rw e (g, refl)
   read-begins-between Located.BadLba g e = rw e (g, refl)
 
   pub write-begins : (l : Located) (d : List ℕ) → Ground Out m → locatedIn (m .state) ≡ l →
-      rest (withCore (askSector (suc n) First (m .state)) m) d ≡ fromFirst (asAddressed l) silent (λ i. writeSectors (courseOf (plainOf m)) i (suc n) (plainOf m) d) (plainOf m)
+      rest (withCore (askSector (suc n) pace First (m .state)) m) d ≡ fromFirst (asAddressed l) silent (λ i. writeSectors (courseOf (plainOf m)) i (suc n) (plainOf m) d) (plainOf m)
   unfolding askSector addressTest restAt
   write-begins (Located.Good spot) d g e =
-      ask-rest n First (courseIn (m .state)) (spot .index) (m .state) (m .buffer) (m .store) (m .marks) d (seated n spot (m .state) b c e) (where-first (m .state) spot (g .0) e)
+      ask-rest n pace First (courseIn (m .state)) (spot .index) (m .state) (m .buffer) (m .store) (m .marks) d (seated n spot (m .state) b c e) (where-first (m .state) spot (g .0) e)
   write-begins Located.BadHeadOrSector d g e = rw e
   write-begins Located.BadCylinder d g e = rw e
   write-begins Located.BadLba d g e = rw e
 
-  pub write-begins-between : (l : Located) → length (m .buffer) ≡ 512 → Ground Out m → locatedIn (m .state) ≡ l → Between Out (withCore (askSector (suc n) First (m .state)) m) None
+  pub write-begins-between : (l : Located) → length (m .buffer) ≡ 512 → Ground Out m → locatedIn (m .state) ≡ l → Between Out (withCore (askSector (suc n) pace First (m .state)) m) None
   unfolding askSector addressTest
   write-begins-between (Located.Good spot) f g e =
-      ask-between n First (courseIn (m .state)) (spot .index) (m .state) (m .buffer) (m .store) (m .marks) f g (seated n spot (m .state) b c e) (where-first (m .state) spot (g .0) e)
+      ask-between n pace First (courseIn (m .state)) (spot .index) (m .state) (m .buffer) (m .store) (m .marks) f g (seated n spot (m .state) b c e) (where-first (m .state) spot (g .0) e)
   write-begins-between Located.BadHeadOrSector f g e = rw e (g, refl)
   write-begins-between Located.BadCylinder f g e = rw e (g, refl)
   write-begins-between Located.BadLba f g e = rw e (g, refl)

@@ -10,10 +10,12 @@ use Rattle.geometry.specs.declared.Geometry.{Geometry}
 use Rattle.geometry.specs.declared.Reshaped.{Reshaped}
 use Rattle.geometry.specs.Limits.{totalOf, currentFor}
 use Rattle.geometry.specs.Shape.{reshaped, currentAfter}
+use Rattle.registers.specs.declared.Pace.{Pace}
 use Rattle.registers.specs.declared.Phase.the-variants.{Idle}
 use Rattle.registers.specs.declared.State.{State}
 use Rattle.registers.specs.declared.Core.{Core}
 use Rattle.registers.specs.State.{locatedIn, totalIn}
+use Rattle.registers.specs.Blocks.{single}
 use Rattle.registers.specs.Machine.{Machine, machine, core, withCore}
 use Rattle.transfers.specs.declared.Order.the-variants.{First}
 use Rattle.transfers.specs.declared.Way.{Way}
@@ -73,31 +75,31 @@ count-is : (s : State) → countOf s ≡ asked (s .registers .count)
 unfolding countOf asked
 count-is s = refl
 
-pub read-all : (m : Machine) (d : List ℕ) → Ground In m → Eight (m .state) → reads (plainOf m) ≡ rest (readSector (countOf (m .state)) m) d
-read-all m d g h =
+pub read-all : (pace : Pace) (m : Machine) (d : List ℕ) → Ground In m → Eight (m .state) → reads (plainOf m) ≡ rest (readSector (countOf (m .state)) pace m) d
+read-all pace m d g h =
     rw (count-is (m .state), first-is m (g .0))
-    (asked-elim (λ (n : ℕ). fromFirst (asAddressed (locatedIn (m .state))) silent (λ i. readSectors (courseOf (plainOf m)) i n (plainOf m)) (plainOf m) ≡ rest (readSector n m) d)
+    (asked-elim (λ (n : ℕ). fromFirst (asAddressed (locatedIn (m .state))) silent (λ i. readSectors (courseOf (plainOf m)) i n (plainOf m)) (plainOf m) ≡ rest (readSector n pace m) d)
     (m .state .registers .count) (h .0)
-    (λ n e. sym (read-begins n m (h .1) e (locatedIn (m .state)) d g refl)))
+    (λ n e. sym (read-begins n pace m (h .1) e (locatedIn (m .state)) d g refl)))
 
-pub read-all-between : (m : Machine) → Ground In m → Eight (m .state) → Between In (readSector (countOf (m .state)) m) None
-read-all-between m g h =
+pub read-all-between : (pace : Pace) (m : Machine) → Ground In m → Eight (m .state) → Between In (readSector (countOf (m .state)) pace m) None
+read-all-between pace m g h =
     rw (count-is (m .state))
-    (asked-elim (λ (n : ℕ). Between In (readSector n m) None) (m .state .registers .count) (h .0) (λ n e. read-begins-between n m (h .1) e (locatedIn (m .state)) g refl))
+    (asked-elim (λ (n : ℕ). Between In (readSector n pace m) None) (m .state .registers .count) (h .0) (λ n e. read-begins-between n pace m (h .1) e (locatedIn (m .state)) g refl))
 
-pub write-all : (m : Machine) (d : List ℕ) → Ground Out m → Eight (m .state) → writes (plainOf m) d ≡ rest (withCore (askSector (countOf (m .state)) First (m .state)) m) d
-write-all m d g h =
+pub write-all : (pace : Pace) (m : Machine) (d : List ℕ) → Ground Out m → Eight (m .state) → writes (plainOf m) d ≡ rest (withCore (askSector (countOf (m .state)) pace First (m .state)) m) d
+write-all pace m d g h =
     rw (count-is (m .state), first-is m (g .0))
     (asked-elim (λ (n : ℕ). fromFirst (asAddressed (locatedIn (m .state))) silent (λ i. writeSectors (courseOf (plainOf m)) i n (plainOf m) d) (plainOf m)
-    ≡ rest (withCore (askSector n First (m .state)) m) d)
+    ≡ rest (withCore (askSector n pace First (m .state)) m) d)
     (m .state .registers .count) (h .0)
-    (λ n e. sym (write-begins n m (h .1) e (locatedIn (m .state)) d g refl)))
+    (λ n e. sym (write-begins n pace m (h .1) e (locatedIn (m .state)) d g refl)))
 
-pub write-all-between : (m : Machine) → length (m .buffer) ≡ 512 → Ground Out m → Eight (m .state) → Between Out (withCore (askSector (countOf (m .state)) First (m .state)) m) None
-write-all-between m f g h =
+pub write-all-between : (pace : Pace) (m : Machine) → length (m .buffer) ≡ 512 → Ground Out m → Eight (m .state) → Between Out (withCore (askSector (countOf (m .state)) pace First (m .state)) m) None
+write-all-between pace m f g h =
     rw (count-is (m .state))
-    (asked-elim (λ (n : ℕ). Between Out (withCore (askSector n First (m .state)) m) None) (m .state .registers .count) (h .0)
-    (λ n e. write-begins-between n m (h .1) e (locatedIn (m .state)) f g refl))
+    (asked-elim (λ (n : ℕ). Between Out (withCore (askSector n pace First (m .state)) m) None) (m .state .registers .count) (h .0)
+    (λ n e. write-begins-between n pace m (h .1) e (locatedIn (m .state)) f g refl))
 
 pub verify-all : (m : Machine) → Ground In m → Eight (m .state) → verifies (plainOf m) ≡ plainIn (verifyRun (countOf (m .state)) (m .state) (m .marks) .state) (m .buffer) (m .store) (m .marks)
 verify-all m g h =
@@ -105,7 +107,7 @@ verify-all m g h =
     (asked-elim (λ (n : ℕ). fromFirst (asAddressed (locatedIn (m .state))) (λ q. q) (λ i. wholeRun (courseOf (plainOf m)) i n (plainOf m) (verifySectors (courseOf (plainOf m)) i n (plainOf m))) (plainOf m)
     ≡ plainIn (verifyRun n (m .state) (m .marks) .state) (m .buffer) (m .store) (m .marks))
     (m .state .registers .count) (h .0)
-    (λ n e. sym (verify-begins n m (h .1) e (locatedIn (m .state)) g refl)))
+    (λ n e. sym (verify-begins n single m (h .1) e (locatedIn (m .state)) g refl)))
 
 pub erase-all : (m : Machine) → Ground In m → Eight (m .state) →
     erases (plainOf m)
@@ -116,7 +118,7 @@ erase-all m g h =
     (asked-elim (λ (n : ℕ). fromFirst (asAddressed (locatedIn (m .state))) (λ q. q) (λ i. wholeRun (courseOf (plainOf m)) i n (plainOf m) (eraseSectors (courseOf (plainOf m)) i n (plainOf m))) (plainOf m)
     ≡ plainIn (eraseRun n (m .state) (m .store) (m .marks) .outcome .state) (m .buffer) (eraseRun n (m .state) (m .store) (m .marks) .next .store) (eraseRun n (m .state) (m .store) (m .marks) .next .marks))
     (m .state .registers .count) (h .0)
-    (λ n e. sym (erase-begins n m (h .1) e (locatedIn (m .state)) g refl)))
+    (λ n e. sym (erase-begins n single m (h .1) e (locatedIn (m .state)) g refl)))
 
 -- 91H
 set-by : (a v : Bool) (g : Geometry) (s : State) (b t k : List ℕ) →

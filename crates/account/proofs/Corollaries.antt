@@ -9,7 +9,7 @@ use Rattle.registers.specs.Machine.{Machine}
 use Rattle.registers.specs.declared.State.{State}
 use Rattle.registers.specs.declared.Phase.the-variants.{Idle}
 use Rattle.commands.specs.declared.Command.{Command}
-use Rattle.commands.specs.declared.Command.the-variants.{Read, Write, Verify, Erase, Identify, ReadBuffer, WriteBuffer, SetGeometry, Diagnose, Recalibrate, Seek, Sense, Other}
+use Rattle.commands.specs.declared.Command.the-variants.{Read, Write, Verify, Erase, Identify, ReadBuffer, WriteBuffer, SetGeometry, Diagnose, Recalibrate, Seek, Sense, SetMultiple, ReadMultiple, WriteMultiple, Other}
 use Rattle.commands.specs.Table.{commandOf, obeyed, started, countOf, dropped, commandGiven}
 use Rattle.card.specs.Access.{Asked}
 use Rattle.card.specs.Step.{step}
@@ -24,6 +24,7 @@ use Rattle.account.specs.Claim.{Agrees}
 use Rattle.account.specs.Follows.{Able, commanded, AcceptedCommand, after, dataless}
 use Rattle.account.proofs.SameRow.{rowFor, same-row}
 use Rattle.account.proofs.Settled.{verify-settled, erase-idle}
+use Rattle.account.proofs.Blocks.{block-idle}
 use Rattle.account.proofs.Commands.{set-idle}
 use Rattle.account.proofs.Accepted.{able}
 use Rattle.account.proofs.Theorem.{command-given, by-meaning, agreed}
@@ -50,6 +51,9 @@ over-at-once Diagnose s m e = refl
 over-at-once Recalibrate s m e = refl
 over-at-once Seek s m e = refl
 over-at-once Sense s m e = refl
+over-at-once SetMultiple s m e = block-idle s
+over-at-once ReadMultiple s m e = absurd (false≢true e)
+over-at-once WriteMultiple s m e = absurd (false≢true e)
 over-at-once Other s m e = refl
 
 asks-not : (v : ℕ) (m : Machine) → dataless (rowOf v) ≡ true → asks (commandGiven v m) ≡ false

@@ -23,6 +23,7 @@ pub mod Identifying
 pub mod Begins
 pub mod Commands
 pub mod StartsEnds
+pub mod Blocks
 pub mod Given
 pub mod Accepted
 pub mod Theorem

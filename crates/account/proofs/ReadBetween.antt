@@ -11,6 +11,8 @@ use lib.Seq.{getD-drop}
 use borrow.Author.Tests.{ltb-true, ne-eqb}
 use Rattle.ground.specs.Choice.{pick}
 use Rattle.geometry.specs.Limits.{totalOf}
+use Rattle.registers.specs.declared.Pace.{Pace}
+use Rattle.registers.specs.Blocks.{paceAfter}
 use Rattle.registers.specs.declared.Load.{Load}
 use Rattle.registers.specs.declared.Load.the-variants.{Sectors, Buffer}
 use Rattle.registers.specs.declared.Transfer.{Transfer}
@@ -48,31 +50,31 @@ bytes-drop n l h i = rw getD-drop (h (n + i))
 sector-bytes : (i : ℕ) (l : List ℕ) → AllBytes l → AllBytes (sectorAt l i)
 sector-bytes i l h = bytes-take 512 (drop (512 * i) l) (bytes-drop (512 * i) l h)
 
-pub read-between : (n : ℕ) (c : Course) (i : ℕ) (m : Machine) → Ground In m → Seated c i (suc n) (m .state) → Where c i (m .state) → Between In (readSector (suc n) m) None
+pub read-between : (n : ℕ) (pace : Pace) (c : Course) (i : ℕ) (m : Machine) → Ground In m → Seated c i (suc n) (m .state) → Where c i (m .state) → Between In (readSector (suc n) pace m) None
 unfolding readSector sectorOf
-read-between n c i m g q w =
+read-between n pace c i m g q w =
     read-tested c i (m .state) (m .marks)
-    (λ (x : Tested) (e : Finish). Between In (readTested x (suc n) m) None)
+    (λ (x : Tested) (e : Finish). Between In (readTested x (suc n) pace m) None)
     w
     (λ r.
     let o = room-total c (m .state) (g .0) (q .2) in
     let z : i < totalOf (m .state .made .default) = omega arith in
     let y : i < length (m .store) / 512 = rw (g .1 .0) (omega arith) in
     rw (sector-read (totalOf (m .state .made .default)) i (m .store) (m .buffer) z (g .1 .0))
-    (g, (omega arith, sector-length (m .store) i y, sector-bytes i (m .store) (g .2), tt, loaded-of c i n (m .state) q (where-good c i (m .state) w r))))
+    (g, (omega arith, sector-length (m .store) i y, sector-bytes i (m .store) (g .2), tt, loaded-of c i n pace (m .state) q (where-good c i (m .state) w r))))
     (λ f z. (g, refl))
 
-next-between : (n : ℕ) (c : Course) (i : ℕ) (m : Machine) → Ground In m → Seated c i (suc n) (m .state) → locatedIn (m .state) ≡ goodOn c i → Between In (nextRead n m) None
+next-between : (n : ℕ) (pace : Pace) (c : Course) (i : ℕ) (m : Machine) → Ground In m → Seated c i (suc n) (m .state) → locatedIn (m .state) ≡ goodOn c i → Between In (nextRead n pace m) None
 unfolding nextRead
-next-between zero c i m g q e = unfold sectorDone in (g, refl)
-next-between (suc n) c i m g q e =
+next-between zero pace c i m g q e = unfold sectorDone in (g, refl)
+next-between (suc n) pace c i m g q e =
     let z = seat-next c (suc n) i (m .state) (g .0) e (q .2) in
-    rw (done-on n (m .state), ne-eqb (suc n) 0 (omega arith)) (read-between n c (i + 1) (idleWith (onward (suc n) (m .state)) m) g (z .0) (z .1))
+    rw (done-on n (m .state), ne-eqb (suc n) 0 (omega arith)) (read-between n pace c (i + 1) (idleWith (onward (suc n) (m .state)) m) g (z .0) (z .1))
 
 load-between : (l : Load) (m : Machine) → Ground In m → Loaded l (bare (plainOf m)) → Between In (loadRead l m) None
 load-between Buffer m g k = (g, refl)
-load-between (Sectors zero) m g k = absurd (omega (arith, k .1))
-load-between (Sectors (suc n)) m g k = rw (sub-one (suc n)) (next-between n (courseIn (m .state)) (here (m .state)) m g (k .2, k .3, refl) (k .0))
+load-between (Sectors zero pace) m g k = absurd (omega (arith, k .1))
+load-between (Sectors (suc n) pace) m g k = rw (sub-one (suc n)) (next-between n (paceAfter pace) (courseIn (m .state)) (here (m .state)) m g (k .2, k .3, refl) (k .0))
 
 pub word-between : (b : Bool) (t : Transfer) (m : Machine) (q : Waiting) → ltb (t .words) 255 ≡ b → Ground In m → Running In t (plainOf m) q →
     Between In (pick b (withPhase (DataIn (nextWord t)) m) (loadRead (t .load) (allMoved m))) None

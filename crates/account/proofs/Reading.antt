@@ -12,11 +12,13 @@ use borrow.Author.Tests.{ltb-true, ltb-false, lt-ltb, ne-eqb}
 use Rattle.ground.specs.Choice.{pick}
 use Rattle.geometry.specs.Limits.{totalOf}
 use Rattle.sectors.specs.Sectors.{sectorOf, bufferRead}
+use Rattle.registers.specs.declared.Pace.{Pace}
 use Rattle.registers.specs.declared.Load.{Load}
 use Rattle.registers.specs.declared.Load.the-variants.{Sectors, Buffer}
 use Rattle.registers.specs.declared.Transfer.{Transfer}
 use Rattle.registers.specs.declared.Phase.the-variants.{DataIn}
 use Rattle.registers.specs.Status.{dataStatus}
+use Rattle.registers.specs.Blocks.{paceAfter}
 use Rattle.registers.specs.State.{locatedIn}
 use Rattle.registers.specs.Machine.{Machine}
 use Rattle.transfers.specs.declared.Tested.{Tested}
@@ -41,12 +43,12 @@ sector-read n i store buffer h e =
     rw (q, lt-ltb i n h)
 
 -- a sector to be read
-pub read-rest : (n : ℕ) (c : Course) (i : ℕ) (m : Machine) (d : List ℕ) → Shaped (m .state .made) (m .state .current) → LentFor (totalOf (m .state .made .default)) (m .store) (m .marks) →
-    Seated c i (suc n) (m .state) → Where c i (m .state) → rest (readSector (suc n) m) d ≡ readSectors c i (suc n) (plainOf m)
+pub read-rest : (n : ℕ) (pace : Pace) (c : Course) (i : ℕ) (m : Machine) (d : List ℕ) → Shaped (m .state .made) (m .state .current) → LentFor (totalOf (m .state .made .default)) (m .store) (m .marks) →
+    Seated c i (suc n) (m .state) → Where c i (m .state) → rest (readSector (suc n) pace m) d ≡ readSectors c i (suc n) (plainOf m)
 unfolding readSector readSectors sweepFrom restAt doneIn sectorsFrom lastSector
-read-rest n c i m d h l q w =
+read-rest n pace c i m d h l q w =
     read-tested c i (m .state) (m .marks)
-    (λ (x : Tested) (e : Finish). rest (readTested x (suc n) m) d ≡ readDone c i (tried e (suc n) i (sweepFrom (tests unreadable Unreadable c (m .marks)) (i + 1) n)) (plainOf m))
+    (λ (x : Tested) (e : Finish). rest (readTested x (suc n) pace m) d ≡ readDone c i (tried e (suc n) i (sweepFrom (tests unreadable Unreadable c (m .marks)) (i + 1) n)) (plainOf m))
     w
     (λ r.
     let o = room-total c (m .state) h (q .2) in
@@ -57,21 +59,21 @@ read-rest n c i m d h l q w =
     (λ f z. rw (stops-sweep f z c (suc n) i (sweepFrom (tests unreadable Unreadable c (m .marks)) (i + 1) n) (plainOf m), stops-ends f z c (suc n) i (m .state) (m .buffer) (m .store) (m .marks) q))
 
 -- the last byte of sector i has gone
-next-rest : (n : ℕ) (c : Course) (i : ℕ) (m : Machine) (d : List ℕ) → Shaped (m .state .made) (m .state .current) → LentFor (totalOf (m .state .made .default)) (m .store) (m .marks) →
-    Seated c i (suc n) (m .state) → locatedIn (m .state) ≡ goodOn c i → rest (nextRead n m) d ≡ readSectors c (i + 1) n (plainOf m)
+next-rest : (n : ℕ) (pace : Pace) (c : Course) (i : ℕ) (m : Machine) (d : List ℕ) → Shaped (m .state .made) (m .state .current) → LentFor (totalOf (m .state .made .default)) (m .store) (m .marks) →
+    Seated c i (suc n) (m .state) → locatedIn (m .state) ≡ goodOn c i → rest (nextRead n pace m) d ≡ readSectors c (i + 1) n (plainOf m)
 unfolding nextRead
-next-rest zero c i m d h l q e = unfold sectorDone restAt readSectors sweepFrom sectorsFrom lastSector in rw (seated-last c i 1 (m .state) q)
-next-rest (suc n) c i m d h l q e =
+next-rest zero pace c i m d h l q e = unfold sectorDone restAt readSectors sweepFrom sectorsFrom lastSector in rw (seated-last c i 1 (m .state) q)
+next-rest (suc n) pace c i m d h l q e =
     let z = seat-next c (suc n) i (m .state) h e (q .2) in
-    let y = read-rest n c (i + 1) (idleWith (onward (suc n) (m .state)) m) d h l (z .0) (z .1) in
+    let y = read-rest n pace c (i + 1) (idleWith (onward (suc n) (m .state)) m) d h l (z .0) (z .1) in
     rw (done-on n (m .state), ne-eqb (suc n) 0 (omega arith)) (y ∙ (unfold readSectors in refl))
 
 load-rest : (l : Load) (m : Machine) (d : List ℕ) → Shaped (m .state .made) (m .state .current) → LentFor (totalOf (m .state .made .default)) (m .store) (m .marks) → Loaded l (bare (plainOf m)) →
     rest (loadRead l m) d ≡ doneIn l (plainOf m)
 unfolding doneIn
 load-rest Buffer m d h l k = unfold restAt in refl
-load-rest (Sectors zero) m d h l k = absurd (omega (arith, k .1))
-load-rest (Sectors (suc n)) m d h l k = rw (sub-one (suc n)) (next-rest n (courseIn (m .state)) (here (m .state)) m d h l (k .2, k .3, refl) (k .0))
+load-rest (Sectors zero pace) m d h l k = absurd (omega (arith, k .1))
+load-rest (Sectors (suc n) pace) m d h l k = rw (sub-one (suc n)) (next-rest n (paceAfter pace) (courseIn (m .state)) (here (m .state)) m d h l (k .2, k .3, refl) (k .0))
 
 -- the two bytes of a word
 word-bytes : (b : List ℕ) (w : ℕ) → 2 * w + 1 < length b → drop (2 * w) b ≡ getD b (2 * w) 0 ∷ getD b (2 * w + 1) 0 ∷ drop (2 * (w + 1)) b

@@ -8,6 +8,7 @@ use lib.ListN.{length, take, drop, set, getD}
 use Rattle.geometry.specs.declared.Located.{Located}
 use Rattle.geometry.specs.Address.{indexOf, locate}
 use Rattle.geometry.specs.Limits.{totalOf}
+use Rattle.registers.specs.declared.Pace.{Pace}
 use Rattle.registers.specs.declared.Half.{Half}
 use Rattle.registers.specs.declared.Load.{Load}
 use Rattle.registers.specs.declared.Load.the-variants.{Sectors, Buffer}
@@ -39,7 +40,7 @@ here s = indexOf (locatedIn s)
 -- a sector or the buffer has been read
 unfoldable pub doneIn : Load → Plain → Account
 doneIn Buffer p = silent (ends Well p)
-doneIn (Sectors left) p = readSectors (courseOf p) (indexOf (located p) + 1) (left - 1) p
+doneIn (Sectors left pace) p = readSectors (courseOf p) (indexOf (located p) + 1) (left - 1) p
 
 -- the bytes of sector i have come: its mark is tested, then it is stored
 unfoldable pub storedThen : Bool → ℕ → ℕ → Course → Plain → List ℕ → List ℕ → Account
@@ -49,7 +50,7 @@ storedThen false left i c p b d = writeSectors c (i + 1) (left - 1) (withBuffer 
 -- b has been written, d is to come
 unfoldable pub doneOut : Load → Plain → List ℕ → List ℕ → Account
 doneOut Buffer p b d = silent (ends Well (withBuffer b p))
-doneOut (Sectors left) p b d = storedThen (unwritable (getD (p .marks) (indexOf (located p)) 0)) left (indexOf (located p)) (courseOf p) p b d
+doneOut (Sectors left pace) p b d = storedThen (unwritable (getD (p .marks) (indexOf (located p)) 0)) left (indexOf (located p)) (courseOf p) p b d
 
 abbrev pub outcome : Plain → List ℕ → Account
 outcome p l = record { moved = l; left = p }
@@ -90,7 +91,7 @@ bare p = withBuffer [] (withStore [] [] 0 p)
 -- a running sector transfer: a valid address, and Count agrees
 abbrev pub Loaded : Load → Plain → Type 0
 Loaded Buffer p = Unit {0}
-Loaded (Sectors left) p =
+Loaded (Sectors left pace) p =
     (located p ≡ goodOn (courseOf p) (indexOf (located p))) × (1 ≤ left) × (p .registers .count ≡ left % 256) × (p .registers .address ≡ named (courseOf p) (indexOf (located p)))
 
 -- the geometries, what is lent, and no reset
@@ -134,8 +135,8 @@ sweep-status c r v p = ends-status (r .finish) v _
 abbrev pub Between : Way → Machine → Waiting → Type 0
 Between way m q = Ground way m × Waits way (m .phase) (plainOf m) q
 
-pub loaded-of : (c : Course) (i n : ℕ) (s : State) → Seated c i (suc n) s → locatedIn s ≡ goodOn c i → Loaded (Sectors (suc n)) (plainIn s [] [] [])
-loaded-of c i n s q e = (rw e (ap (λ (d : Course). goodOn d i) (sym (q .2))), omega arith, q .0, rw (q .2, e) (q .1))
+pub loaded-of : (c : Course) (i n : ℕ) (pace : Pace) (s : State) → Seated c i (suc n) s → locatedIn s ≡ goodOn c i → Loaded (Sectors (suc n) pace) (plainIn s [] [] [])
+loaded-of c i n pace s q e = (rw e (ap (λ (d : Course). goodOn d i) (sym (q .2))), omega arith, q .0, rw (q .2, e) (q .1))
 
 abbrev pub notes : List ℕ → Waiting → Notes
 notes l w = record { done = l; waiting = w }

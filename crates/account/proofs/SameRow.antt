@@ -8,9 +8,9 @@ use borrow.Author.Tests.{leb-true, le-leb, eqb-true, eqb-false, eq-eqb}
 use Rattle.ground.specs.Choice.{pick}
 use Rattle.ground.proofs.Every.{and-left, and-right}
 use Rattle.commands.specs.declared.Command.{Command}
-use Rattle.commands.specs.declared.Command.the-variants.{Read, Write, Verify, Erase, Identify, ReadBuffer, WriteBuffer, SetGeometry, Diagnose, Recalibrate, Seek, Sense, Other}
+use Rattle.commands.specs.declared.Command.the-variants.{Read, Write, Verify, Erase, Identify, ReadBuffer, WriteBuffer, SetGeometry, Diagnose, Recalibrate, Seek, Sense, SetMultiple, ReadMultiple, WriteMultiple, Other}
 use Rattle.commands.specs.Table.{commandOf}
-use Rattle.account.specs.CommandRows.{CommandRow, Reads, Writes, Verifies, Erases, Identifies, ReadsBuffer, WritesBuffer, SetsGeometry, Diagnoses, Recalibrates, Seeks, Senses, Others, rows, rowIn, rowOf}
+use Rattle.account.specs.CommandRows.{CommandRow, Reads, Writes, Verifies, Erases, Identifies, ReadsBuffer, WritesBuffer, SetsGeometry, Diagnoses, Recalibrates, Seeks, Senses, SetsMultiple, ReadsMultiple, WritesMultiple, Others, rows, rowIn, rowOf}
 
 -- a command of the machine in the account's words
 abbrev pub rowFor : Command → CommandRow
@@ -26,6 +26,9 @@ rowFor Diagnose = Diagnoses
 rowFor Recalibrate = Recalibrates
 rowFor Seek = Seeks
 rowFor Sense = Senses
+rowFor SetMultiple = SetsMultiple
+rowFor ReadMultiple = ReadsMultiple
+rowFor WriteMultiple = WritesMultiple
 rowFor Other = Others
 
 same-test : (a b : Bool) → (a ≡ true → b ≡ true) → (b ≡ true → a ≡ true) → a ≡ b
@@ -93,4 +96,7 @@ same-row v =
     (one 0x90 v Diagnose _ _
     (sixteen 1 v Recalibrate _ _
     (sixteen 7 v Seek _ _
-    (one 0x03 v Sense Other Others refl)))))))))))
+    (one 0x03 v Sense _ _
+    (one 0xC6 v SetMultiple _ _
+    (one 0xC4 v ReadMultiple _ _
+    (one 0xC5 v WriteMultiple Other Others refl))))))))))))))

@@ -14,6 +14,7 @@ use Rattle.geometry.specs.declared.Spot.{Spot}
 use Rattle.geometry.specs.declared.Located.{Located}
 use Rattle.geometry.specs.Limits.{totalOf}
 use Rattle.sectors.specs.Marks.{writable}
+use Rattle.registers.specs.Blocks.{paceAfter}
 use Rattle.registers.specs.declared.Load.{Load}
 use Rattle.registers.specs.declared.Load.the-variants.{Sectors, Buffer}
 use Rattle.registers.specs.declared.Transfer.{Transfer}
@@ -54,10 +55,10 @@ written-rest : (l : Load) (m : Machine) (d : List ℕ) → Shaped (m .state .mad
     rest (loadWritten l m) d ≡ doneOut l (plainOf m) (m .buffer) d
 unfolding doneOut sectorStored
 written-rest Buffer m d h l k = unfold restAt in refl
-written-rest (Sectors zero) m d h l k = absurd (omega (arith, k .1))
-written-rest (Sectors (suc n)) m d h l k =
+written-rest (Sectors zero pace) m d h l k = absurd (omega (arith, k .1))
+written-rest (Sectors (suc n) pace) m d h l k =
     rw (sector-test (spotOn (courseIn (m .state)) (here (m .state))) (m .state) (m .marks) (k .0), sub-one (suc n))
-    (marked-rest (writable (getD (m .marks) (here (m .state)) 0)) (unwritable (getD (m .marks) (here (m .state)) 0)) n (courseIn (m .state)) (here (m .state)) m d
+    (marked-rest (writable (getD (m .marks) (here (m .state)) 0)) (unwritable (getD (m .marks) (here (m .state)) 0)) n (paceAfter pace) (courseIn (m .state)) (here (m .state)) m d
     (unwrite-opposite (getD (m .marks) (here (m .state)) 0)) (here-inside (m .state) h (k .0)) h l (k .2, k .3, refl) (k .0))
 
 -- a word has come: l and h stand in the buffer b

@@ -12,6 +12,8 @@ use Rattle.ground.specs.Choice.{pick}
 use Rattle.geometry.specs.declared.Located.{Located}
 use Rattle.geometry.specs.Limits.{totalOf}
 use Rattle.sectors.specs.Marks.{writable}
+use Rattle.registers.specs.declared.Pace.{Pace}
+use Rattle.registers.specs.Blocks.{paceAfter}
 use Rattle.registers.specs.declared.Load.{Load}
 use Rattle.registers.specs.declared.Load.the-variants.{Sectors, Buffer}
 use Rattle.registers.specs.declared.Transfer.{Transfer}
@@ -38,47 +40,47 @@ use Rattle.account.proofs.Stored.{stored-is, stored-lent}
 use Rattle.account.proofs.Rest.{bare, here, Ground, Running, Between, Loaded, loaded-of}
 use Rattle.account.proofs.WordWritten.{sector-test, here-inside}
 
-past-between : (l : Bool) (n : ℕ) (order : Order) (s : State) (b t k : List ℕ) → Ground Out (idle s b t k) →
-    Between Out (machine (askTested (testedOf (pick l Located.BadLba Located.BadCylinder)) n order s) b t k) None
-past-between true n order s b t k g = (g, refl)
-past-between false n order s b t k g = (g, refl)
+past-between : (l : Bool) (n : ℕ) (pace : Pace) (order : Order) (s : State) (b t k : List ℕ) → Ground Out (idle s b t k) →
+    Between Out (machine (askTested (testedOf (pick l Located.BadLba Located.BadCylinder)) n pace order s) b t k) None
+past-between true n pace order s b t k g = (g, refl)
+past-between false n pace order s b t k g = (g, refl)
 
-ask-by : (v : Bool) (n : ℕ) (order : Order) (c : Course) (i : ℕ) (s : State) (b t k : List ℕ) → length b ≡ 512 → Ground Out (idle s b t k) → Seated c i (suc n) s →
+ask-by : (v : Bool) (n : ℕ) (pace : Pace) (order : Order) (c : Course) (i : ℕ) (s : State) (b t k : List ℕ) → length b ≡ 512 → Ground Out (idle s b t k) → Seated c i (suc n) s →
     locatedIn s ≡ pick v (goodOn c i) (pastRoom c) →
-    Between Out (machine (askTested (testedOf (pick v (goodOn c i) (pastRoom c))) (suc n) order s) b t k) None
-ask-by true n order c i s b t k e g q w = (g, (omega arith, e, tt, tt, loaded-of c i n s q w))
-ask-by false n order c i s b t k e g q w = past-between (c .lba) (suc n) order s b t k g
+    Between Out (machine (askTested (testedOf (pick v (goodOn c i) (pastRoom c))) (suc n) pace order s) b t k) None
+ask-by true n pace order c i s b t k e g q w = (g, (omega arith, e, tt, tt, loaded-of c i n pace s q w))
+ask-by false n pace order c i s b t k e g q w = past-between (c .lba) (suc n) pace order s b t k g
 
-pub ask-between : (n : ℕ) (order : Order) (c : Course) (i : ℕ) (s : State) (b t k : List ℕ) → length b ≡ 512 → Ground Out (idle s b t k) → Seated c i (suc n) s → Where c i s →
-    Between Out (machine (askSector (suc n) order s) b t k) None
+pub ask-between : (n : ℕ) (pace : Pace) (order : Order) (c : Course) (i : ℕ) (s : State) (b t k : List ℕ) → length b ≡ 512 → Ground Out (idle s b t k) → Seated c i (suc n) s → Where c i s →
+    Between Out (machine (askSector (suc n) pace order s) b t k) None
 unfolding askSector addressTest
-ask-between n order c i s b t k e g q w =
-    subst (λ (l : Located). Between Out (machine (askTested (testedOf l) (suc n) order s) b t k) None) (sym w) (ask-by (ltb i (c .room)) n order c i s b t k e g q w)
+ask-between n pace order c i s b t k e g q w =
+    subst (λ (l : Located). Between Out (machine (askTested (testedOf l) (suc n) pace order s) b t k) None) (sym w) (ask-by (ltb i (c .room)) n pace order c i s b t k e g q w)
 
-asked-between : (n : ℕ) (c : Course) (i : ℕ) (s : State) (b t k : List ℕ) → length b ≡ 512 → Ground Out (idle s b t k) → Seated c i (suc n) s → locatedIn s ≡ goodOn c i →
-    Between Out (machine (nextAsked n s) b t k) None
+asked-between : (n : ℕ) (pace : Pace) (c : Course) (i : ℕ) (s : State) (b t k : List ℕ) → length b ≡ 512 → Ground Out (idle s b t k) → Seated c i (suc n) s → locatedIn s ≡ goodOn c i →
+    Between Out (machine (nextAsked n pace s) b t k) None
 unfolding nextAsked
-asked-between zero c i s b t k f g q e = unfold sectorDone in (g, refl)
-asked-between (suc n) c i s b t k f g q e =
+asked-between zero pace c i s b t k f g q e = unfold sectorDone in (g, refl)
+asked-between (suc n) pace c i s b t k f g q e =
     let z = seat-next c (suc n) i s (g .0) e (q .2) in
-    rw (done-on n s, ne-eqb (suc n) 0 (omega arith)) (ask-between n Later c (i + 1) (onward (suc n) s) b t k f g (z .0) (z .1))
+    rw (done-on n s, ne-eqb (suc n) 0 (omega arith)) (ask-between n pace Later c (i + 1) (onward (suc n) s) b t k f g (z .0) (z .1))
 
-marked-between : (u : Bool) (n : ℕ) (c : Course) (i : ℕ) (m : Machine) → i < totalOf (m .state .made .default) → length (m .buffer) ≡ 512 → Ground Out m → Seated c i (suc n) (m .state) →
+marked-between : (u : Bool) (n : ℕ) (pace : Pace) (c : Course) (i : ℕ) (m : Machine) → i < totalOf (m .state .made .default) → length (m .buffer) ≡ 512 → Ground Out m → Seated c i (suc n) (m .state) →
     locatedIn (m .state) ≡ goodOn c i →
-    Between Out (writtenBy (storedBy (pick u (Passes (spotOn c i)) (Fails End.WriteFault)) (m .buffer) (storeMarksIn m)) n m) None
-marked-between true n c i m h f g q e =
+    Between Out (writtenBy (storedBy (pick u (Passes (spotOn c i)) (Fails End.WriteFault)) (m .buffer) (storeMarksIn m)) n pace m) None
+marked-between true n pace c i m h f g q e =
     rw (stored-is (totalOf (m .state .made .default)) i (m .state .bad) (m .store) (m .marks) (m .buffer) h (g .1))
-    (asked-between n c i (withBad (m .state .bad - badAt i (m .marks)) (m .state)) (m .buffer) (putSector i (m .buffer) (m .store)) (set (m .marks) i 0) f
+    (asked-between n pace c i (withBad (m .state .bad - badAt i (m .marks)) (m .state)) (m .buffer) (putSector i (m .buffer) (m .store)) (set (m .marks) i 0) f
     (g .0, stored-lent (totalOf (m .state .made .default)) i (m .store) (m .marks) (m .buffer) h (g .1) f, tt, g .3, g .4) q e)
-marked-between false n c i m h f g q e = (g, refl)
+marked-between false n pace c i m h f g q e = (g, refl)
 
 written-between : (l : Load) (m : Machine) → length (m .buffer) ≡ 512 → Ground Out m → Loaded l (bare (plainOf m)) → Between Out (loadWritten l m) None
 unfolding sectorStored
 written-between Buffer m f g k = (g, refl)
-written-between (Sectors zero) m f g k = absurd (omega (arith, k .1))
-written-between (Sectors (suc n)) m f g k =
+written-between (Sectors zero pace) m f g k = absurd (omega (arith, k .1))
+written-between (Sectors (suc n) pace) m f g k =
     rw (sector-test (spotOn (courseIn (m .state)) (here (m .state))) (m .state) (m .marks) (k .0), sub-one (suc n))
-    (marked-between (writable (getD (m .marks) (here (m .state)) 0)) n (courseIn (m .state)) (here (m .state)) m (here-inside (m .state) (g .0) (k .0)) f g (k .2, k .3, refl) (k .0))
+    (marked-between (writable (getD (m .marks) (here (m .state)) 0)) n (paceAfter pace) (courseIn (m .state)) (here (m .state)) m (here-inside (m .state) (g .0) (k .0)) f g (k .2, k .3, refl) (k .0))
 
 pub word-written-between : (v : Bool) (t : Transfer) (m : Machine) (b : List ℕ) (q : Waiting) → ltb (t .words) 255 ≡ v → length b ≡ 512 → Ground Out m → Running Out t (plainOf m) q →
     Between Out (pick v (withPhase (DataOut (nextWord t)) (withBuffer b m)) (loadWritten (t .load) (allMoved (withBuffer b m)))) None

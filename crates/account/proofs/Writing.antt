@@ -11,6 +11,7 @@ use borrow.Author.Tests.{ltb-true, lt-ltb, ne-eqb}
 use Rattle.ground.specs.Choice.{pick}
 use Rattle.geometry.specs.declared.Located.{Located}
 use Rattle.geometry.specs.Limits.{totalOf}
+use Rattle.registers.specs.declared.Pace.{Pace}
 use Rattle.registers.specs.declared.Load.{Load}
 use Rattle.registers.specs.declared.Load.the-variants.{Sectors, Buffer}
 use Rattle.registers.specs.declared.State.{State}
@@ -78,53 +79,53 @@ stored-over false n i c p x b d = refl
 pub done-over : (l : Load) (p : Plain) (x b d : List ℕ) → doneOut l (withBuffer x p) b d ≡ doneOut l p b d
 unfolding doneOut
 done-over Buffer p x b d = refl
-done-over (Sectors n) p x b d = stored-over _ n _ _ p x b d
+done-over (Sectors n pace) p x b d = stored-over _ n _ _ p x b d
 
 -- ---- the machine
 
-past-rest : (l : Bool) (n : ℕ) (order : Order) (c : Course) (i : ℕ) (s : State) (b t k d : List ℕ) → Seated c i (suc n) s →
-    rest (machine (askTested (testedOf (pick l Located.BadLba Located.BadCylinder)) (suc n) order s) b t k) d
+past-rest : (l : Bool) (n : ℕ) (pace : Pace) (order : Order) (c : Course) (i : ℕ) (s : State) (b t k d : List ℕ) → Seated c i (suc n) s →
+    rest (machine (askTested (testedOf (pick l Located.BadLba Located.BadCylinder)) (suc n) pace order s) b t k) d
     ≡ writeDone c i (tried (NotFound codeCylinderOrLba) (suc n) i (sweepFrom (tests unwritable WriteFault c k) (i + 1) n)) (plainIn s b t k) d
 unfolding restAt firstSectors lastSectors replaced cleared
-past-rest true n order c i s b t k d q = rw (bad-none (s .bad) i k, stops-ends End.BadLba refl c (suc n) i s b t k q)
-past-rest false n order c i s b t k d q = rw (bad-none (s .bad) i k, stops-ends End.BadCylinder refl c (suc n) i s b t k q)
+past-rest true n pace order c i s b t k d q = rw (bad-none (s .bad) i k, stops-ends End.BadLba refl c (suc n) i s b t k q)
+past-rest false n pace order c i s b t k d q = rw (bad-none (s .bad) i k, stops-ends End.BadCylinder refl c (suc n) i s b t k q)
 
-ask-by : (v : Bool) (n : ℕ) (order : Order) (c : Course) (i : ℕ) (s : State) (b t k d : List ℕ) → ltb i (c .room) ≡ v → Seated c i (suc n) s →
+ask-by : (v : Bool) (n : ℕ) (pace : Pace) (order : Order) (c : Course) (i : ℕ) (s : State) (b t k d : List ℕ) → ltb i (c .room) ≡ v → Seated c i (suc n) s →
     locatedIn s ≡ pick v (goodOn c i) (pastRoom c) →
-    rest (machine (askTested (testedOf (pick v (goodOn c i) (pastRoom c))) (suc n) order s) b t k) d ≡ writeSectors c i (suc n) (plainIn s b t k) d
+    rest (machine (askTested (testedOf (pick v (goodOn c i) (pastRoom c))) (suc n) pace order s) b t k) d ≡ writeSectors c i (suc n) (plainIn s b t k) d
 unfolding restAt doneOut
-ask-by true n order c i s b t k d e q w =
+ask-by true n pace order c i s b t k d e q w =
     let h = ltb-true i (c .room) e in
     rw (w, q .2, stored-status (unwritable (getD k i 0)) (suc n) i c (plainIn s b t k) (take 512 d) (drop 512 d) dataStatus, write-sound n c i (plainIn s b t k) d h)
-ask-by false n order c i s b t k d e q w = unfold writeSectors sweepFrom tests in rw e (past-rest (c .lba) n order c i s b t k d q)
+ask-by false n pace order c i s b t k d e q w = unfold writeSectors sweepFrom tests in rw e (past-rest (c .lba) n pace order c i s b t k d q)
 
 -- a sector is asked for
-pub ask-rest : (n : ℕ) (order : Order) (c : Course) (i : ℕ) (s : State) (b t k d : List ℕ) → Seated c i (suc n) s → Where c i s →
-    rest (machine (askSector (suc n) order s) b t k) d ≡ writeSectors c i (suc n) (plainIn s b t k) d
+pub ask-rest : (n : ℕ) (pace : Pace) (order : Order) (c : Course) (i : ℕ) (s : State) (b t k d : List ℕ) → Seated c i (suc n) s → Where c i s →
+    rest (machine (askSector (suc n) pace order s) b t k) d ≡ writeSectors c i (suc n) (plainIn s b t k) d
 unfolding askSector addressTest
-ask-rest n order c i s b t k d q w =
-    subst (λ (l : Located). rest (machine (askTested (testedOf l) (suc n) order s) b t k) d ≡ writeSectors c i (suc n) (plainIn s b t k) d) (sym w)
-    (ask-by _ n order c i s b t k d refl q w)
+ask-rest n pace order c i s b t k d q w =
+    subst (λ (l : Located). rest (machine (askTested (testedOf l) (suc n) pace order s) b t k) d ≡ writeSectors c i (suc n) (plainIn s b t k) d) (sym w)
+    (ask-by _ n pace order c i s b t k d refl q w)
 
 -- sector i is stored
-asked-rest : (n : ℕ) (c : Course) (i : ℕ) (s : State) (b t k d : List ℕ) → Shaped (s .made) (s .current) → Seated c i (suc n) s → locatedIn s ≡ goodOn c i →
-    rest (machine (nextAsked n s) b t k) d ≡ writeSectors c (i + 1) n (plainIn s b t k) d
+asked-rest : (n : ℕ) (pace : Pace) (c : Course) (i : ℕ) (s : State) (b t k d : List ℕ) → Shaped (s .made) (s .current) → Seated c i (suc n) s → locatedIn s ≡ goodOn c i →
+    rest (machine (nextAsked n pace s) b t k) d ≡ writeSectors c (i + 1) n (plainIn s b t k) d
 unfolding nextAsked
-asked-rest zero c i s b t k d h q e = unfold sectorDone restAt writeSectors sweepFrom firstSectors lastSectors replaced cleared in rw (seated-last c i 1 s q, bad-none (s .bad) (i + 1) k)
-asked-rest (suc n) c i s b t k d h q e =
+asked-rest zero pace c i s b t k d h q e = unfold sectorDone restAt writeSectors sweepFrom firstSectors lastSectors replaced cleared in rw (seated-last c i 1 s q, bad-none (s .bad) (i + 1) k)
+asked-rest (suc n) pace c i s b t k d h q e =
     let z = seat-next c (suc n) i s h e (q .2) in
-    rw (done-on n s, ne-eqb (suc n) 0 (omega arith)) (ask-rest n Later c (i + 1) (onward (suc n) s) b t k d (z .0) (z .1) ∙ (unfold writeSectors in refl))
+    rw (done-on n s, ne-eqb (suc n) 0 (omega arith)) (ask-rest n pace Later c (i + 1) (onward (suc n) s) b t k d (z .0) (z .1) ∙ (unfold writeSectors in refl))
 
 -- its mark first
-pub marked-rest : (u v : Bool) (n : ℕ) (c : Course) (i : ℕ) (m : Machine) (d : List ℕ) → v ≡ not u → i < totalOf (m .state .made .default) → Shaped (m .state .made) (m .state .current) →
+pub marked-rest : (u v : Bool) (n : ℕ) (pace : Pace) (c : Course) (i : ℕ) (m : Machine) (d : List ℕ) → v ≡ not u → i < totalOf (m .state .made .default) → Shaped (m .state .made) (m .state .current) →
     LentFor (totalOf (m .state .made .default)) (m .store) (m .marks) → Seated c i (suc n) (m .state) → locatedIn (m .state) ≡ goodOn c i →
-    rest (writtenBy (storedBy (pick u (Passes (spotOn c i)) (Fails End.WriteFault)) (m .buffer) (storeMarksIn m)) n m) d
+    rest (writtenBy (storedBy (pick u (Passes (spotOn c i)) (Fails End.WriteFault)) (m .buffer) (storeMarksIn m)) n pace m) d
     ≡ storedThen v (suc n) i c (plainOf m) (m .buffer) d
 unfolding storedThen
-marked-rest true true n c i m d e h g l q w = absurd (true≢false e)
-marked-rest true false n c i m d e h g l q w =
+marked-rest true true n pace c i m d e h g l q w = absurd (true≢false e)
+marked-rest true false n pace c i m d e h g l q w =
     let b = m .state .bad - badAt i (m .marks) in
     rw (stored-is (totalOf (m .state .made .default)) i (m .state .bad) (m .store) (m .marks) (m .buffer) h l, sub-one (suc n))
-    (asked-rest n c i (withBad b (m .state)) (m .buffer) (putSector i (m .buffer) (m .store)) (set (m .marks) i 0) d g q w)
-marked-rest false true n c i m d e h g l q w = unfold restAt in rw (stops-ends End.WriteFault refl c (suc n) i (m .state) (m .buffer) (m .store) (m .marks) q)
-marked-rest false false n c i m d e h g l q w = absurd (false≢true e)
+    (asked-rest n pace c i (withBad b (m .state)) (m .buffer) (putSector i (m .buffer) (m .store)) (set (m .marks) i 0) d g q w)
+marked-rest false true n pace c i m d e h g l q w = unfold restAt in rw (stops-ends End.WriteFault refl c (suc n) i (m .state) (m .buffer) (m .store) (m .marks) q)
+marked-rest false false n pace c i m d e h g l q w = absurd (false≢true e)

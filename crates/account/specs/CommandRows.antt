@@ -19,6 +19,9 @@ pub data CommandRow : Type 0 where
   Recalibrates : CommandRow
   Seeks : CommandRow
   Senses : CommandRow
+  SetsMultiple : CommandRow
+  ReadsMultiple : CommandRow
+  WritesMultiple : CommandRow
   Others : CommandRow
 
 -- a row's first code and its last
@@ -30,7 +33,8 @@ pub record Codes : Type 0 where
 abbrev pub codes : ℕ → ℕ → CommandRow → Codes
 codes first last row = record { first = first; last = last; row = row }
 
--- "20H 21H", "30H 31H", "40H 41H", "C0H", "ECH", "E4H E8H", "91H", "90H", "1XH", "7XH", "03H"
+-- "20H 21H", "30H 31H", "40H 41H", "C0H", "ECH", "E4H E8H", "91H", "90H", "1XH", "7XH", "03H"; 02, "One": "Set Multiple (C6H), Read Multiple (C4H) and
+-- Write Multiple (C5H)"
 unfoldable pub rows : List Codes
 rows =
     codes 0x20 0x21 Reads
@@ -45,6 +49,9 @@ rows =
     ∷ codes 0x10 0x1F Recalibrates
     ∷ codes 0x70 0x7F Seeks
     ∷ codes 0x03 0x03 Senses
+    ∷ codes 0xC6 0xC6 SetsMultiple
+    ∷ codes 0xC4 0xC4 ReadsMultiple
+    ∷ codes 0xC5 0xC5 WritesMultiple
     ∷ []
 
 abbrev pub has : Codes → ℕ → Bool

@@ -17,7 +17,7 @@ use Rattle.kept.specs.Sound.{Sound}
 use Rattle.account.specs.Numbers.{statusIdle}
 use Rattle.account.specs.Plain.{Plain, bytesPerSector}
 use Rattle.account.specs.Addressed.{Addressed, At, Bad}
-use Rattle.account.specs.CommandRows.{CommandRow, Reads, Writes, Verifies, Erases, Identifies, ReadsBuffer, WritesBuffer, SetsGeometry, Diagnoses, Recalibrates, Seeks, Senses, Others, rowOf}
+use Rattle.account.specs.CommandRows.{CommandRow, Reads, Writes, Verifies, Erases, Identifies, ReadsBuffer, WritesBuffer, SetsGeometry, Diagnoses, Recalibrates, Seeks, Senses, SetsMultiple, ReadsMultiple, WritesMultiple, Others, rowOf}
 use Rattle.account.specs.Host.{Hosted, hostedBy, hosted}
 use Rattle.account.specs.Notes.{noNotes, wayOf}
 use Rattle.account.specs.Claim.{Typed}
@@ -59,6 +59,9 @@ dataless Diagnoses = true
 dataless Recalibrates = true
 dataless Seeks = true
 dataless Senses = true
+dataless SetsMultiple = true
+dataless ReadsMultiple = false
+dataless WritesMultiple = false
 dataless Others = true
 
 -- as long, and the same below one place and from another one on

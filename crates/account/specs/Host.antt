@@ -25,6 +25,7 @@ plainIn s buffer store marks = record {
   registers = s .registers;
   code = s .code;
   bad = s .bad;
+  block = s .block;
   buffer = buffer;
   store = store;
   marks = marks;

@@ -7,7 +7,7 @@ use Rattle.transfers.specs.declared.Way.{Way}
 use Rattle.transfers.specs.declared.Way.the-variants.{In, Out}
 use Rattle.card.specs.declared.Meaning.{Meaning}
 use Rattle.card.specs.declared.Meaning.the-variants.{TupleByte, ReadOption, WriteOption, ReadRegister, WriteRegister, ReadData, WriteData}
-use Rattle.account.specs.CommandRows.{CommandRow, Reads, Writes, Verifies, Erases, Identifies, ReadsBuffer, WritesBuffer, SetsGeometry, Diagnoses, Recalibrates, Seeks, Senses, Others}
+use Rattle.account.specs.CommandRows.{CommandRow, Reads, Writes, Verifies, Erases, Identifies, ReadsBuffer, WritesBuffer, SetsGeometry, Diagnoses, Recalibrates, Seeks, Senses, SetsMultiple, ReadsMultiple, WritesMultiple, Others}
 
 -- of the word at hand: nothing yet, its low byte, or its high byte
 pub data Waiting : Type 0 where
@@ -84,4 +84,7 @@ wayOf Diagnoses = In
 wayOf Recalibrates = In
 wayOf Seeks = In
 wayOf Senses = In
+wayOf SetsMultiple = In
+wayOf ReadsMultiple = In
+wayOf WritesMultiple = Out
 wayOf Others = In

@@ -1,4 +1,4 @@
--- The numbers of Status, of Error and of the codes, from 01 alone: the account shares none with the card.
+-- The numbers of Status, of Error and of the codes, from 01 and 02 alone: the account shares none with the card.
 use Prim.Native.Nat.{ℕ}
 
 -- Status: "Idle 50H, data 58H, error 51H, write fault 71H"
@@ -35,7 +35,7 @@ codeUnreadable = 0x11
 abbrev pub codeWriteFault : ℕ
 codeWriteFault = 0x03
 
--- 91H: "if S is 0 or H·S>N: ABRT, 21H"; others: "ABRT, 20H"
+-- 91H: "if S is 0 or H·S>N: ABRT, 21H"; others: "ABRT, 20H"; 02, "One": "ABRT with 20H"
 abbrev pub codeGeometry : ℕ
 codeGeometry = 0x21
 

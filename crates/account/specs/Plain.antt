@@ -1,4 +1,4 @@
--- What a command works on and leaves: the card's registers, geometries, mode, code, number of bad sectors and buffer, the store and the marks; and
+-- What a command works on and leaves: the card's registers, geometries, mode, code, number of bad sectors, block and buffer, the store and the marks; and
 -- how a command ends.
 use Prim.Native.Nat.{ℕ, _*_}
 use mathlib.Core.List.{List, [], _++_}
@@ -15,6 +15,8 @@ pub record Plain : Type 0 where
   pub code : ℕ
   -- 02, "Eight": the number of marks that are not 0, as the card keeps it
   pub bad : ℕ
+  -- 02, "One": how many sectors a block has, or 0 for none
+  pub block : ℕ
   pub buffer : List ℕ
   pub store : List ℕ
   pub marks : List ℕ
@@ -30,20 +32,23 @@ sectorsOf g = g .cylinders * g .heads * g .sectors
 -- ---- changes
 
 abbrev pub withRegisters : Registers → Plain → Plain
-withRegisters r p = record { made = p .made; current = p .current; registers = r; code = p .code; bad = p .bad; buffer = p .buffer; store = p .store; marks = p .marks }
+withRegisters r p = record { made = p .made; current = p .current; registers = r; code = p .code; bad = p .bad; block = p .block; buffer = p .buffer; store = p .store; marks = p .marks }
 
 abbrev pub withCode : ℕ → Plain → Plain
-withCode n p = record { made = p .made; current = p .current; registers = p .registers; code = n; bad = p .bad; buffer = p .buffer; store = p .store; marks = p .marks }
+withCode n p = record { made = p .made; current = p .current; registers = p .registers; code = n; bad = p .bad; block = p .block; buffer = p .buffer; store = p .store; marks = p .marks }
 
 abbrev pub withCurrent : Geometry → Plain → Plain
-withCurrent g p = record { made = p .made; current = g; registers = p .registers; code = p .code; bad = p .bad; buffer = p .buffer; store = p .store; marks = p .marks }
+withCurrent g p = record { made = p .made; current = g; registers = p .registers; code = p .code; bad = p .bad; block = p .block; buffer = p .buffer; store = p .store; marks = p .marks }
 
 abbrev pub withBuffer : List ℕ → Plain → Plain
-withBuffer b p = record { made = p .made; current = p .current; registers = p .registers; code = p .code; bad = p .bad; buffer = b; store = p .store; marks = p .marks }
+withBuffer b p = record { made = p .made; current = p .current; registers = p .registers; code = p .code; bad = p .bad; block = p .block; buffer = b; store = p .store; marks = p .marks }
+
+abbrev pub withBlock : ℕ → Plain → Plain
+withBlock n p = record { made = p .made; current = p .current; registers = p .registers; code = p .code; bad = p .bad; block = n; buffer = p .buffer; store = p .store; marks = p .marks }
 
 -- the store, the marks, and the number of them that are not 0
 abbrev pub withStore : List ℕ → List ℕ → ℕ → Plain → Plain
-withStore s m n p = record { made = p .made; current = p .current; registers = p .registers; code = p .code; bad = n; buffer = p .buffer; store = s; marks = m }
+withStore s m n p = record { made = p .made; current = p .current; registers = p .registers; code = p .code; bad = n; block = p .block; buffer = p .buffer; store = s; marks = m }
 
 abbrev pub withStatus : ℕ → Plain → Plain
 withStatus v p = withRegisters (record { status = v; error = p .registers .error; count = p .registers .count; address = p .registers .address }) p

@@ -1,14 +1,14 @@
 -- 01, "Commands", the table: the plain account of each row. It knows the card's registers, not how they are reached.
 use Prim.Native.Nat.{ℕ, _+_, _*_, _/_, _%_}
-use mathlib.Core.Bool.{false, _||_}
+use mathlib.Core.Bool.{Bool, false, _||_}
 use mathlib.Core.List.{List}
 use lib.Dec.{ltb, eqb}
 use lib.ListN.{take}
 use Rattle.ground.specs.Choice.{pick}
 use Rattle.geometry.specs.declared.Geometry.{Geometry}
 use Rattle.account.specs.Numbers.{codeGeometry, codeOthers}
-use Rattle.account.specs.Plain.{Plain, bytesPerSector, sectorsOf, withRegisters, withCurrent, withBuffer, withError, starts, Finish, Well, NotFound, Aborted, ends, Account, silent, moving}
-use Rattle.account.specs.CommandRows.{CommandRow, Reads, Writes, Verifies, Erases, Identifies, ReadsBuffer, WritesBuffer, SetsGeometry, Diagnoses, Recalibrates, Seeks, Senses, Others}
+use Rattle.account.specs.Plain.{Plain, bytesPerSector, sectorsOf, withRegisters, withCurrent, withBlock, withBuffer, withError, starts, Finish, Well, NotFound, Aborted, ends, Account, silent, moving}
+use Rattle.account.specs.CommandRows.{CommandRow, Reads, Writes, Verifies, Erases, Identifies, ReadsBuffer, WritesBuffer, SetsGeometry, Diagnoses, Recalibrates, Seeks, Senses, SetsMultiple, ReadsMultiple, WritesMultiple, Others}
 use Rattle.account.specs.Addressed.{Addressed, At, Bad, selectsLba, badCylinder, badHead, badLba, judged, addressedBy}
 use Rattle.account.specs.Course.{courseOf}
 use Rattle.account.specs.Sweeps.{readSectors, writeSectors, wholeRun, verifySectors, eraseSectors}
@@ -69,6 +69,17 @@ seeks p =
 abbrev pub senses : Plain → Plain
 senses p = ends Well (withError (p .code) p)
 
+-- C6H: "takes a block of 1, 2, 4, 8 or 16 sectors; other counts, 0 included, give ABRT with 20H and keep the old block"
+unfoldable pub isBlock : ℕ → Bool
+isBlock n = eqb n 1 || (eqb n 2 || (eqb n 4 || (eqb n 8 || eqb n 16)))
+
+unfoldable pub setsBlock : ℕ → Plain → Plain
+setsBlock n p = pick (isBlock n) (ends Well (withBlock n p)) (ends (Aborted codeOthers) p)
+
+-- C4H, C5H: "before the first good C6H give the same"; after it "data, sectors and error places are those of 20H and 30H"
+unfoldable pub behindBlock : Plain → Account → Account
+behindBlock p run = pick (eqb (p .block) 0) (silent (ends (Aborted codeOthers) p)) run
+
 -- the account of a row: p as the card stands, and the host's data
 unfoldable pub account : CommandRow → Plain → List ℕ → Account
 account Reads p bytes = reads (starts p)
@@ -86,5 +97,8 @@ account Diagnoses p bytes = silent (diagnoses (starts p))
 account Recalibrates p bytes = silent (ends Well (starts p))
 account Seeks p bytes = silent (ends (seeks p) (starts p))
 account Senses p bytes = silent (senses p)
+account SetsMultiple p bytes = silent (setsBlock (p .registers .count) (starts p))
+account ReadsMultiple p bytes = behindBlock (starts p) (reads (starts p))
+account WritesMultiple p bytes = behindBlock (starts p) (writes (starts p) bytes)
 -- "others": "ABRT, 20H"
 account Others p bytes = silent (ends (Aborted codeOthers) (starts p))

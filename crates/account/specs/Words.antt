@@ -18,14 +18,14 @@ unfoldable pub bytesOf : List ℕ → List ℕ
 bytesOf [] = []
 bytesOf (w ∷ l) = w % 256 ∷ w / 256 ∷ bytesOf l
 
--- words 0..9, 10..19, 20..22, 23..46, 47..53, 54..61, 62..128, 129 (02, "Eight"), 130..254
+-- words 0..9, 10..19, 20..22, 23..46, 47..53 (02, "One": "word 47 becomes 0010H"), 54..61, 62..128, 129 (02, "Eight"), 130..254
 unfoldable pub toldWords : Plain → List ℕ
 toldWords p =
     (0x848A ∷ p .made .default .cylinders ∷ 0 ∷ p .made .default .heads ∷ 0 ∷ 0 ∷ p .made .default .sectors ∷ high (sectorsOf (p .made .default)) ∷ low (sectorsOf (p .made .default)) ∷ 0 ∷ [])
     ++ (replicate 10 0x2020
     ++ (replicate 3 0
     ++ (replicate 24 0x2020
-    ++ ((0 ∷ 0 ∷ 0x0200 ∷ 0 ∷ 0 ∷ 0 ∷ 1 ∷ [])
+    ++ ((0x0010 ∷ 0 ∷ 0x0200 ∷ 0 ∷ 0 ∷ 0 ∷ 1 ∷ [])
     ++ ((p .current .cylinders ∷ p .current .heads ∷ p .current .sectors ∷ low (sectorsOf (p .current)) ∷ high (sectorsOf (p .current)) ∷ 0
     ∷ low (sectorsOf (p .made .default)) ∷ high (sectorsOf (p .made .default)) ∷ [])
     ++ (replicate 67 0

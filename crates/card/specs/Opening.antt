@@ -40,6 +40,7 @@ zeroState = record {
   interrupt = false;
   code = 0;
   bad = 0;
+  block = 0;
 }
 
 abbrev pub zeroCard : Card

@@ -62,6 +62,7 @@ fn zero_state() -> State
         interrupt: false,
         code: 0,
         bad: 0,
+        block: 0,
     }
 }
 

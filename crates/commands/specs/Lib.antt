@@ -1,3 +1,4 @@
 pub mod Opcodes
 pub mod Sweeps
+pub mod Blocks
 pub mod Table

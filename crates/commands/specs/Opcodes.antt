@@ -6,7 +6,7 @@ use lib.ListN.{getD}
 use Rattle.ground.specs.Lists.{listed}
 use Rattle.ground.specs.Tables.{Numbered, At, lookup}
 use Rattle.commands.specs.declared.Command.{Command}
-use Rattle.commands.specs.declared.Command.the-variants.{Read, Write, Verify, Erase, Identify, ReadBuffer, WriteBuffer, SetGeometry, Diagnose, Recalibrate, Seek, Sense, Other}
+use Rattle.commands.specs.declared.Command.the-variants.{Read, Write, Verify, Erase, Identify, ReadBuffer, WriteBuffer, SetGeometry, Diagnose, Recalibrate, Seek, Sense, SetMultiple, ReadMultiple, WriteMultiple, Other}
 use Rattle.commands.specs.Table.{commandOf}
 
 -- the class of each command; that of "others" is 0
@@ -24,6 +24,9 @@ classTable =
     ∷ At 10 Recalibrate
     ∷ At 11 Seek
     ∷ At 12 Sense
+    ∷ At 13 SetMultiple
+    ∷ At 14 ReadMultiple
+    ∷ At 15 WriteMultiple
     ∷ []
 
 -- which command a class means; any other number means "others"

@@ -18,15 +18,17 @@ use Rattle.registers.specs.declared.Load.the-variants.{Buffer}
 use Rattle.registers.specs.declared.State.{State}
 use Rattle.registers.specs.declared.Core.{Core}
 use Rattle.registers.specs.Status.{powerOnError}
+use Rattle.registers.specs.Blocks.{single}
 use Rattle.registers.specs.State.{withInterrupt, withError, withCode, withCount, withAddress, withCurrent, totalIn}
 use Rattle.registers.specs.Machine.{Machine, machine, withCore}
 use Rattle.transfers.specs.declared.End.{End}
 use Rattle.transfers.specs.declared.Order.the-variants.{First}
 use Rattle.commands.specs.declared.Command.{Command}
-use Rattle.commands.specs.declared.Command.the-variants.{Read, Write, Verify, Erase, Identify, ReadBuffer, WriteBuffer, SetGeometry, Diagnose, Recalibrate, Seek, Sense, Other}
+use Rattle.commands.specs.declared.Command.the-variants.{Read, Write, Verify, Erase, Identify, ReadBuffer, WriteBuffer, SetGeometry, Diagnose, Recalibrate, Seek, Sense, SetMultiple, ReadMultiple, WriteMultiple, Other}
 use Rattle.transfers.specs.Ends.{ended}
 use Rattle.transfers.specs.Steps.{idleWith, ready, askedFor, readSector, askSector}
 use Rattle.commands.specs.Sweeps.{verifyRun, eraseRun}
+use Rattle.commands.specs.Blocks.{blockSet, blocksRead, blocksAsked}
 
 -- the table's opcodes, row by row
 abbrev pub commandTable : List (Numbered Command)
@@ -46,6 +48,10 @@ commandTable =
     ∷ Digit 1 Recalibrate
     ∷ Digit 7 Seek
     ∷ At 0x03 Sense
+    -- 02, "One": "01's command table is amended for these three codes"
+    ∷ At 0xC6 SetMultiple
+    ∷ At 0xC4 ReadMultiple
+    ∷ At 0xC5 WriteMultiple
     ∷ []
 
 -- the row of an opcode; "others" are all that the table does not name
@@ -95,9 +101,9 @@ withErased e m = machine (e .outcome) (m .buffer) (e .next .store) (e .next .mar
 -- what a command does; s is the state with Error and code 0. "Commands that move no sectors leave these registers, but for 90H."
 abbrev pub obeyed : Command → State → Machine → Machine
 -- 20H 21H: read sectors
-obeyed Read s m = readSector (countOf s) (idleWith s m)
+obeyed Read s m = readSector (countOf s) single (idleWith s m)
 -- 30H 31H: write
-obeyed Write s m = withCore (askSector (countOf s) First s) m
+obeyed Write s m = withCore (askSector (countOf s) single First s) m
 -- 40H 41H: as read, no data; none of a run past the end
 obeyed Verify s m = withCore (verifyRun (countOf s) s (m .marks)) m
 -- C0H: as write, storing FFH, no data; none of a run past the end
@@ -117,6 +123,10 @@ obeyed Recalibrate s m = withCore (ended End.Good s) m
 obeyed Seek s m = withCore (seekEnded s) m
 -- 03H: Error := last code, which stays
 obeyed Sense s m = withCore (senseEnded (m .state)) m
+-- C6H, C4H, C5H
+obeyed SetMultiple s m = withCore (blockSet s) m
+obeyed ReadMultiple s m = blocksRead (countOf s) (idleWith s m)
+obeyed WriteMultiple s m = withCore (blocksAsked (countOf s) s) m
 -- others: ABRT, 20H
 obeyed Other s m = withCore (ended End.NoSuchCommand s) m
 

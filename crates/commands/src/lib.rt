@@ -1,4 +1,5 @@
-// Which command each opcode is, the command table, and the commands that run over sectors with no data moved.
+// Which command each opcode is, the command table, the commands of blocks, and the commands that run over sectors with no data moved.
+pub mod blocks;
 mod opcodes;
 pub mod sweeps;
 pub mod table;
@@ -29,6 +30,12 @@ pub enum Command {
     Seek,
     // 03H
     Sense,
+    // C6H
+    SetMultiple,
+    // C4H
+    ReadMultiple,
+    // C5H
+    WriteMultiple,
     // all others
     Other,
 }

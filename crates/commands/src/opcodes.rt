@@ -46,6 +46,15 @@ const K: u8 = 11;
 // Request Sense: reQuest
 const Q: u8 = 12;
 
+// Set Multiple: Multiple
+const M: u8 = 13;
+
+// Read Multiple: reAd
+const A: u8 = 14;
+
+// Write Multiple: writE
+const E: u8 = 15;
+
 // The opcode table: the class of each opcode. An opcode's first digit names the row, its second the place in the row.
 //   0  1  2  3  4  5  6  7  8  9  A  B  C  D  E  F
 const OPCODE_TABLE: [[u8; 16]; 16] = [
@@ -61,7 +70,7 @@ const OPCODE_TABLE: [[u8; 16]; 16] = [
     [T, Z, o, o, o, o, o, o, o, o, o, o, o, o, o, o], // 9XH
     [o, o, o, o, o, o, o, o, o, o, o, o, o, o, o, o], // AXH
     [o, o, o, o, o, o, o, o, o, o, o, o, o, o, o, o], // BXH
-    [U, o, o, o, o, o, o, o, o, o, o, o, o, o, o, o], // CXH
+    [U, o, o, o, A, E, M, o, o, o, o, o, o, o, o, o], // CXH
     [o, o, o, o, o, o, o, o, o, o, o, o, o, o, o, o], // DXH
     [o, o, o, o, G, o, o, o, P, o, o, o, I, o, o, o], // EXH
     [o, o, o, o, o, o, o, o, o, o, o, o, o, o, o, o], // FXH
@@ -91,6 +100,9 @@ fn command_of_class(class: u8) -> Command
         L => Command::Recalibrate,
         K => Command::Seek,
         Q => Command::Sense,
+        M => Command::SetMultiple,
+        A => Command::ReadMultiple,
+        E => Command::WriteMultiple,
         _ => Command::Other,
     }
 }

@@ -13,7 +13,9 @@ use transfers::Order;
 ghost use mathlib.Core.Path.{_≡_};
 ghost use Rattle.identify.specs.Words.{identifyBytes};
 ghost use Rattle.registers.specs.Machine.{machine};
-ghost use Rattle.transfers.specs.Steps.{idle};
+ghost use Rattle.registers.specs.Blocks.{single};
+ghost use Rattle.transfers.specs.declared.Order.the-variants.{First};
+ghost use Rattle.transfers.specs.Steps.{idle, readSector, askSector};
 ghost use Rattle.commands.specs.Table.{started, countOf, factsOf, geometryEnded, diagnosed, soughtEnd, seekEnded, senseEnded, obeyed, commandGiven};
 
 // 01: every command but 03H starts with Error and code 0.
@@ -118,6 +120,22 @@ fn sense(state: State) -> Core
     transfers::ends::ended(s, End::Good)
 }
 
+// 20H 21H: read sectors.
+fn read(state: State, buffer: &mut Sector, store: &[u8], marks: &[u8]) -> Core
+    ensures { λ r. ⌜ machine r (now (buffer .exit)) (now (store .entry)) (now (marks .entry)) ≡ readSector (countOf state) single (idle state (now (buffer .entry)) (now (store .entry)) (now (marks .entry))) ⌝ }
+{
+    let pace = registers::blocks::pace_from(registers::blocks::SINGLE);
+    transfers::steps::read_sector(state, count_of(state), pace, buffer, store, marks)
+}
+
+// 30H 31H: write.
+fn ask(state: State) -> Core
+    ensures { λ r. ⌜ r ≡ askSector (countOf state) single First state ⌝ }
+{
+    let pace = registers::blocks::pace_from(registers::blocks::SINGLE);
+    transfers::steps::ask_sector(state, count_of(state), pace, Order::First)
+}
+
 // What a command does.
 fn obey(
     state: State,
@@ -130,14 +148,8 @@ fn obey(
 {
     let fresh = started(state);
     match command {
-        Command::Read => transfers::steps::read_sector(
-            fresh,
-            count_of(fresh),
-            buffer,
-            store,
-            marks,
-        ),
-        Command::Write => transfers::steps::ask_sector(fresh, count_of(fresh), Order::First),
+        Command::Read => read(fresh, buffer, store, marks),
+        Command::Write => ask(fresh),
         Command::Verify => super::sweeps::verify_run(fresh, count_of(fresh), marks),
         Command::Erase => super::sweeps::erase_run(fresh, count_of(fresh), store, marks),
         Command::Identify => {
@@ -151,6 +163,15 @@ fn obey(
         Command::Recalibrate => transfers::ends::ended(fresh, End::Good),
         Command::Seek => seek(fresh),
         Command::Sense => sense(state),
+        Command::SetMultiple => super::blocks::set_block(fresh),
+        Command::ReadMultiple => super::blocks::read_blocks(
+            fresh,
+            count_of(fresh),
+            buffer,
+            store,
+            marks,
+        ),
+        Command::WriteMultiple => super::blocks::ask_blocks(fresh, count_of(fresh)),
         Command::Other => transfers::ends::ended(fresh, End::NoSuchCommand),
     }
 }

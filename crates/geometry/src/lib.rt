@@ -13,8 +13,8 @@ pub const BAD_GEOMETRY_CODE: u8 = 0x21;
 
 pub struct Geometry {
     pub cylinders: u16,
-    pub heads: u16,
     pub sectors: u16,
+    pub heads: u16,
 }
 
 // The address registers: Sector Number, Cylinder Low, Cylinder High, Drive/Head.

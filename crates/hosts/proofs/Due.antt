@@ -7,14 +7,16 @@ use native.Mathlib.Omega.{arith}
 use lib.Dec.{eqb}
 use lib.ListN.{length, take, drop, length-append, length-replicate, length-drop}
 use lib.Seq.{length-take-le}
+use Rattle.ground.proofs.Picks.{test-elim}
 use Rattle.ground.specs.Choice.{pick}
-use Rattle.account.specs.Plain.{Plain, starts, Finish, Well, NotFound, Unreadable, WriteFault, Aborted, silent}
+use Rattle.account.specs.Numbers.{codeOthers}
+use Rattle.account.specs.Plain.{Plain, starts, Finish, Well, NotFound, Unreadable, WriteFault, Aborted, silent, ends}
 use Rattle.account.specs.Addressed.{Addressed, At, Bad}
-use Rattle.account.specs.CommandRows.{CommandRow, Reads, Writes, Verifies, Erases, Identifies, ReadsBuffer, WritesBuffer, SetsGeometry, Diagnoses, Recalibrates, Seeks, Senses, Others}
+use Rattle.account.specs.CommandRows.{CommandRow, Reads, Writes, Verifies, Erases, Identifies, ReadsBuffer, WritesBuffer, SetsGeometry, Diagnoses, Recalibrates, Seeks, Senses, SetsMultiple, ReadsMultiple, WritesMultiple, Others}
 use Rattle.account.specs.Course.{courseOf}
 use Rattle.account.specs.Sweeps.{Sweep, tried, sweepFrom, tests, unwritable, writeSweep, movedBy, writeSectors}
 use Rattle.account.specs.WholeSectors.{firstSectors}
-use Rattle.account.specs.Table.{asked, first, fromFirst, account}
+use Rattle.account.specs.Table.{asked, first, fromFirst, account, behindBlock, writes}
 use Rattle.hosts.specs.Live.{plenty, due}
 
 pub plenty-length : length plenty ≡ 512 * 256
@@ -68,13 +70,16 @@ written-same (At i) n p d e x y =
     sectors-length k d (omega arith) ∙ sym (sectors-length k e (omega arith))
 written-same (Bad code) n p d e x y = refl
 
-pub due-any : (row : CommandRow) (p : Plain) (d : List ℕ) → p .registers .count < 256 → 512 * 256 ≤ length d → length (account row p d .moved) ≡ due row p
-unfolding account due
-due-any Reads p d c h = refl
-due-any Writes p d c h =
+writes-due : (p : Plain) (d : List ℕ) → p .registers .count < 256 → 512 * 256 ≤ length d → length (writes (starts p) d .moved) ≡ length (writes (starts p) plenty .moved)
+writes-due p d c h =
     let n = asked-most (p .registers .count) c in
     let z = plenty-length in
     written-same (first (starts p)) (asked (p .registers .count)) (starts p) d plenty (omega arith) (omega arith)
+
+pub due-any : (row : CommandRow) (p : Plain) (d : List ℕ) → p .registers .count < 256 → 512 * 256 ≤ length d → length (account row p d .moved) ≡ due row p
+unfolding account behindBlock due
+due-any Reads p d c h = refl
+due-any Writes p d c h = writes-due p d c h
 due-any Verifies p d c h = refl
 due-any Erases p d c h = refl
 due-any Identifies p d c h = refl
@@ -89,4 +94,9 @@ due-any Diagnoses p d c h = refl
 due-any Recalibrates p d c h = refl
 due-any Seeks p d c h = refl
 due-any Senses p d c h = refl
+due-any SetsMultiple p d c h = refl
+due-any ReadsMultiple p d c h = refl
+due-any WritesMultiple p d c h =
+    test-elim (λ (v : Bool). length (pick v (silent (ends (Aborted codeOthers) (starts p))) (writes (starts p) d) .moved) ≡ length (pick v (silent (ends (Aborted codeOthers) (starts p))) (writes (starts p) plenty) .moved))
+    (eqb (p .block) 0) (λ e. refl) (λ e. writes-due p d c h)
 due-any Others p d c h = refl

@@ -5,17 +5,18 @@ use mathlib.Core.Bool.{false, true≢false}
 use mathlib.Core.Path.{_≡_, refl, ap, _∙_}
 use mathlib.Core.List.{List}
 use native.Mathlib.Omega.{arith}
+use lib.Dec.{eqb}
 use lib.ListN.{length}
 use Rattle.registers.specs.Machine.{Machine}
 use Rattle.card.specs.declared.Meaning.{Meaning}
 use Rattle.card.specs.Access.{Asked}
 use Rattle.card.specs.Step.{step}
 use Rattle.kept.specs.Lent.{storeMarksIn}
-use Rattle.sectors.specs.Sectors.{storeMarks}
+use Rattle.sectors.specs.Sectors.{storeMarks, StoreMarks}
 use Rattle.account.proofs.Stored.{bad-none}
 use Rattle.account.specs.Plain.{Plain}
 use Rattle.account.specs.Addressed.{Addressed, At, Bad}
-use Rattle.account.specs.CommandRows.{CommandRow, Reads, Writes, Verifies, Erases, Identifies, ReadsBuffer, WritesBuffer, SetsGeometry, Diagnoses, Recalibrates, Seeks, Senses, Others, rowOf}
+use Rattle.account.specs.CommandRows.{CommandRow, Reads, Writes, Verifies, Erases, Identifies, ReadsBuffer, WritesBuffer, SetsGeometry, Diagnoses, Recalibrates, Seeks, Senses, SetsMultiple, ReadsMultiple, WritesMultiple, Others, rowOf}
 use Rattle.account.specs.Course.{courseOf}
 use Rattle.account.specs.Sweeps.{writeSweep}
 use Rattle.account.specs.WholeSectors.{replaced, cleared}
@@ -24,6 +25,7 @@ use Rattle.account.specs.Host.{plainOf}
 use Rattle.account.specs.Follows.{Able, commanded, afterBy, AcceptedCommand, after, dataless}
 use Rattle.hosts.specs.Moment.{CalmBy, Calm, storeMarksOf, wholeOf, storedOf, storedFrom, writtenSoFar, soFar}
 use Rattle.hosts.proofs.Moment.{means-at-every-moment, at-every-moment}
+use Rattle.ground.proofs.Picks.{pick-elim}
 
 none-yet : (l : Addressed) (p : Plain) (d : List ℕ) → length d < 512 → writtenSoFar l p d ≡ storeMarksOf p
 unfolding writtenSoFar replaced cleared
@@ -48,6 +50,9 @@ row-none-yet Diagnoses p d e h = refl
 row-none-yet Recalibrates p d e h = refl
 row-none-yet Seeks p d e h = refl
 row-none-yet Senses p d e h = refl
+row-none-yet SetsMultiple p d e h = refl
+row-none-yet ReadsMultiple p d e h = refl
+row-none-yet WritesMultiple p d e h = pick-elim (λ (x : StoreMarks). x ≡ storeMarksOf p) (eqb (p .block) 0) _ _ (λ b. refl) (λ b. none-yet (first p) p d h)
 row-none-yet Others p d e h = refl
 
 -- Nothing is stored on the Command write of a command with data, nor before the last byte of its first sector.

@@ -10,8 +10,8 @@ use Rattle.transfers.specs.declared.Way.the-variants.{In}
 use Rattle.card.specs.Access.{Asked}
 use Rattle.card.specs.Step.{step}
 use Rattle.account.specs.Plain.{Plain, Account}
-use Rattle.account.specs.CommandRows.{CommandRow, Reads, Writes, Verifies, Erases, Identifies, ReadsBuffer, WritesBuffer, SetsGeometry, Diagnoses, Recalibrates, Seeks, Senses, Others, rowOf}
-use Rattle.account.specs.Table.{account}
+use Rattle.account.specs.CommandRows.{CommandRow, Reads, Writes, Verifies, Erases, Identifies, ReadsBuffer, WritesBuffer, SetsGeometry, Diagnoses, Recalibrates, Seeks, Senses, SetsMultiple, ReadsMultiple, WritesMultiple, Others, rowOf}
+use Rattle.account.specs.Table.{account, behindBlock}
 use Rattle.account.specs.Host.{plainOf, Hosted, Moves}
 use Rattle.account.specs.Notes.{wayOf}
 use Rattle.account.specs.Claim.{Agrees}
@@ -34,7 +34,7 @@ moves-due m a v l w x = due-agrees (rowOf v) (plainOf m) (after m a v l) (w .typ
 
 -- reading takes no data
 reads-alone : (row : CommandRow) (p : Plain) (d : List ℕ) → wayOf row ≡ In → account row p d .moved ≡ account row p [] .moved
-unfolding account
+unfolding account behindBlock
 reads-alone Reads p d e = refl
 reads-alone Writes p d e = absurd (true≢false (ap writes e))
 reads-alone Verifies p d e = refl
@@ -47,6 +47,9 @@ reads-alone Diagnoses p d e = refl
 reads-alone Recalibrates p d e = refl
 reads-alone Seeks p d e = refl
 reads-alone Senses p d e = refl
+reads-alone SetsMultiple p d e = refl
+reads-alone ReadsMultiple p d e = refl
+reads-alone WritesMultiple p d e = absurd (true≢false (ap writes e))
 reads-alone Others p d e = refl
 
 -- A host that reads has been given the account's data.

@@ -5,6 +5,7 @@ use mathlib.Core.Path.{_≡_, refl}
 use mathlib.Core.List.{List, [], _∷_, _++_}
 use lib.ListN.{getD, replicate}
 use Rattle.geometry.specs.declared.Geometry.{Geometry}
+use Rattle.registers.specs.Blocks.{blockSize, placeAfter}
 use Rattle.registers.specs.Machine.{Machine}
 use Rattle.card.specs.Doors.{machineOf}
 use Rattle.ground.specs.Choice.{every}
@@ -17,7 +18,7 @@ use Rattle.maps.specs.Places.{registerPlace, attributePlace, mapPlace, placeAt}
 use Rattle.maps.specs.Rows.{misfits, aboveThree}
 use Rattle.sectors.specs.Marks.{readable, writable, marksFit, badIn, lowered}
 use Rattle.sectors.specs.Sectors.{sectorOf, withSector, bufferRead, stored}
-use Rattle.registers.specs.WellMade.{indexFits, sresetFits, atRest, statusFits, inReset, holdFits, wordsFit, sectorsFit, loadFits, runFits, badFits, wellMade}
+use Rattle.registers.specs.WellMade.{indexFits, sresetFits, atRest, statusFits, inReset, holdFits, wordsFit, sectorsFit, loadFits, runFits, badFits, wellMade, blockFits, strideFits, paceFits, loadPaceFits, runPaceFits}
 use Rattle.registers.specs.Resets.{turnOf, optionTurned, bufferTurned, controlTurned}
 use Rattle.registers.specs.Values.{valueRead, afterRead, registerSet}
 use Rattle.transfers.specs.Before.{addressTest, sectorTest, sectorStored}
@@ -60,7 +61,7 @@ unfoldable computing : Unit {0}
 unfolding every fits totalOf currentFor locate locateChs locateLba byLba roomOf nextOf nextChs
     answersAt cardAnswers placeAt mapPlace attributePlace registerPlace misfits aboveThree offsetAt memoryAt ioAt contiguousAt windowAt
     stored withSector sectorOf bufferRead readable writable marksFit badIn lowered
-    wellMade runFits loadFits sectorsFit wordsFit holdFits inReset statusFits atRest sresetFits indexFits badFits
+    wellMade runFits loadFits sectorsFit wordsFit holdFits inReset statusFits atRest sresetFits indexFits badFits blockFits blockSize strideFits paceFits loadPaceFits runPaceFits placeAfter
     valueRead afterRead registerSet turnOf optionTurned bufferTurned controlTurned zeros
     readSector nextRead askSector nextAsked sectorDone sectorTest addressTest sectorStored
     countOf commandOf commandGiven

@@ -4,6 +4,7 @@ use Prim.Native.Nat.{ℕ, min, zero, suc, _+_, _*_, _≤_}
 use mathlib.Core.Path.{_≡_, refl, sym, ap, _∙_, subst}
 use mathlib.Core.List.{List, [], _∷_, _++_, append-assoc, append-nil}
 use native.Mathlib.Omega.{arith}
+use lib.Dec.{eqb}
 use lib.ListN.{length, take, drop, length-drop, take-append-drop}
 use lib.Seq.{length-take-le, take-append-le, drop-append-seam}
 use Rattle.registers.specs.Machine.{Machine}
@@ -16,7 +17,7 @@ use Rattle.kept.specs.Lent.{storeMarksIn}
 use Rattle.sectors.specs.Sectors.{storeMarks}
 use Rattle.account.specs.Plain.{Plain}
 use Rattle.account.specs.Addressed.{Addressed, At, Bad}
-use Rattle.account.specs.CommandRows.{CommandRow, Reads, Writes, Verifies, Erases, Identifies, ReadsBuffer, WritesBuffer, SetsGeometry, Diagnoses, Recalibrates, Seeks, Senses, Others, rowOf}
+use Rattle.account.specs.CommandRows.{CommandRow, Reads, Writes, Verifies, Erases, Identifies, ReadsBuffer, WritesBuffer, SetsGeometry, Diagnoses, Recalibrates, Seeks, Senses, SetsMultiple, ReadsMultiple, WritesMultiple, Others, rowOf}
 use Rattle.account.specs.Course.{courseOf}
 use Rattle.account.specs.Sweeps.{writeSweep}
 use Rattle.account.specs.WholeSectors.{putSector, replaced}
@@ -30,6 +31,7 @@ use Rattle.account.proofs.Theorem.{by-meaning}
 use Rattle.hosts.proofs.Afterwards.{More, note-more}
 use Rattle.hosts.proofs.Reached.{hosted-more, meanings-append}
 use Rattle.hosts.proofs.Moment.{means-at-every-moment}
+use Rattle.ground.specs.Choice.{pick}
 
 -- bytes behind the sectors put do not matter
 drop-front : (l d : List ℕ) → 512 ≤ length l → drop 512 (l ++ d) ≡ drop 512 l ++ d
@@ -73,6 +75,9 @@ front-same Diagnoses p l d e = refl
 front-same Recalibrates p l d e = refl
 front-same Seeks p l d e = refl
 front-same Senses p l d e = refl
+front-same SetsMultiple p l d e = refl
+front-same ReadsMultiple p l d e = refl
+front-same WritesMultiple p l d e = ap (pick (eqb (p .block) 0) _) (front-written (first p) p l d e)
 front-same Others p l d e = refl
 
 calm-front : (l k : List Meaning) (m : Machine) → CalmBy m (l ++ k) → CalmBy m l

@@ -15,14 +15,14 @@ use Rattle.registers.specs.Machine.{Machine}
 use Rattle.transfers.specs.declared.Way.{Way}
 use Rattle.sectors.specs.Sectors.{StoreMarks}
 use Rattle.kept.specs.Lent.{storeMarksIn}
-use Rattle.account.specs.Numbers.{codeGeometry}
+use Rattle.account.specs.Numbers.{codeGeometry, codeOthers}
 use Rattle.account.specs.Plain.{Plain, withBuffer, withPlace, withCurrent, starts, Finish, Well, NotFound, Unreadable, WriteFault, Aborted, ends, Account, silent}
 use Rattle.account.specs.Addressed.{Addressed, At, Bad}
-use Rattle.account.specs.CommandRows.{CommandRow, Reads, Writes, Verifies, Erases, Identifies, ReadsBuffer, WritesBuffer, SetsGeometry, Diagnoses, Recalibrates, Seeks, Senses, Others}
+use Rattle.account.specs.CommandRows.{CommandRow, Reads, Writes, Verifies, Erases, Identifies, ReadsBuffer, WritesBuffer, SetsGeometry, Diagnoses, Recalibrates, Seeks, Senses, SetsMultiple, ReadsMultiple, WritesMultiple, Others}
 use Rattle.account.specs.Course.{Course, courseOf, named}
 use Rattle.account.specs.Sweeps.{Sweep, sweepEnds, lastNamed, readSweep, readSectors, wholeRun, verifySectors}
 use Rattle.account.specs.WholeSectors.{lastSector}
-use Rattle.account.specs.Table.{asked, total, shaped, first, fromFirst, setsGeometry, seeks, account}
+use Rattle.account.specs.Table.{asked, total, shaped, first, fromFirst, setsGeometry, seeks, account, behindBlock, setsBlock, reads, isBlock, writes}
 use Rattle.account.specs.Host.{plainOf}
 use Rattle.account.specs.Notes.{Notes}
 use Rattle.hosts.specs.Moment.{storeMarksOf, writtenSoFar, soFar}
@@ -47,12 +47,12 @@ reads-left-alone c i n p = let r = readSweep c (p .marks) i n in sweep-left-alon
 read-left-alone : (l : Load) (p : Plain) → storeMarksOf (doneIn l p .left) ≡ storeMarksOf p
 unfolding doneIn
 read-left-alone Buffer p = refl
-read-left-alone (Sectors n) p = reads-left-alone (courseOf p) (indexOf (located p) + 1) (n - 1) p
+read-left-alone (Sectors n pace) p = reads-left-alone (courseOf p) (indexOf (located p) + 1) (n - 1) p
 
 out-left-alone : (a : Load) (o p : Plain) (h w : ℕ) (b : List ℕ) (s : StoreMarks) (l c d : List ℕ) → LoadLies Nowhere a o h w b s l → storeMarksOf (doneOut a p c d .left) ≡ storeMarksOf p
 unfolding doneOut
 out-left-alone Buffer o p h w b s l c d z = refl
-out-left-alone (Sectors n) o p h w b s l c d z = absurd z
+out-left-alone (Sectors n pace) o p h w b s l c d z = absurd z
 
 rest-left-alone : (f : Phase) (o p : Plain) (h : ℕ) (b : List ℕ) (s : StoreMarks) (l d : List ℕ) → LiesAt Nowhere f o h b s l → storeMarksOf (restAt f p d .left) ≡ storeMarksOf p
 unfolding restAt
@@ -88,9 +88,21 @@ bad-left-alone (At i) p f e t = absurd (true≢false (ap somewhere t))
     somewhere (From i) = true
 bad-left-alone (Bad code) p f e t = refl
 
+reads-alone : (p : Plain) → storeMarksOf (reads p .left) ≡ storeMarksOf p
+reads-alone p = from-left-alone (first p) p _ (λ i. reads-left-alone (courseOf p) i (asked (p .registers .count)) p)
+
+block-left-alone : (n : ℕ) (p : Plain) → storeMarksOf (setsBlock n p) ≡ storeMarksOf p
+unfolding setsBlock
+block-left-alone n p = pick-elim (λ (q : Plain). storeMarksOf q ≡ storeMarksOf p) (isBlock n) _ _ (λ e. refl) (λ e. refl)
+
+multiple-left-alone : (v : Bool) (p : Plain) (d e : List ℕ) → pick v Nowhere (targetAt (first p)) ≡ Nowhere →
+    storeMarksOf (pick v (silent (ends (Aborted codeOthers) (starts p))) (writes (starts p) d) .left) ≡ pick v (storeMarksOf p) (writtenSoFar (first p) p e)
+multiple-left-alone true p d e t = refl
+multiple-left-alone false p d e t = bad-left-alone (first p) p _ e t
+
 row-left-alone : (row : CommandRow) (p : Plain) (d e : List ℕ) → targetOf row p ≡ Nowhere → storeMarksOf (account row p d .left) ≡ soFar row p e
-unfolding account soFar
-row-left-alone Reads p d e t = from-left-alone (first (starts p)) (starts p) _ (λ i. reads-left-alone (courseOf (starts p)) i (asked (p .registers .count)) (starts p))
+unfolding account behindBlock soFar
+row-left-alone Reads p d e t = reads-alone (starts p)
 row-left-alone Writes p d e t = bad-left-alone (first p) p _ e t
 row-left-alone Verifies p d e t = verify-left-alone (first (starts p)) (asked (p .registers .count)) (starts p)
 row-left-alone Erases p d e t = refl
@@ -102,6 +114,10 @@ row-left-alone Diagnoses p d e t = refl
 row-left-alone Recalibrates p d e t = refl
 row-left-alone Seeks p d e t = ends-left-alone (seeks p) (starts p)
 row-left-alone Senses p d e t = refl
+row-left-alone SetsMultiple p d e t = block-left-alone (p .registers .count) (starts p)
+row-left-alone ReadsMultiple p d e t = pick-elim (λ (a : Account). storeMarksOf (a .left) ≡ storeMarksOf p) (eqb (p .block) 0) _ _ (λ x. refl) (λ x. reads-alone (starts p))
+row-left-alone WritesMultiple p d e t =
+    multiple-left-alone (eqb (p .block) 0) p d e t
 row-left-alone Others p d e t = refl
 
 pub nowhere : (row : CommandRow) (p : Plain) (way : Way) (m : Machine) (q : Notes) (g : Target) → g ≡ Nowhere → targetOf row p ≡ g → Rel way (account row p) m q → Lies g (starts p) m (q .done) →

@@ -33,9 +33,9 @@ pub data Target : Type 0 where
 
 abbrev pub LoadLies : Target → Load → Plain → ℕ → ℕ → List ℕ → StoreMarks → List ℕ → Type 0
 LoadLies Nowhere Buffer p h w b x l = Unit {0}
-LoadLies Nowhere (Sectors n) p h w b x l = ⊥
+LoadLies Nowhere (Sectors n pace) p h w b x l = ⊥
 LoadLies (From i) Buffer p h w b x l = ⊥
-LoadLies (From i) (Sectors n) p h w b x l = Written i p h w b x l
+LoadLies (From i) (Sectors n pace) p h w b x l = Written i p h w b x l
 
 abbrev pub LiesAt : Target → Phase → Plain → ℕ → List ℕ → StoreMarks → List ℕ → Type 0
 LiesAt g Idle p h b x l = Unit {0}

@@ -49,9 +49,9 @@ module _ (g : Target) (p : Plain) where
     where
       go : (x : Target) (y : Load) → LoadLies x y p h w o q l → LoadLies x y p h w b q l
       go Nowhere Buffer u = tt
-      go Nowhere (Sectors n) u = absurd u
+      go Nowhere (Sectors n pace) u = absurd u
       go (From i) Buffer u = absurd u
-      go (From i) (Sectors n) u = record { k = u .k; size = u .size; stored = λ j d. rw e (u .stored j d); marked = u .marked; counted = u .counted }
+      go (From i) (Sectors n pace) u = record { k = u .k; size = u .size; stored = λ j d. rw e (u .stored j d); marked = u .marked; counted = u .counted }
 
   module _ (t : Transfer) (m : Machine) (l : List ℕ) (w : Waiting) (o : Ground Out m) (r : Running Out t (plainOf m) w)
       (z : LoadLies g (t .load) p (here (m .state)) (t .words) (m .buffer) (storeMarksIn m) l) where

@@ -1,10 +1,11 @@
 -- What a command has stored is what the data says that has moved.
 use native.Mathlib.Nat.{min-eq-left, min-eq-right}
 use Prim.Native.Nat.{ℕ, min, suc, _+_, _-_, _*_, _≤_, _<_}
-use mathlib.Core.Bool.{true}
+use mathlib.Core.Bool.{true, Bool, false}
 use mathlib.Core.Path.{_≡_, refl, sym, ap, _∙_, subst}
 use mathlib.Core.List.{List, [], _++_, append-nil}
 use native.Mathlib.Omega.{arith}
+use lib.Dec.{eqb}
 use lib.ListN.{length, take, drop, replicate, length-append, length-replicate}
 use lib.Seq.{length-take-le}
 use Rattle.registers.specs.declared.Load.{Load}
@@ -17,14 +18,15 @@ use Rattle.registers.specs.Machine.{Machine}
 use Rattle.transfers.specs.declared.Way.the-variants.{In, Out}
 use Rattle.sectors.specs.Sectors.{storeMarks}
 use Rattle.kept.specs.Lent.{storeMarksIn}
-use Rattle.account.specs.Plain.{Plain, withBuffer, withStore, starts, Finish, Well, NotFound, Unreadable, WriteFault, Aborted, Account, silent, moving}
+use Rattle.account.specs.Numbers.{codeOthers}
+use Rattle.account.specs.Plain.{Plain, withBuffer, withStore, starts, Finish, Well, NotFound, Unreadable, WriteFault, Aborted, Account, silent, moving, ends}
 use Rattle.account.specs.Addressed.{Addressed, At, Bad}
-use Rattle.account.specs.CommandRows.{CommandRow, Reads, Writes, Verifies, Erases, Identifies, ReadsBuffer, WritesBuffer, SetsGeometry, Diagnoses, Recalibrates, Seeks, Senses, Others}
+use Rattle.account.specs.CommandRows.{CommandRow, Reads, Writes, Verifies, Erases, Identifies, ReadsBuffer, WritesBuffer, SetsGeometry, Diagnoses, Recalibrates, Seeks, Senses, SetsMultiple, ReadsMultiple, WritesMultiple, Others}
 use Rattle.account.specs.Course.{Course, courseOf}
 use Rattle.account.specs.Sweeps.{Sweep, writeSweep, writeSectors, writeDone, movedBy}
 use Rattle.account.specs.WholeSectors.{firstSectors, lastSectors, replaced, cleared, badLeft}
 use Rattle.account.proofs.Stored.{bad-none}
-use Rattle.account.specs.Table.{asked, first, fromFirst, account}
+use Rattle.account.specs.Table.{asked, first, fromFirst, account, behindBlock, writes}
 use Rattle.account.specs.Host.{plainOf, asks}
 use Rattle.account.specs.Notes.{Waiting, Notes, wayOf}
 use Rattle.hosts.specs.Moment.{storeMarksOf, wholeOf, storedFrom, writtenSoFar, soFar}
@@ -33,6 +35,7 @@ use Rattle.hosts.proofs.Due.{sectors-length}
 use Rattle.hosts.proofs.Written.{Written, Nowhere, From, LoadLies, LiesAt, Lies}
 use Rattle.hosts.proofs.WrittenBegins.{targetAt, targetOf}
 use Rattle.hosts.proofs.Unwritten.{sweep-left-alone, nowhere}
+use Rattle.ground.specs.Choice.{pick}
 
 -- of the sectors that move all are stored but for one that can't be written
 moved-done : (e : Finish) (k : ℕ) → (k ≤ movedBy e k) × (movedBy e k ≤ suc k)
@@ -82,7 +85,7 @@ module _ (c : Course) (i : ℕ) (r : Sweep) (p : Plain) (m : Machine) (l : List 
 
   a-sector : (a : Load) (w : ℕ) → LoadLies (From i) a p (here (m .state)) w (m .buffer) (storeMarksIn m) l → Written i p (here (m .state)) w (m .buffer) (storeMarksIn m) l
   a-sector Buffer w z = absurd z
-  a-sector (Sectors n) w z = z
+  a-sector (Sectors n pace) w z = z
 
   stored-whole : (h w : ℕ) (z : Written i p h w (m .buffer) (storeMarksIn m) l) → storedFrom i (z .k) p l ≡ storeMarksIn m
   unfolding replaced cleared
@@ -126,8 +129,17 @@ writes-moment (At i) p m q e y z d n =
     ≡ moving (q .done) (restAt (m .phase) (plainOf m) d)) e (y .account d)) z d n)
 writes-moment (Bad code) p m q e y z d n = nowhere Writes p Out m q Nowhere refl (ap targetAt e) y z (q .done ++ d)
 
+-- C5H: nothing without a block, and as 30H with one
+multiple-moment : (v : Bool) (p : Plain) (m : Machine) (q : Notes) → Rel Out (λ d. pick v (silent (ends (Aborted codeOthers) (starts p))) (writes (starts p) d)) m q →
+    Lies (pick v Nowhere (targetAt (first p))) (starts p) m (q .done) → (d : List ℕ) → (asks m ≡ true → d ≡ []) →
+    storeMarksIn m ≡ pick v (storeMarksOf p) (writtenSoFar (first p) p (q .done ++ d))
+unfolding account soFar
+multiple-moment true p m q y z d n = nowhere Others p Out m q Nowhere refl refl y z (q .done ++ d)
+multiple-moment false p m q y z d n = writes-moment (first p) p m q refl y z d n
+
 pub moment : (row : CommandRow) (p : Plain) (m : Machine) (q : Notes) → Rel (wayOf row) (account row p) m q → Lies (targetOf row p) (starts p) m (q .done) →
     (d : List ℕ) → (asks m ≡ true → d ≡ []) → storeMarksIn m ≡ soFar row p (q .done ++ d)
+unfolding account behindBlock soFar
 moment Reads p m q y z d n = nowhere Reads p In m q Nowhere refl refl y z (q .done ++ d)
 moment Writes p m q y z d n = writes-moment (first p) p m q refl y z d n
 moment Verifies p m q y z d n = nowhere Verifies p In m q Nowhere refl refl y z (q .done ++ d)
@@ -140,4 +152,7 @@ moment Diagnoses p m q y z d n = nowhere Diagnoses p In m q Nowhere refl refl y 
 moment Recalibrates p m q y z d n = nowhere Recalibrates p In m q Nowhere refl refl y z (q .done ++ d)
 moment Seeks p m q y z d n = nowhere Seeks p In m q Nowhere refl refl y z (q .done ++ d)
 moment Senses p m q y z d n = nowhere Senses p In m q Nowhere refl refl y z (q .done ++ d)
+moment SetsMultiple p m q y z d n = nowhere SetsMultiple p In m q Nowhere refl refl y z (q .done ++ d)
+moment ReadsMultiple p m q y z d n = nowhere ReadsMultiple p In m q Nowhere refl refl y z (q .done ++ d)
+moment WritesMultiple p m q y z d n = multiple-moment (eqb (p .block) 0) p m q y z d n
 moment Others p m q y z d n = nowhere Others p In m q Nowhere refl refl y z (q .done ++ d)

@@ -14,7 +14,7 @@ use Rattle.card.specs.Access.{Asked}
 use Rattle.card.specs.Perform.{perform}
 use Rattle.account.specs.Plain.{Plain, bytesPerSector}
 use Rattle.account.specs.Addressed.{Addressed, At, Bad}
-use Rattle.account.specs.CommandRows.{CommandRow, Reads, Writes, Verifies, Erases, Identifies, ReadsBuffer, WritesBuffer, SetsGeometry, Diagnoses, Recalibrates, Seeks, Senses, Others}
+use Rattle.account.specs.CommandRows.{CommandRow, Reads, Writes, Verifies, Erases, Identifies, ReadsBuffer, WritesBuffer, SetsGeometry, Diagnoses, Recalibrates, Seeks, Senses, SetsMultiple, ReadsMultiple, WritesMultiple, Others}
 use Rattle.account.specs.Course.{courseOf}
 use Rattle.account.specs.Sweeps.{writeSweep}
 use Rattle.account.specs.WholeSectors.{replaced, cleared, badLeft}
@@ -49,7 +49,7 @@ unfoldable pub writtenSoFar : Addressed → Plain → List ℕ → StoreMarks
 writtenSoFar (At i) p moved = storedFrom i (storedOf i p moved) p moved
 writtenSoFar (Bad code) p moved = storeMarksOf p
 
--- a write's sectors one by one, Erase's at once, and no other command's
+-- a write's sectors one by one, C5H's too where there is a block, Erase's at once, and no other command's
 unfoldable pub soFar : CommandRow → Plain → List ℕ → StoreMarks
 soFar Reads p moved = storeMarksOf p
 soFar Writes p moved = writtenSoFar (first p) p moved
@@ -63,6 +63,9 @@ soFar Diagnoses p moved = storeMarksOf p
 soFar Recalibrates p moved = storeMarksOf p
 soFar Seeks p moved = storeMarksOf p
 soFar Senses p moved = storeMarksOf p
+soFar SetsMultiple p moved = storeMarksOf p
+soFar ReadsMultiple p moved = storeMarksOf p
+soFar WritesMultiple p moved = pick (eqb (p .block) 0) (storeMarksOf p) (writtenSoFar (first p) p moved)
 soFar Others p moved = storeMarksOf p
 
 -- how many of a list of marks are not 0

@@ -70,3 +70,8 @@ before-it f k h =
 pub word-129 : (f : Facts) → (getD (identifyBytes f) 258 0 ≡ f .bad % 256) × (getD (identifyBytes f) 259 0 ≡ f .bad / 256)
 unfolding identifyByte identifyWord
 word-129 f = (before-it f 258 (omega arith), before-it f 259 (omega arith))
+
+-- 02, "One": word 47 is 0010H, whatever the card has set
+pub word-47 : (f : Facts) → (getD (identifyBytes f) 94 0 ≡ 0x10) × (getD (identifyBytes f) 95 0 ≡ 0x00)
+unfolding identifyByte identifyWord
+word-47 f = (before-it f 94 (omega arith), before-it f 95 (omega arith))

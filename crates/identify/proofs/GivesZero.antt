@@ -94,10 +94,10 @@ identify-only f =
 abbrev four-two-four : ℕ → Facts
 four-two-four bad = let g : Geometry = record { cylinders = 4; heads = 2; sectors = 4 } in record { default = g; current = g; bad = bad }
 
-pub at-power-on : let b = identifyBytes (four-two-four 0) in (getD b 511 0 ≡ 0x56) × (getD b 510 0 ≡ 0xA5)
+pub at-power-on : let b = identifyBytes (four-two-four 0) in (getD b 511 0 ≡ 0x46) × (getD b 510 0 ≡ 0xA5)
 unfolding listed totalOf fits every identifyWord identifyByte toldBytes identifyBytes sumOf integrityHigh givingZero withIntegrity
 at-power-on = (refl, refl)
 
-pub with-three : let b = identifyBytes (four-two-four 3) in (getD b 258 0 ≡ 3) × (getD b 259 0 ≡ 0) × (getD b 511 0 ≡ 0x53) × (getD b 510 0 ≡ 0xA5)
+pub with-three : let b = identifyBytes (four-two-four 3) in (getD b 258 0 ≡ 3) × (getD b 259 0 ≡ 0) × (getD b 511 0 ≡ 0x43) × (getD b 510 0 ≡ 0xA5)
 unfolding listed totalOf fits every identifyWord identifyByte toldBytes identifyBytes sumOf integrityHigh givingZero withIntegrity
 with-three = (refl, refl, refl, refl)

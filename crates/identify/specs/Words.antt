@@ -17,7 +17,8 @@ abbrev pub highHalf : ℕ → ℕ
 highHalf n = n / 65536 % 65536
 
 -- "word 0 848AH; 1, 3, 6 default C, H, S; 7 high and 8 low half of N; 10..19, 23..26, 27..46 are 2020H; 49 is 0200H; 53 is 1; 54..56 current C, H, S;
--- 57 low and 58 high half of current C·H·S; 60 low, 61 high of N"; 02, "Eight": the number of marks that are not 0 "is shown in Identify word 129"
+-- 57 low and 58 high half of current C·H·S; 60 low, 61 high of N"; 02, "Eight": the number of marks that are not 0 "is shown in Identify word 129"; "One":
+-- "Identify word 47 becomes 0010H", the largest block
 abbrev pub wordTable : Facts → List (Numbered ℕ)
 wordTable f =
     At 0 0x848A
@@ -29,6 +30,7 @@ wordTable f =
     ∷ Through 10 19 0x2020
     ∷ Through 23 26 0x2020
     ∷ Through 27 46 0x2020
+    ∷ At 47 0x0010
     ∷ At 49 0x0200
     ∷ At 53 1
     ∷ At 54 (f .current .cylinders)
@@ -41,15 +43,15 @@ wordTable f =
     ∷ At 129 (f .bad)
     ∷ []
 
--- the table to word 61, and of it what is from word 10 on and from word 49 on, as the code looks it up; it puts word 129 in by itself
+-- the table to word 61, and of it what is from word 10 on and from word 47 on, as the code looks it up; it puts word 129 in by itself
 abbrev pub toWord61 : Facts → List (Numbered ℕ)
-toWord61 f = take 18 (wordTable f)
+toWord61 f = take 19 (wordTable f)
 
 abbrev pub fromWord10 : Facts → List (Numbered ℕ)
 fromWord10 f = drop 6 (toWord61 f)
 
-abbrev pub fromWord49 : Facts → List (Numbered ℕ)
-fromWord49 f = drop 9 (toWord61 f)
+abbrev pub fromWord47 : Facts → List (Numbered ℕ)
+fromWord47 f = drop 9 (toWord61 f)
 
 -- words 0 to 254: "the rest 0"
 unfoldable pub identifyWord : Facts → ℕ → ℕ

@@ -7,7 +7,7 @@ ghost use Prim.Native.Nat.{_/_};
 ghost use Rattle.ground.specs.Choice.{within};
 ghost use Rattle.ground.specs.Tables.{lookup};
 ghost use Rattle.geometry.specs.Limits.{totalOf, capacityOf};
-ghost use Rattle.identify.specs.Words.{lowHalf, highHalf, toWord61, fromWord10, fromWord49, byteOf, identifyBytes};
+ghost use Rattle.identify.specs.Words.{lowHalf, highHalf, toWord61, fromWord10, fromWord47, byteOf, identifyBytes};
 
 mod integrity;
 
@@ -63,11 +63,14 @@ impl Facts {
         current.capacity()
     }
 
-    // The table's rows from word 49 to word 61.
+    // The table's rows from word 47 to word 61.
     fn later_word(self, n: usize) -> u16
-        ensures { λ r. ⌜ r ≡ lookup (fromWord49 self) n 0 ⌝ }
+        ensures { λ r. ⌜ r ≡ lookup (fromWord47 self) n 0 ⌝ }
     {
         let current = self.current;
+        if n == 47 {
+            return 0x0010; // 02: the largest block
+        }
         if n == 49 {
             return 0x0200;
         }

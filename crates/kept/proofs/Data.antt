@@ -8,22 +8,25 @@ use lib.ListN.{length}
 use borrow.Author.Tests.{ltb-true, le-leb}
 use Rattle.ground.proofs.Picks.{un-not}
 use Rattle.maps.specs.declared.Port.{Port}
+use Rattle.registers.specs.declared.Half.{Half}
+use Rattle.registers.specs.declared.Pace.{Pace}
+use Rattle.registers.specs.declared.Load.the-variants.{Sectors}
 use Rattle.registers.specs.declared.Transfer.{Transfer}
 use Rattle.registers.specs.declared.Phase.{Phase}
 use Rattle.registers.specs.declared.Phase.the-variants.{DataIn, DataOut}
 use Rattle.registers.specs.declared.Made.{Made}
 use Rattle.registers.specs.declared.State.{State}
 use Rattle.registers.specs.Machine.{Machine, coreOf}
-use Rattle.registers.specs.WellMade.{statusFits, inReset, holdFits, wordsFit, loadFits, runFits}
+use Rattle.registers.specs.WellMade.{wellMade, statusFits, inReset, holdFits, wordsFit, loadFits, runFits, paceFits, loadPaceFits, runPaceFits}
 use Rattle.port.specs.declared.Part.{Part}
 use Rattle.port.specs.Halves.{halved, nextWord}
 use Rattle.transfers.specs.declared.Way.{Way}
 use Rattle.transfers.specs.declared.Way.the-variants.{In, Out}
 use Rattle.transfers.specs.Steps.{allMoved}
 use Rattle.port.specs.Data.{Effect, withPhase, dataRead, dataWritten}
-use Rattle.kept.proofs.Registers.{PhaseFits, CoreFits}
+use Rattle.kept.proofs.Registers.{PhaseFits, CoreFits, apart, together}
 use Rattle.kept.proofs.Lent.{lent-same, part-length}
-use Rattle.kept.proofs.Ends.{Next}
+use Rattle.kept.proofs.Ends.{LoadFits, Next}
 use Rattle.kept.proofs.DataElim.{partCome, data-read-elim, data-written-elim}
 use Rattle.kept.proofs.Steps.{load-read, load-written}
 
@@ -33,21 +36,29 @@ abbrev pub phaseOf : Way → Transfer → Phase
 phaseOf In t = DataIn t
 phaseOf Out t = DataOut t
 
-running : (way : Way) (t : Transfer) (s : State) → PhaseFits (phaseOf way t) s → (inReset s ≡ false) × (loadFits (t .load) s ≡ true)
-unfolding holdFits runFits
-running In t s r = (un-not (inReset s) _ (r .1), r .3)
-running Out t s r = (un-not (inReset s) _ (r .1), r .3)
+running : (way : Way) (t : Transfer) (s : State) → PhaseFits (phaseOf way t) s → (inReset s ≡ false) × LoadFits (t .load) s
+unfolding holdFits runFits runPaceFits
+running In t s r = (un-not (inReset s) _ (r .1), (r .3, r .4))
+running Out t s r = (un-not (inReset s) _ (r .1), (r .3, r .4))
 
 -- a word begun, and the next word
 halved-fits : (way : Way) (part : Part) (t : Transfer) (s : State) → PhaseFits (phaseOf way t) s → PhaseFits (phaseOf way (halved part t)) s
-unfolding statusFits holdFits wordsFit runFits
+unfolding statusFits holdFits wordsFit runFits runPaceFits
 halved-fits In part t s r = r
 halved-fits Out part t s r = r
 
 next-fits : (way : Way) (t : Transfer) (s : State) → leb (t .words + 1) 255 ≡ true → PhaseFits (phaseOf way t) s → PhaseFits (phaseOf way (nextWord t)) s
-unfolding statusFits holdFits wordsFit runFits
-next-fits In t s w r = (r .0, r .1, w, r .3)
-next-fits Out t s w r = (r .0, r .1, w, r .3)
+unfolding statusFits holdFits wordsFit runFits runPaceFits
+next-fits In t s w r = (r .0, r .1, w, r .3, r .4)
+next-fits Out t s w r = (r .0, r .1, w, r .3, r .4)
+
+-- 02, "One": any pace that fits is as good as another, whatever is left: of a card that moves sectors, "fewer sectors of the running block moved than that" is all
+-- that is asked of the place
+pub any-pace-well : (way : Way) (h : Half) (w left : ℕ) (k j : Pace) (s : State) → paceFits j (s .block) ≡ true →
+    wellMade (phaseOf way (record { load = Sectors left k; half = h; words = w })) s ≡ true → wellMade (phaseOf way (record { load = Sectors left j; half = h; words = w })) s ≡ true
+unfolding statusFits holdFits wordsFit runFits loadFits runPaceFits loadPaceFits
+any-pace-well In h w left k j s p e = let f = apart _ s e in together (s .made) _ s (f .0) (f .1 .0, f .1 .1, f .1 .2, f .1 .3, p)
+any-pace-well Out h w left k j s p e = let f = apart _ s e in together (s .made) _ s (f .0) (f .1 .0, f .1 .1, f .1 .2, f .1 .3, p)
 
 -- what the next word and the last byte need, of a card that runs a transfer this way
 onward : (way : Way) (t : Transfer) (d : Made) (m : Machine) → m .phase ≡ phaseOf way t → CoreFits d (coreOf m) → PhaseFits (phaseOf way t) (m .state)

@@ -11,6 +11,7 @@ use Rattle.ground.proofs.Picks.{pick-elim}
 use Rattle.geometry.specs.declared.Located.{Located}
 use Rattle.geometry.specs.declared.Spot.{Spot}
 use Rattle.ground.specs.Choice.{every}
+use Rattle.registers.specs.declared.Pace.{Pace}
 use Rattle.registers.specs.declared.Load.{Load}
 use Rattle.registers.specs.declared.Load.the-variants.{Sectors}
 use Rattle.registers.specs.declared.Made.{Made}
@@ -18,7 +19,7 @@ use Rattle.registers.specs.declared.State.{State}
 use Rattle.registers.specs.Status.{idleStatus}
 use Rattle.registers.specs.State.{locatedIn}
 use Rattle.registers.specs.Machine.{Machine, coreOf}
-use Rattle.registers.specs.WellMade.{atRest, statusFits, inReset, holdFits, wordsFit, sectorsFit, loadFits, runFits}
+use Rattle.registers.specs.WellMade.{atRest, statusFits, inReset, holdFits, wordsFit, sectorsFit, loadFits, runFits, paceFits, loadPaceFits, runPaceFits}
 use Rattle.geometry.specs.Address.{validAddress}
 use Rattle.transfers.specs.declared.End.{End}
 use Rattle.transfers.specs.declared.Tested.{Tested}
@@ -43,6 +44,10 @@ Ready d s = Fine d s × (inReset s ≡ false)
 abbrev pub CountAgrees : ℕ → State → Type 0
 CountAgrees left s = (1 ≤ left) × (left ≤ 256) × (left % 256 ≡ s .registers .count)
 
+-- what a load must fulfil
+abbrev pub LoadFits : Load → State → Type 0
+LoadFits load s = (loadFits load s ≡ true) × (loadPaceFits load (s .block) ≡ true)
+
 -- a machine's change: what it leaves of the card, and of what is lent
 abbrev pub Next : Made → Machine → Machine → Type 0
 Next d m n = CoreFits d (coreOf n) × LengthsKept m n
@@ -65,17 +70,17 @@ ended-left e d s f = (f .0, at-rest (ended e s .state) (end-rests e), f .1)
 pub reading-left : (d : Made) (s : State) → Fine d s → CoreFits d (readingEnded s)
 reading-left d s f = (f .0, at-rest (readingEnded s .state) (end-rests End.Good), f .1)
 
-pub ready-left : (load : Load) (d : Made) (s : State) → Ready d s → loadFits load s ≡ true → CoreFits d (ready load s)
-unfolding statusFits holdFits wordsFit runFits inReset
-ready-left load d s r e = (r .0 .0, (refl, ap not (r .1), refl, load-same load s (ready load s .state) refl refl e), r .0 .1)
+pub ready-left : (load : Load) (d : Made) (s : State) → Ready d s → LoadFits load s → CoreFits d (ready load s)
+unfolding statusFits holdFits wordsFit runFits runPaceFits inReset
+ready-left load d s r e = (r .0 .0, (refl, ap not (r .1), refl, load-same load s (ready load s .state) refl refl (e .0), e .1), r .0 .1)
 
-pub asked-left : (load : Load) (order : Order) (d : Made) (s : State) → Ready d s → loadFits load s ≡ true → CoreFits d (askedFor load order s)
-unfolding statusFits holdFits wordsFit runFits inReset
-asked-left load order d s r e = (r .0 .0, (refl, ap not (r .1), refl, load-same load s (askedFor load order s .state) refl refl e), r .0 .1)
+pub asked-left : (load : Load) (order : Order) (d : Made) (s : State) → Ready d s → LoadFits load s → CoreFits d (askedFor load order s)
+unfolding statusFits holdFits wordsFit runFits runPaceFits inReset
+asked-left load order d s r e = (r .0 .0, (refl, ap not (r .1), refl, load-same load s (askedFor load order s .state) refl refl (e .0), e .1), r .0 .1)
 
-pub sectors-fit : (left : ℕ) (s : State) → validAddress (locatedIn s) ≡ true → CountAgrees left s → loadFits (Sectors left) s ≡ true
-unfolding loadFits sectorsFit every
-sectors-fit left s g a = rw (g, le-leb _ _ (a .0), le-leb _ _ (a .1), eq-eqb _ _ (a .2))
+pub sectors-fit : (left : ℕ) (k : Pace) (s : State) → validAddress (locatedIn s) ≡ true → CountAgrees left s → paceFits k (s .block) ≡ true → LoadFits (Sectors left k) s
+unfolding loadFits sectorsFit every loadPaceFits
+sectors-fit left k s g a p = (rw (g, le-leb _ _ (a .0), le-leb _ _ (a .1), eq-eqb _ _ (a .2)), p)
 
 -- an end in error
 abbrev pub erring : End → Bool
@@ -103,6 +108,10 @@ done-fine left d s f =
 done-held : (left : ℕ) (s : State) → inReset (sectorDone left s) ≡ inReset s
 unfolding sectorDone inReset
 done-held left s = pick-elim (λ (x : State). inReset x ≡ inReset s) (eqb left 0) _ _ (λ e. refl) (λ e. refl)
+
+pub done-block : (left : ℕ) (s : State) → sectorDone left s .block ≡ s .block
+unfolding sectorDone
+done-block left s = pick-elim (λ (x : State). x .block ≡ s .block) (eqb left 0) _ _ (λ e. refl) (λ e. refl)
 
 pub done-ready : (left : ℕ) (d : Made) (s : State) → Ready d s → Ready d (sectorDone left s)
 done-ready left d s r = (done-fine left d s (r .0), done-held left s ∙ r .1)

@@ -2,6 +2,7 @@ pub mod RegisterElim
 pub mod Registers
 pub mod Resets
 pub mod Lent
+pub mod Paces
 pub mod Ends
 pub mod Steps
 pub mod Sweeps

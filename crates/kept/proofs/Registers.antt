@@ -16,7 +16,7 @@ use Rattle.registers.specs.declared.State.{State}
 use Rattle.registers.specs.declared.Core.{Core}
 use Rattle.registers.specs.State.{runs, withInterrupt, withBad, totalIn, locatedIn}
 use Rattle.registers.specs.Machine.{core}
-use Rattle.registers.specs.WellMade.{wellMade, indexFits, sresetFits, statusFits, inReset, holdFits, wordsFit, sectorsFit, loadFits, runFits, badFits}
+use Rattle.registers.specs.WellMade.{wellMade, indexFits, sresetFits, statusFits, inReset, holdFits, wordsFit, sectorsFit, loadFits, runFits, badFits, blockFits, runPaceFits}
 use Rattle.registers.specs.Values.{afterRead, registerSet}
 use Rattle.kept.specs.Sound.{CountFits}
 use Rattle.kept.proofs.RegisterElim.{read-elim, set-elim}
@@ -30,6 +30,7 @@ StateFits d s =
     × (indexFits (s .option) ≡ true)
     × (sresetFits (s .made .mode) (s .option) ≡ true)
     × (badFits (s .bad) (totalIn s) ≡ true)
+    × (blockFits (s .block) ≡ true)
 
 -- the conditions on a phase
 abbrev pub PhaseFits : Phase → State → Type 0
@@ -38,6 +39,7 @@ PhaseFits p s =
     × (holdFits p (inReset s) ≡ true)
     × (wordsFit p ≡ true)
     × (runFits p s ≡ true)
+    × (runPaceFits p (s .block) ≡ true)
 
 -- what a change leaves
 abbrev pub CoreFits : Made → Core → Type 0
@@ -45,17 +47,17 @@ CoreFits d k = StateFits d (k .state) × PhaseFits (k .phase) (k .state) × Coun
 
 pub apart : (p : Phase) (s : State) → wellMade p s ≡ true → StateFits (s .made) s × PhaseFits p s
 unfolding wellMade
-apart p s e = let t = each _ e in ((refl, t 0, t 1, t 2, t 3, t 8), (t 4, t 5, t 6, t 7))
+apart p s e = let t = each _ e in ((refl, t 0, t 1, t 2, t 3, t 8, t 9), (t 4, t 5, t 6, t 7, t 10))
 
 pub together : (d : Made) (p : Phase) (s : State) → StateFits d s → PhaseFits p s → wellMade p s ≡ true
 unfolding wellMade every
-together d p s f r = rw (f .1, f .2, f .3, f .4, r .0, r .1, r .2, r .3, f .5)
+together d p s f r = rw (f .1, f .2, f .3, f .4, r .0, r .1, r .2, r .3, f .5, f .6, r .4)
 
 -- what a running transfer is tested by: where its address points, and Sector Count
 pub load-same : (l : Load) (s t : State) → locatedIn t ≡ locatedIn s → t .registers .count ≡ s .registers .count → loadFits l s ≡ true → loadFits l t ≡ true
 unfolding loadFits sectorsFit
 load-same Buffer s t e f h = refl
-load-same (Sectors left) s t e f h = rw (e, f) h
+load-same (Sectors left pace) s t e f h = rw (e, f) h
 
 pub run-same : (p : Phase) (s t : State) → locatedIn t ≡ locatedIn s → t .registers .count ≡ s .registers .count → runFits p s ≡ true → runFits p t ≡ true
 unfolding runFits
@@ -70,19 +72,19 @@ any-number-well p s b l e =
     let a = apart p s e in
     let f = a .0 in
     let r = a .1 in
-    together (s .made) p (withBad b s) (f .0, f .1, f .2, f .3, f .4, le-leb b (totalIn s) l) (r .0, r .1, r .2, run-same p s (withBad b s) refl refl (r .3))
+    together (s .made) p (withBad b s) (f .0, f .1, f .2, f .3, f .4, le-leb b (totalIn s) l, f .6) (r .0, r .1, r .2, run-same p s (withBad b s) refl refl (r .3), r .4)
 
 -- with no transfer running only Status is tested
 idle-fits : (p : Phase) (s t : State) → runs p ≡ false → t .registers .status ≡ s .registers .status → PhaseFits p s → PhaseFits p t
-unfolding statusFits holdFits wordsFit runFits
-idle-fits Idle s t e f r = (rw f (r .0), refl, refl, refl)
+unfolding statusFits holdFits wordsFit runFits runPaceFits
+idle-fits Idle s t e f r = (rw f (r .0), refl, refl, refl, refl)
 idle-fits (DataIn x) s t e f r = absurd (true≢false e)
 idle-fits (DataOut x) s t e f r = absurd (true≢false e)
 
 pub read-left : (r : Register) (d : Made) (p : Phase) (s : State) → CoreFits d (core p s) → CoreFits d (core p (afterRead r s))
 unfolding inReset
 read-left r d p s f =
-    read-elim (λ (x : State). CoreFits d (core p x)) r s f (f .0, (f .1 .0, f .1 .1, f .1 .2, run-same p s (withInterrupt false s) refl refl (f .1 .3)), f .2)
+    read-elim (λ (x : State). CoreFits d (core p x)) r s f (f .0, (f .1 .0, f .1 .1, f .1 .2, run-same p s (withInterrupt false s) refl refl (f .1 .3), f .1 .4), f .2)
 
 -- a register that is set is neither Status nor the map setting nor a geometry
 set-stands : (r : Register) (v : ℕ) (d : Made) (s : State) → v < 256 → StateFits d s → CountFits s →

@@ -18,7 +18,7 @@ use Rattle.registers.specs.declared.resets.Turn.the-variants.{Enter, Leave, Sta
 use Rattle.registers.specs.Status.{idleStatus}
 use Rattle.registers.specs.State.{withOption, withControl, sresetIn}
 use Rattle.registers.specs.Machine.{core}
-use Rattle.registers.specs.WellMade.{indexFits, sresetFits, atRest, statusFits, inReset, holdFits, wordsFit, runFits, badFits}
+use Rattle.registers.specs.WellMade.{indexFits, sresetFits, atRest, statusFits, inReset, holdFits, wordsFit, runFits, badFits, blockFits, runPaceFits}
 use Rattle.registers.specs.PowerOn.{powerOn, zeros}
 use Rattle.registers.specs.Resets.{turnOf, restStatus, entered, optionTurned, bufferTurned, controlTurned, controlWritten, bitTwo, bitOne, optionCore}
 use Rattle.kept.specs.Sound.{CountFits}
@@ -40,8 +40,8 @@ rest-status (DataOut t) status e = refl
 
 -- a card at rest is tested by its Status alone
 pub at-rest : (s : State) → atRest (s .registers .status) ≡ true → PhaseFits Idle s
-unfolding statusFits holdFits wordsFit runFits
-at-rest s e = (e, refl, refl, refl)
+unfolding statusFits holdFits wordsFit runFits runPaceFits
+at-rest s e = (e, refl, refl, refl, refl)
 
 -- the transfer ends
 entered-rests : (p : Phase) (s : State) → PhaseFits p s → atRest (entered p s .registers .status) ≡ true
@@ -50,7 +50,8 @@ entered-rests p s r = rest-status p (s .registers .status) (r .0)
 -- power-on, with any map setting that may be written, and no more bad sectors than N
 pub power-stands : (d : Made) (b v : ℕ) → fits (d .default) ≡ true → indexFits v ≡ true → sresetFits (d .mode) v ≡ true → badFits b (totalOf (d .default)) ≡ true →
     StateFits d (powerOn d b v)
-power-stands d b v f i m t = (refl, f, fits-current (d .default) f, i, m, t)
+unfolding blockFits
+power-stands d b v f i m t = (refl, f, fits-current (d .default) f, i, m, t, refl)
 
 pub power-status : atRest idleStatus ≡ true
 unfolding atRest
@@ -62,15 +63,15 @@ same-sreset v s e = ap (λ (b : Bool). pick b true (s .control .held)) e
 
 option-stays : (v : ℕ) (d : Made) (p : Phase) (s : State) → sresetIn v ≡ sresetIn (s .option) → OptionFits v s → StateFits d s → PhaseFits p s → Turned d s (core p (withOption v s))
 option-stays v d p s e o f r =
-    ((f .0, f .1, f .2, o .0, o .1, f .5), (r .0, rw (same-sreset v s e) (r .1), r .2, run-same p s (withOption v s) refl refl (r .3)), λ c. c)
+    ((f .0, f .1, f .2, o .0, o .1, f .5, f .6), (r .0, rw (same-sreset v s e) (r .1), r .2, run-same p s (withOption v s) refl refl (r .3), r .4), λ c. c)
 
 option-by : (a b : Bool) (v : ℕ) (d : Made) (p : Phase) (s : State) → sresetIn (s .option) ≡ a → sresetIn v ≡ b → OptionFits v s → StateFits d s → PhaseFits p s →
     Turned d s (optionTurned (turnOf a b) v p s)
 unfolding optionTurned turnOf
-option-by false true v d p s x y o f r = ((f .0, f .1, f .2, o .0, o .1, f .5), at-rest (withOption v (entered p s)) (entered-rests p s r), λ c. c)
+option-by false true v d p s x y o f r = ((f .0, f .1, f .2, o .0, o .1, f .5, f .6), at-rest (withOption v (entered p s)) (entered-rests p s r), λ c. c)
 option-by true false v d p s x y o f r =
     let g = power-stands (s .made) (s .bad) v (f .1) (o .0) (o .1) (f .5) in
-    ((f .0, g .1, g .2, g .3, g .4, g .5), at-rest (powerOn (s .made) (s .bad) v) power-status, λ c. omega arith)
+    ((f .0, g .1, g .2, g .3, g .4, g .5, g .6), at-rest (powerOn (s .made) (s .bad) v) power-status, λ c. omega arith)
 option-by false false v d p s x y o f r = option-stays v d p s (y ∙ sym x) o f r
 option-by true true v d p s x y o f r = option-stays v d p s (y ∙ sym x) o f r
 
@@ -82,9 +83,9 @@ unfolding controlTurned inReset
 control-by Enter masked d p s f r = (f, at-rest (withControl (record { held = true; masked = masked }) (entered p s)) (entered-rests p s r), λ c. c)
 control-by Leave masked d p s f r =
     let g = power-stands (s .made) (s .bad) (s .option) (f .1) (f .3) (f .4) (f .5) in
-    ((f .0, g .1, g .2, g .3, g .4, g .5), at-rest (withControl (record { held = false; masked = masked }) (powerOn (s .made) (s .bad) (s .option))) power-status, λ c. omega arith)
+    ((f .0, g .1, g .2, g .3, g .4, g .5, g .6), at-rest (withControl (record { held = false; masked = masked }) (powerOn (s .made) (s .bad) (s .option))) power-status, λ c. omega arith)
 control-by Stay masked d p s f r =
-    (f, (r .0, r .1, r .2, run-same p s (withControl (record { held = s .control .held; masked = masked }) s) refl refl (r .3)), λ c. c)
+    (f, (r .0, r .1, r .2, run-same p s (withControl (record { held = s .control .held; masked = masked }) s) refl refl (r .3), r .4), λ c. c)
 
 pub control-turned : (v : ℕ) (d : Made) (p : Phase) (s : State) → StateFits d s → PhaseFits p s → Turned d s (controlWritten v p s)
 control-turned v d p s f r = control-by (turnOf (s .control .held) (bitTwo v)) (bitOne v) d p s f r

@@ -10,10 +10,12 @@ use Rattle.geometry.specs.Shape.{reshaped}
 use Rattle.sectors.specs.Sectors.{StoreMarks, storeMarks}
 use Rattle.maps.specs.declared.Register.{Register}
 use Rattle.maps.specs.declared.Register.the-variants.{ErrorFeature, SectorCount, SectorNumber, CylinderLow, CylinderHigh, DriveHead, StatusCommand, AlternateControl, DriveAddress}
+use Rattle.registers.specs.declared.Pace.{Pace}
 use Rattle.registers.specs.declared.Load.{Load}
 use Rattle.registers.specs.declared.Load.the-variants.{Sectors, Buffer}
 use Rattle.registers.specs.declared.Phase.{Phase}
 use Rattle.registers.specs.declared.State.{State}
+use Rattle.registers.specs.declared.Core.{Core}
 use Rattle.registers.specs.declared.resets.Turn.{Turn}
 use Rattle.registers.specs.declared.resets.Turn.the-variants.{Enter, Leave, Stay}
 use Rattle.registers.specs.State.{totalIn}
@@ -22,7 +24,7 @@ use Rattle.registers.specs.Machine.{Machine, coreOf}
 use Rattle.transfers.specs.declared.Tested.{Tested}
 use Rattle.transfers.specs.declared.Tested.the-variants.{Passes, Fails}
 use Rattle.commands.specs.declared.Command.{Command}
-use Rattle.commands.specs.declared.Command.the-variants.{Read, Write, Verify, Erase, Identify, ReadBuffer, WriteBuffer, SetGeometry, Diagnose, Recalibrate, Seek, Sense, Other}
+use Rattle.commands.specs.declared.Command.the-variants.{Read, Write, Verify, Erase, Identify, ReadBuffer, WriteBuffer, SetGeometry, Diagnose, Recalibrate, Seek, Sense, SetMultiple, ReadMultiple, WriteMultiple, Other}
 use Rattle.transfers.specs.declared.Order.the-variants.{First}
 use Rattle.transfers.specs.declared.Way.the-variants.{In}
 use Rattle.transfers.specs.Before.{sectorTest}
@@ -38,8 +40,10 @@ use Rattle.card.specs.Step.{step}
 use Rattle.kept.specs.Lent.{storeMarksIn}
 use Rattle.kept.proofs.RegisterElim.{read-elim}
 use Rattle.kept.proofs.DataElim.{data-read-elim}
+use Rattle.registers.specs.Blocks.{blockSize, noBlock, single, paceFrom, paceAfter}
+use Rattle.commands.specs.Blocks.{blockSet, blocksRead}
 use Rattle.laws.specs.Changes.{Change, changed, commandChanges, registerChanges, phaseChanges, changes}
-use Rattle.laws.proofs.SettingsKept.{same-number, done, plain, ask-sector, verified, erased, reshaped-ended}
+use Rattle.laws.proofs.SettingsKept.{same-number, done, plain, ask-sector, blocks-asked, verified, erased, reshaped-ended}
 use Rattle.laws.proofs.ErasedSectors.{erase-kept}
 use Rattle.laws.proofs.WrittenSectors.{phase-written}
 
@@ -52,17 +56,17 @@ Keeps k n = storeMarksIn n ≡ k
 kept : (m : Machine) {b : ℕ} → b ≡ m .state .bad → storeMarks (m .store) (m .marks) b ≡ storeMarksIn m
 kept m e = ap (storeMarks (m .store) (m .marks)) e
 
-read-tested : (t : Tested) (left : ℕ) (m : Machine) → Keeps (storeMarksIn m) (readTested t left m)
-read-tested (Passes spot) left m = refl
-read-tested (Fails e) left m = refl
+read-tested : (t : Tested) (left : ℕ) (k : Pace) (m : Machine) → Keeps (storeMarksIn m) (readTested t left k m)
+read-tested (Passes spot) left k m = refl
+read-tested (Fails e) left k m = refl
 
 load-read : (l : Load) (m : Machine) → Keeps (storeMarksIn m) (loadRead l m)
 unfolding nextRead readSector
 load-read Buffer m = refl
-load-read (Sectors left) m =
+load-read (Sectors left k) m =
     let d = kept m (same-number (done (left - 1) (m .state))) in
     pick-elim (Keeps (storeMarksIn m)) (eqb (left - 1) 0) _ _ (λ e. d)
-    (λ e. read-tested (sectorTest In (sectorDone (left - 1) (m .state)) (m .marks)) (left - 1) (idleWith (sectorDone (left - 1) (m .state)) m) ∙ d)
+    (λ e. read-tested (sectorTest In (sectorDone (left - 1) (m .state)) (m .marks)) (left - 1) (paceAfter k) (idleWith (sectorDone (left - 1) (m .state)) m) ∙ d)
 
 -- ---- writing
 
@@ -90,9 +94,9 @@ control-keeps Stay masked p s = refl
 
 -- Error, code and the interrupt mark, with which a command starts afresh, do not matter to what is erased
 obeys : (c : Command) (m : Machine) → storeMarksIn (obeyed c (started (dropped m .state)) (dropped m)) ≡ changed (commandChanges c (m .state) (m .marks)) (storeMarksIn m)
-unfolding changed readSector countOf
-obeys Read m = read-tested (sectorTest In (started (dropped m .state)) (m .marks)) (countOf (started (dropped m .state))) (idleWith (started (dropped m .state)) m)
-obeys Write m = let s = started (dropped m .state) in kept m (same-number (ask-sector (countOf s) First s))
+unfolding changed readSector countOf blockSet blocksRead
+obeys Read m = read-tested (sectorTest In (started (dropped m .state)) (m .marks)) (countOf (started (dropped m .state))) single (idleWith (started (dropped m .state)) m)
+obeys Write m = let s = started (dropped m .state) in kept m (same-number (ask-sector (countOf s) single First s))
 obeys Verify m = let s = started (dropped m .state) in kept m (same-number (verified (countOf s) s (m .marks)))
 obeys Erase m =
     let s = started (dropped m .state) in
@@ -107,6 +111,15 @@ obeys Diagnose m = refl
 obeys Recalibrate m = refl
 obeys Seek m = refl
 obeys Sense m = refl
+obeys SetMultiple m =
+    let s = started (dropped m .state) in
+    pick-elim (λ (k : Core). storeMarks (m .store) (m .marks) (k .state .bad) ≡ storeMarksIn m) (blockSize (s .registers .count)) _ _ (λ e. refl) (λ e. refl)
+obeys ReadMultiple m =
+    let s = started (dropped m .state) in
+    pick-elim (λ (x : Machine). storeMarksIn x ≡ storeMarksIn m) (eqb (s .block) noBlock) _ _
+    (λ e. refl)
+    (λ e. read-tested (sectorTest In s (m .marks)) (countOf s) (paceFrom (s .block)) (idleWith s m))
+obeys WriteMultiple m = let s = started (dropped m .state) in kept m (same-number (blocks-asked (countOf s) s))
 obeys Other m = refl
 
 command-written : (held : Bool) (v : ℕ) (m : Machine) →

@@ -27,7 +27,7 @@ use Rattle.registers.specs.Machine.{Machine}
 use Rattle.port.specs.declared.Fill.the-variants.{Begun, Full}
 use Rattle.port.specs.declared.Take.{Take}
 use Rattle.commands.specs.declared.Command.{Command}
-use Rattle.commands.specs.declared.Command.the-variants.{Read, Write, Verify, Erase, Identify, ReadBuffer, WriteBuffer, SetGeometry, Diagnose, Recalibrate, Seek, Sense, Other}
+use Rattle.commands.specs.declared.Command.the-variants.{Read, Write, Verify, Erase, Identify, ReadBuffer, WriteBuffer, SetGeometry, Diagnose, Recalibrate, Seek, Sense, SetMultiple, ReadMultiple, WriteMultiple, Other}
 use Rattle.transfers.specs.Before.{runPast}
 use Rattle.port.specs.Halves.{takeOf, withPart}
 use Rattle.commands.specs.Table.{commandOf}
@@ -56,6 +56,9 @@ of-command Diagnose s marks e = refl
 of-command Recalibrate s marks e = refl
 of-command Seek s marks e = refl
 of-command Sense s marks e = refl
+of-command SetMultiple s marks e = refl
+of-command ReadMultiple s marks e = refl
+of-command WriteMultiple s marks e = refl
 of-command Other s marks e = refl
 
 of-register : (r : Register) (v : ℕ) (m : Machine) → erasesBy r v ≡ false → registerChanges r v m ≡ []
@@ -102,7 +105,7 @@ sector-one Located.BadLba marks bytes rest n h = omega arith
 
 load-one : (l : Load) (bytes : List ℕ) (m : Machine) → AtMost 1 (loadChanges l bytes m)
 load-one Buffer bytes m = omega arith
-load-one (Sectors left) bytes m = sector-one (locatedIn (m .state)) (m .marks) bytes [] 0 (omega arith)
+load-one (Sectors left k) bytes m = sector-one (locatedIn (m .state)) (m .marks) bytes [] 0 (omega arith)
 
 taken-one : (k : Take) (v : ℕ) (t : Transfer) (m : Machine) → AtMost 1 (takenChanges k v t m)
 taken-one Take.Refused v t m = omega arith

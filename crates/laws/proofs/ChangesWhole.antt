@@ -31,7 +31,7 @@ use Rattle.transfers.specs.Before.{runPast}
 use Rattle.port.specs.declared.Fill.the-variants.{Begun, Full}
 use Rattle.port.specs.declared.Take.{Take}
 use Rattle.commands.specs.declared.Command.{Command}
-use Rattle.commands.specs.declared.Command.the-variants.{Read, Write, Verify, Erase, Identify, ReadBuffer, WriteBuffer, SetGeometry, Diagnose, Recalibrate, Seek, Sense, Other}
+use Rattle.commands.specs.declared.Command.the-variants.{Read, Write, Verify, Erase, Identify, ReadBuffer, WriteBuffer, SetGeometry, Diagnose, Recalibrate, Seek, Sense, SetMultiple, ReadMultiple, WriteMultiple, Other}
 use Rattle.port.specs.Halves.{takeOf, withPart}
 use Rattle.commands.specs.Table.{countOf, commandOf}
 use Rattle.card.specs.declared.Meaning.{Meaning}
@@ -73,6 +73,9 @@ of-command Diagnose s marks c = tt
 of-command Recalibrate s marks c = tt
 of-command Seek s marks c = tt
 of-command Sense s marks c = tt
+of-command SetMultiple s marks c = tt
+of-command ReadMultiple s marks c = tt
+of-command WriteMultiple s marks c = tt
 of-command Other s marks c = tt
 
 of-register : (r : Register) (v : ℕ) (m : Machine) → currentFor (m .state .current) (totalIn (m .state)) ≡ true → WholeSectors (totalIn (m .state)) (registerChanges r v m)
@@ -88,7 +91,7 @@ of-register DriveAddress v m c = tt
 
 of-load : (l : Load) (bytes : List ℕ) (m : Machine) → currentFor (m .state .current) (totalIn (m .state)) ≡ true → length bytes ≡ 512 → WholeSectors (totalIn (m .state)) (loadChanges l bytes m)
 of-load Buffer bytes m c b = tt
-of-load (Sectors left) bytes m c b =
+of-load (Sectors left k) bytes m c b =
     sector-whole (locatedIn (m .state)) (totalIn (m .state)) (m .marks) bytes [] (λ p e. inside (m .state .registers .address) (m .state .current) (totalIn (m .state)) p c e) b tt
 
 of-taken : (k : Take) (v : ℕ) (t : Transfer) (m : Machine) → currentFor (m .state .current) (totalIn (m .state)) ≡ true → length (m .buffer) ≡ 512 → WholeSectors (totalIn (m .state)) (takenChanges k v t m)

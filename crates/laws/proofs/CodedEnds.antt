@@ -11,6 +11,7 @@ use Rattle.ground.proofs.Picks.{pick-elim}
 use Rattle.geometry.specs.declared.Reshaped.{Reshaped}
 use Rattle.geometry.specs.Shape.{reshaped}
 use Rattle.geometry.specs.Address.{seek}
+use Rattle.registers.specs.declared.Pace.{Pace}
 use Rattle.registers.specs.declared.Load.{Load}
 use Rattle.registers.specs.declared.Load.the-variants.{Sectors, Buffer}
 use Rattle.registers.specs.declared.State.{State}
@@ -25,13 +26,15 @@ use Rattle.transfers.specs.declared.End.the-variants.{Good, BadHeadOrSector, Ba
 use Rattle.transfers.specs.declared.Tested.{Tested}
 use Rattle.transfers.specs.declared.Tested.the-variants.{Passes, Fails}
 use Rattle.commands.specs.declared.Command.{Command}
-use Rattle.commands.specs.declared.Command.the-variants.{Read, Write, Verify, Erase, Identify, ReadBuffer, WriteBuffer, SetGeometry, Diagnose, Recalibrate, Seek, Sense, Other}
+use Rattle.commands.specs.declared.Command.the-variants.{Read, Write, Verify, Erase, Identify, ReadBuffer, WriteBuffer, SetGeometry, Diagnose, Recalibrate, Seek, Sense, SetMultiple, ReadMultiple, WriteMultiple, Other}
 use Rattle.transfers.specs.Ends.{endStatus, endCode}
 use Rattle.transfers.specs.declared.Way.the-variants.{In}
 use Rattle.transfers.specs.Before.{sectorTest, addressTest, sectorStored}
 use Rattle.transfers.specs.Steps.{readTested, readSector, nextRead, loadRead, askTested, askSector, nextAsked, coreWritten, loadWritten}
 use Rattle.commands.specs.Sweeps.{verifyRun, eraseRun}
 use Rattle.commands.specs.Table.{obeyed, reshapedEnded, soughtEnd, commandOf, started, dropped, commandGiven}
+use Rattle.registers.specs.Blocks.{blockSize, noBlock, single, paceFrom, paceAfter}
+use Rattle.commands.specs.Blocks.{blockSet, blocksRead, blocksAsked}
 use Rattle.kept.proofs.Sweeps.{verify-elim, erase-elim}
 use Rattle.laws.specs.Coded.{inError, Coded}
 
@@ -53,44 +56,44 @@ begun-coded code p = absurd (false≢true p)
 
 -- ---- reading
 
-read-tested : (t : Tested) (left : ℕ) (m : Machine) → Coded (readTested t left m .state)
-read-tested (Passes spot) left m = begun-coded _
-read-tested (Fails e) left m = end-coded e _
+read-tested : (t : Tested) (left : ℕ) (k : Pace) (m : Machine) → Coded (readTested t left k m .state)
+read-tested (Passes spot) left k m = begun-coded _
+read-tested (Fails e) left k m = end-coded e _
 
-read-sector : (left : ℕ) (m : Machine) → Coded (readSector left m .state)
+read-sector : (left : ℕ) (k : Pace) (m : Machine) → Coded (readSector left k m .state)
 unfolding readSector
-read-sector left m = read-tested (sectorTest In (m .state) (m .marks)) left m
+read-sector left k m = read-tested (sectorTest In (m .state) (m .marks)) left k m
 
-next-read : (left : ℕ) (m : Machine) → Coded (nextRead left m .state)
+next-read : (left : ℕ) (k : Pace) (m : Machine) → Coded (nextRead left k m .state)
 unfolding nextRead
-next-read left m = pick-elim (λ (n : Machine). Coded (n .state)) (eqb left 0) _ _ (λ e. end-coded Good _) (λ e. read-sector left _)
+next-read left k m = pick-elim (λ (n : Machine). Coded (n .state)) (eqb left 0) _ _ (λ e. end-coded Good _) (λ e. read-sector left k _)
 
 pub load-read : (l : Load) (m : Machine) → Coded (loadRead l m .state)
 load-read Buffer m = end-coded Good _
-load-read (Sectors left) m = next-read (left - 1) m
+load-read (Sectors left k) m = next-read (left - 1) (paceAfter k) m
 
 -- ---- writing
 
-ask-tested : (t : Tested) (left : ℕ) (order : Order) (s : State) → Coded (askTested t left order s .state)
-ask-tested (Passes spot) left order s = begun-coded _
-ask-tested (Fails e) left order s = end-coded e _
+ask-tested : (t : Tested) (left : ℕ) (k : Pace) (order : Order) (s : State) → Coded (askTested t left k order s .state)
+ask-tested (Passes spot) left k order s = begun-coded _
+ask-tested (Fails e) left k order s = end-coded e _
 
-ask-sector : (left : ℕ) (order : Order) (s : State) → Coded (askSector left order s .state)
+ask-sector : (left : ℕ) (k : Pace) (order : Order) (s : State) → Coded (askSector left k order s .state)
 unfolding askSector
-ask-sector left order s = ask-tested (addressTest s) left order s
+ask-sector left k order s = ask-tested (addressTest s) left k order s
 
-next-asked : (left : ℕ) (s : State) → Coded (nextAsked left s .state)
+next-asked : (left : ℕ) (k : Pace) (s : State) → Coded (nextAsked left k s .state)
 unfolding nextAsked
-next-asked left s = pick-elim (λ (k : Core). Coded (k .state)) (eqb left 0) _ _ (λ e. end-coded Good _) (λ e. ask-sector left Later _)
+next-asked left k s = pick-elim (λ (k : Core). Coded (k .state)) (eqb left 0) _ _ (λ e. end-coded Good _) (λ e. ask-sector left k Later _)
 
-core-written : (t : Tested) (left : ℕ) (s : State) → Coded (coreWritten t left s .state)
-core-written (Passes spot) left s = next-asked left s
-core-written (Fails e) left s = end-coded e _
+core-written : (t : Tested) (left : ℕ) (k : Pace) (s : State) → Coded (coreWritten t left k s .state)
+core-written (Passes spot) left k s = next-asked left k s
+core-written (Fails e) left k s = end-coded e _
 
 pub load-written : (l : Load) (m : Machine) → Coded (loadWritten l m .state)
 load-written Buffer m = end-coded Good _
-load-written (Sectors left) m =
-    let k = sectorStored (m .state) (m .buffer) (m .store) (m .marks) in core-written (k .outcome) (left - 1) (withBad (k .next .bad) (m .state))
+load-written (Sectors left p) m =
+    let k = sectorStored (m .state) (m .buffer) (m .store) (m .marks) in core-written (k .outcome) (left - 1) (paceAfter p) (withBad (k .next .bad) (m .state))
 
 -- ---- Verify and Erase
 
@@ -108,8 +111,9 @@ reshaped-ended (Reshaped.Taken g) s = end-coded Good _
 reshaped-ended Reshaped.Refused s = end-coded BadGeometry 0
 
 obeys : (c : Command) (s : State) (m : Machine) → Coded (obeyed c s m .state)
-obeys Read s m = read-sector _ _
-obeys Write s m = ask-sector _ First s
+unfolding blockSet blocksRead blocksAsked
+obeys Read s m = read-sector _ single _
+obeys Write s m = ask-sector _ single First s
 obeys Verify s m = verified _ s (m .marks)
 obeys Erase s m = erased _ s (m .store) (m .marks)
 obeys Identify s m = begun-coded _
@@ -120,6 +124,9 @@ obeys Diagnose s m = end-coded Good _
 obeys Recalibrate s m = end-coded Good _
 obeys Seek s m = end-coded (soughtEnd (seek (s .registers .address) (s .current) (totalIn s))) (s .code)
 obeys Sense s m = end-coded Good _
+obeys SetMultiple s m = pick-elim (λ (k : Core). Coded (k .state)) (blockSize (s .registers .count)) _ _ (λ e. end-coded Good _) (λ e. end-coded NoSuchCommand 0)
+obeys ReadMultiple s m = pick-elim (λ (x : Machine). Coded (x .state)) (eqb (s .block) noBlock) _ _ (λ e. end-coded NoSuchCommand 0) (λ e. read-sector _ (paceFrom (s .block)) _)
+obeys WriteMultiple s m = pick-elim (λ (k : Core). Coded (k .state)) (eqb (s .block) noBlock) _ _ (λ e. end-coded NoSuchCommand 0) (λ e. ask-sector _ (paceFrom (s .block)) First s)
 obeys Other s m = end-coded NoSuchCommand 0
 
 pub commanded : (v : ℕ) (m : Machine) → Coded (commandGiven v m .state)

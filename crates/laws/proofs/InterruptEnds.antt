@@ -9,18 +9,22 @@ use Rattle.sectors.specs.Sectors.{StoreMarks}
 use Rattle.geometry.specs.declared.Reshaped.{Reshaped}
 use Rattle.geometry.specs.Shape.{reshaped}
 use Rattle.geometry.specs.Address.{seek}
+use Rattle.ground.proofs.Picks.{pick-elim}
+use Rattle.registers.specs.declared.Pace.{Pace}
 use Rattle.registers.specs.declared.State.{State}
 use Rattle.registers.specs.declared.Core.{Core}
 use Rattle.laws.specs.Bits.{statusData}
 use Rattle.registers.specs.State.{totalIn}
+use Rattle.registers.specs.Blocks.{blockSize, noBlock, singleStride, single, paceFrom}
 use Rattle.registers.specs.Machine.{Machine}
+use Rattle.commands.specs.Blocks.{blockSet, blocksRead, blocksAsked}
 use Rattle.transfers.specs.declared.Order.the-variants.{First}
 use Rattle.transfers.specs.declared.End.{End}
 use Rattle.transfers.specs.declared.End.the-variants.{Good, BadHeadOrSector, BadCylinder, BadLba, PastEnd, Unreadable, WriteFault, BadGeometry, NoSuchCommand}
 use Rattle.transfers.specs.declared.Tested.{Tested}
 use Rattle.transfers.specs.declared.Tested.the-variants.{Passes, Fails}
 use Rattle.commands.specs.declared.Command.{Command}
-use Rattle.commands.specs.declared.Command.the-variants.{Read, Write, Verify, Erase, Identify, ReadBuffer, WriteBuffer, SetGeometry, Diagnose, Recalibrate, Seek, Sense, Other}
+use Rattle.commands.specs.declared.Command.the-variants.{Read, Write, Verify, Erase, Identify, ReadBuffer, WriteBuffer, SetGeometry, Diagnose, Recalibrate, Seek, Sense, SetMultiple, ReadMultiple, WriteMultiple, Other}
 use Rattle.transfers.specs.Ends.{endStatus}
 use Rattle.transfers.specs.declared.Way.the-variants.{In}
 use Rattle.transfers.specs.Before.{sectorTest, addressTest}
@@ -28,7 +32,7 @@ use Rattle.transfers.specs.Steps.{readTested, readSector, askTested, askSector}
 use Rattle.commands.specs.Sweeps.{verifyRun, eraseRun}
 use Rattle.commands.specs.Table.{countOf, soughtEnd, reshapedEnded, started, dropped, commandOf, obeyed, commandGiven}
 use Rattle.kept.proofs.Sweeps.{verify-elim, erase-elim}
-use Rattle.laws.specs.Interrupt.{drqSet, InterruptRule}
+use Rattle.laws.specs.Interrupt.{drqSet, readsRow, InterruptRule}
 use Rattle.laws.specs.Acts.{CommandWrite}
 use Rattle.laws.proofs.InterruptLaws.{over, ready, asked}
 
@@ -63,19 +67,21 @@ reshaped-ended Reshaped.Refused s = (refl, refl)
 done : (c : Command) (s n : State) → Over n → InterruptRule (CommandWrite c) s n
 done c s n o = over c s n (o .0) (o .1)
 
-read-first : (t : Tested) (left : ℕ) (s : State) (m : Machine) → InterruptRule (CommandWrite Read) s (readTested t left m .state)
-read-first (Passes spot) left s m = ready Read s (readTested (Passes spot) left m .state) refl refl refl
-read-first (Fails e) left s m = over Read s (readTested (Fails e) left m .state) refl (end-drq e)
+-- the first sector of a command is the first of its block; c is the row of 20H or of C4H
+read-first : (c : Command) → readsRow c ≡ true → (t : Tested) (left stride : ℕ) (s : State) (m : Machine) → InterruptRule (CommandWrite c) s (readTested t left (paceFrom stride) m .state)
+read-first c r (Passes spot) left stride s m = ready c s (readTested (Passes spot) left (paceFrom stride) m .state) r refl refl
+read-first c r (Fails e) left stride s m = over c s (readTested (Fails e) left (paceFrom stride) m .state) refl (end-drq e)
 
-ask-first : (t : Tested) (left : ℕ) (s n : State) → n .interrupt ≡ false → InterruptRule (CommandWrite Write) s (askTested t left First n .state)
-ask-first (Passes spot) left s n e = asked Write s (askTested (Passes spot) left First n .state) refl e refl
-ask-first (Fails f) left s n e = over Write s (askTested (Fails f) left First n .state) refl (end-drq f)
+-- … of 30H or of C5H
+ask-first : (c : Command) → readsRow c ≡ false → (t : Tested) (left : ℕ) (k : Pace) (s n : State) → n .interrupt ≡ false → InterruptRule (CommandWrite c) s (askTested t left k First n .state)
+ask-first c r (Passes spot) left k s n e = asked c s (askTested (Passes spot) left k First n .state) r e refl
+ask-first c r (Fails f) left k s n e = over c s (askTested (Fails f) left k First n .state) refl (end-drq f)
 
 -- s is the state before the Command write, n the state that the command starts with
 obeys : (c : Command) (s n : State) (m : Machine) → n .interrupt ≡ false → InterruptRule (CommandWrite c) s (obeyed c n m .state)
-unfolding readSector askSector
-obeys Read s n m e = read-first (sectorTest In n (m .marks)) (countOf n) s _
-obeys Write s n m e = ask-first (addressTest n) (countOf n) s n e
+unfolding readSector askSector blockSet blocksRead blocksAsked
+obeys Read s n m e = read-first Read refl (sectorTest In n (m .marks)) (countOf n) singleStride s _
+obeys Write s n m e = ask-first Write refl (addressTest n) (countOf n) single s n e
 obeys Verify s n m e = done Verify s _ (verified (countOf n) n (m .marks))
 obeys Erase s n m e = done Erase s _ (erased (countOf n) n (m .store) (m .marks))
 obeys Identify s n m e = ready Identify s (obeyed Identify n m .state) refl refl refl
@@ -86,6 +92,17 @@ obeys Diagnose s n m e = over Diagnose s (obeyed Diagnose n m .state) refl refl
 obeys Recalibrate s n m e = over Recalibrate s (obeyed Recalibrate n m .state) refl refl
 obeys Seek s n m e = over Seek s (obeyed Seek n m .state) refl (end-drq (soughtEnd (seek (n .registers .address) (n .current) (totalIn n))))
 obeys Sense s n m e = over Sense s (obeyed Sense n m .state) refl refl
+obeys SetMultiple s n m e =
+    pick-elim (λ (k : Core). InterruptRule (CommandWrite SetMultiple) s (k .state)) (blockSize (n .registers .count)) _ _
+    (λ b. over SetMultiple s _ refl refl) (λ b. over SetMultiple s _ refl refl)
+obeys ReadMultiple s n m e =
+    pick-elim (λ (x : Machine). InterruptRule (CommandWrite ReadMultiple) s (x .state)) (eqb (n .block) noBlock) _ _
+    (λ b. over ReadMultiple s _ refl refl)
+    (λ b. read-first ReadMultiple refl (sectorTest In n (m .marks)) (countOf n) (n .block) s _)
+obeys WriteMultiple s n m e =
+    pick-elim (λ (k : Core). InterruptRule (CommandWrite WriteMultiple) s (k .state)) (eqb (n .block) noBlock) _ _
+    (λ b. over WriteMultiple s _ refl refl)
+    (λ b. ask-first WriteMultiple refl (addressTest n) (countOf n) (paceFrom (n .block)) s n e)
 obeys Other s n m e = over Other s (obeyed Other n m .state) refl refl
 
 pub commanded : (v : ℕ) (m : Machine) → InterruptRule (CommandWrite (commandOf v)) (m .state) (commandGiven v m .state)

@@ -4,6 +4,7 @@ use mathlib.Core.Path.{_≡_, refl, sym, ap}
 use mathlib.Core.Bool.{Bool, true, false, not, _&&_, _||_, and-true, and-false}
 use lib.Dec.{eqb}
 use borrow.Author.Tests.{eq-eqb}
+use Rattle.ground.specs.Choice.{pick}
 use Rattle.registers.specs.declared.State.{State}
 use Rattle.laws.specs.Bits.{statusIdle, statusData}
 use Rattle.commands.specs.declared.Command.{Command}
@@ -57,43 +58,63 @@ asked c s n r m e = interrupt-gone (CommandWrite c) s n (rw (e, r)) refl m
 same-count : (a b : ℕ) → a ≡ b → not (eqb a b) ≡ false
 same-count a b e = ap not (eq-eqb a b e)
 
-abbrev pub dataAct : Way → Act
-dataAct In = DataRead
-dataAct Out = DataWrite
+abbrev pub dataAct : Way → Bool → Act
+dataAct In last = DataRead last
+dataAct Out last = DataWrite last
 
-no-turn : (a b d : Bool) → d ≡ false → (a && (b && d)) ≡ false
-no-turn true true d e = e
-no-turn true false d e = refl
-no-turn false b d e = refl
+no-turn : (a b d last : Bool) → d ≡ false → (a && (b && (d && last))) ≡ false
+no-turn true true d last e = rw e refl
+no-turn true false d last e = refl
+no-turn false b d last e = refl
 
 no-end : (a b : Bool) → b ≡ a → (a && not b) ≡ false
 no-end true b e = ap not e
 no-end false b e = refl
 
 -- nothing that a host sees has changed
-pub still : (w : Way) (s n : State) → n .registers .status ≡ s .registers .status → n .registers .count ≡ s .registers .count → n .interrupt ≡ s .interrupt → InterruptRule (dataAct w) s n
-unfolding sets clears
-still In s n p q r =
-    interrupt-left DataRead s n (rw (no-turn (drqSet s) (drqSet n) (another s n) (same-count _ _ (sym q)), no-end (drqSet s) (drqSet n) (ap (λ (x : ℕ). eqb x statusData) p))) refl r
-still Out s n p q r =
-    interrupt-left DataWrite s n (rw (no-turn (drqSet s) (drqSet n) (another s n) (same-count _ _ (sym q)), no-end (drqSet s) (drqSet n) (ap (λ (x : ℕ). eqb x statusData) p))) refl r
-
--- the next sector is ready, or asked for
-pub turned : (w : Way) (s n : State) → drqSet s ≡ true → drqSet n ≡ true → another s n ≡ true → n .interrupt ≡ true → InterruptRule (dataAct w) s n
+pub nothing-sets : (w : Way) (last : Bool) (s n : State) → n .registers .status ≡ s .registers .status → n .registers .count ≡ s .registers .count → sets (dataAct w last) s n ≡ false
 unfolding sets
-turned In s n p q r m = interrupt-up DataRead s n (rw (p, q, r)) m
-turned Out s n p q r m = interrupt-up DataWrite s n (rw (p, q, r)) m
+nothing-sets In last s n p q =
+    rw (no-turn (drqSet s) (drqSet n) (another s n) last (same-count _ _ (sym q)), no-end (drqSet s) (drqSet n) (ap (λ (x : ℕ). eqb x statusData) p))
+nothing-sets Out last s n p q =
+    rw (no-turn (drqSet s) (drqSet n) (another s n) last (same-count _ _ (sym q)), no-end (drqSet s) (drqSet n) (ap (λ (x : ℕ). eqb x statusData) p))
+
+no-clear : (w : Way) (last : Bool) (s : State) → clears (dataAct w last) s ≡ false
+unfolding clears
+no-clear In last s = refl
+no-clear Out last s = refl
+
+pub still : (w : Way) (last : Bool) (s n : State) → n .registers .status ≡ s .registers .status → n .registers .count ≡ s .registers .count → n .interrupt ≡ s .interrupt → InterruptRule (dataAct w last) s n
+still w last s n p q r = interrupt-left (dataAct w last) s n (nothing-sets w last s n p q) (no-clear w last s) r
+
+-- the next sector is ready, or asked for: the first of its block, or another one
+pub turn-sets : (w : Way) (last : Bool) (s n : State) → drqSet s ≡ true → drqSet n ≡ true → another s n ≡ true → sets (dataAct w last) s n ≡ last
+unfolding sets
+turn-sets In true s n p q r = rw (p, q, r)
+turn-sets In false s n p q r = rw (p, q, r)
+turn-sets Out true s n p q r = rw (p, q, r)
+turn-sets Out false s n p q r = rw (p, q, r)
+
+pub turned : (w : Way) (last : Bool) (s n : State) → drqSet s ≡ true → drqSet n ≡ true → another s n ≡ true → n .interrupt ≡ pick last true (s .interrupt) → InterruptRule (dataAct w last) s n
+turned w true s n p q r m = interrupt-up (dataAct w true) s n (turn-sets w true s n p q r) m
+turned w false s n p q r m = interrupt-left (dataAct w false) s n (turn-sets w false s n p q r) (no-clear w false s) m
 
 -- writing ends, well or in error
-pub written-end : (s n : State) → drqSet s ≡ true → drqSet n ≡ false → n .interrupt ≡ true → InterruptRule DataWrite s n
+pub end-sets : (last : Bool) (s n : State) → drqSet s ≡ true → drqSet n ≡ false → sets (DataWrite last) s n ≡ true
 unfolding sets
-written-end s n p q m = interrupt-up DataWrite s n (rw (p, q)) m
+end-sets last s n p q = rw (p, q)
+
+pub written-end : (last : Bool) (s n : State) → drqSet s ≡ true → drqSet n ≡ false → n .interrupt ≡ true → InterruptRule (DataWrite last) s n
+written-end last s n p q m = interrupt-up (DataWrite last) s n (end-sets last s n p q) m
 
 -- reading ends in error, or well
-pub read-failed : (s n : State) → drqSet s ≡ true → drqSet n ≡ false → eqb (n .registers .status) statusIdle ≡ false → n .interrupt ≡ true → InterruptRule DataRead s n
+pub read-failed : (last : Bool) (s n : State) → drqSet s ≡ true → drqSet n ≡ false → eqb (n .registers .status) statusIdle ≡ false → n .interrupt ≡ true → InterruptRule (DataRead last) s n
 unfolding sets
-read-failed s n p q r m = interrupt-up DataRead s n (rw (p, q, r)) m
+read-failed last s n p q r m = interrupt-up (DataRead last) s n (rw (p, q, r)) m
 
-pub read-well : (s n : State) → drqSet s ≡ true → drqSet n ≡ false → eqb (n .registers .status) statusIdle ≡ true → n .interrupt ≡ s .interrupt → InterruptRule DataRead s n
-unfolding sets clears
-read-well s n p q r m = interrupt-left DataRead s n (rw (p, q, r)) refl m
+pub well-sets : (last : Bool) (s n : State) → drqSet s ≡ true → drqSet n ≡ false → eqb (n .registers .status) statusIdle ≡ true → sets (DataRead last) s n ≡ false
+unfolding sets
+well-sets last s n p q r = rw (p, q, r)
+
+pub read-well : (last : Bool) (s n : State) → drqSet s ≡ true → drqSet n ≡ false → eqb (n .registers .status) statusIdle ≡ true → n .interrupt ≡ s .interrupt → InterruptRule (DataRead last) s n
+read-well last s n p q r m = interrupt-left (DataRead last) s n (well-sets last s n p q r) (no-clear In last s) m

@@ -80,7 +80,7 @@ register-written DriveAddress v m = plain DriveAddress v (coreOf m)
 
 -- ---- every access
 
-ruled : (x : Meaning) (m : Machine) → StatusAndLoadFit (m .phase) (m .state) → InterruptRule (actOf x (m .state .control .held)) (m .state) (perform x m .next .state)
+ruled : (x : Meaning) (m : Machine) → StatusAndLoadFit (m .phase) (m .state) → InterruptRule (actOf x (coreOf m)) (m .state) (perform x m .next .state)
 unfolding perform optionWritten sets clears
 ruled (Meaning.Refused r) m f = no-matter (m .state) (m .state) refl
 ruled (TupleByte b) m f = no-matter (m .state) (m .state) refl
@@ -92,13 +92,13 @@ ruled (ReadData port) m f = data-read port m f
 ruled (WriteData port v) m f = data-written port v m f
 
 -- of a well-made card
-pub meant-interrupt : (x : Meaning) (m : Machine) → wellMade (m .phase) (m .state) ≡ true → InterruptRule (actOf x (m .state .control .held)) (m .state) (perform x m .next .state)
-meant-interrupt x m w = let f = apart (m .phase) (m .state) w in ruled x m (f .1 .0, f .1 .3)
+pub meant-interrupt : (x : Meaning) (m : Machine) → wellMade (m .phase) (m .state) ≡ true → InterruptRule (actOf x (coreOf m)) (m .state) (perform x m .next .state)
+meant-interrupt x m w = let f = apart (m .phase) (m .state) w in ruled x m (f .1 .0, f .1 .3, f .1 .4)
 
 -- of every card: one that is not well made is refused
-pub interrupt-rule : (m : Machine) (a : Asked) → InterruptRule (actOf (meaning m a) (m .state .control .held)) (m .state) (step m a .next .state)
+pub interrupt-rule : (m : Machine) (a : Asked) → InterruptRule (actOf (meaning m a) (coreOf m)) (m .state) (step m a .next .state)
 unfolding step perform
 interrupt-rule m a =
     let z = no-matter (m .state) (m .state) refl in
-    meaning-elim (λ (x : Meaning). InterruptRule (actOf x (m .state .control .held)) (m .state) (perform x m .next .state)) m a z z z z
+    meaning-elim (λ (x : Meaning). InterruptRule (actOf x (coreOf m)) (m .state) (perform x m .next .state)) m a z z z z
     (λ w s k t. meant-interrupt (decided (m .state) a) m w)

@@ -9,6 +9,7 @@ pub mod InterruptLaws
 pub mod InterruptEnds
 pub mod InterruptData
 pub mod InterruptRule
+pub mod BlockRule
 pub mod LineRule
 pub mod ErasedSectors
 pub mod WrittenSectors

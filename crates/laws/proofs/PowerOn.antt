@@ -70,8 +70,8 @@ pub control-left-reads : (m : Machine) (a : Asked) (v : ℕ) → meaning m a ≡
 control-left-reads m a v x e f =
     subst ReadsPowerOn (sym (ap (λ (s : Effect). s .next) (control-left m a v x e f))) (powered-reads (bitOne v) (m .state .made) (m .state .bad) (m .state .option) (m .buffer) (m .store) (m .marks))
 
--- "buffer zeros, code 00H, default geometry, index 0"
+-- "buffer zeros, code 00H, default geometry, index 0"; 02, "One": no block
 pub opened-rest : (g : Geometry) (mode : Mode) (bad : ℕ) →
-    let c = powered g mode bad in (c .buffer ≡ replicate 512 0) × (c .state .code ≡ 0) × (c .state .current ≡ g) × (c .state .option ≡ 0) × (c .state .interrupt ≡ false) × (c .phase ≡ Idle)
+    let c = powered g mode bad in (c .buffer ≡ replicate 512 0) × (c .state .code ≡ 0) × (c .state .current ≡ g) × (c .state .option ≡ 0) × (c .state .interrupt ≡ false) × (c .phase ≡ Idle) × (c .state .block ≡ 0)
 unfolding zeros
-opened-rest g mode bad = (refl, refl, refl, refl, refl, refl)
+opened-rest g mode bad = (refl, refl, refl, refl, refl, refl, refl)

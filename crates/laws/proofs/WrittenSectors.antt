@@ -47,8 +47,8 @@ by-address Located.BadLba bytes k = refl
 load-written : (l : Load) (bytes : List ℕ) (m : Machine) → storeMarksIn (loadWritten l (allMoved (withBuffer bytes m))) ≡ changed (loadChanges l bytes m) (storeMarksIn m)
 unfolding changed sectorStored sectorTest addressTest
 load-written Buffer bytes m = refl
-load-written (Sectors left) bytes m =
-    ap (storeMarks _ _) (same-number (sector-written left (allMoved (withBuffer bytes m)))) ∙ by-address (locatedIn (m .state)) bytes (storeMarksIn m)
+load-written (Sectors left k) bytes m =
+    ap (storeMarks _ _) (same-number (sector-written left k (allMoved (withBuffer bytes m)))) ∙ by-address (locatedIn (m .state)) bytes (storeMarksIn m)
 
 by-word : (b : Bool) (l : Load) (bytes : List ℕ) (m x : Machine) → storeMarksIn x ≡ storeMarksIn m →
     storeMarksIn (pick b x (loadWritten l (allMoved (withBuffer bytes m)))) ≡ changed (pick b [] (loadChanges l bytes m)) (storeMarksIn m)

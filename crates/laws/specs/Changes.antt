@@ -29,7 +29,7 @@ use Rattle.transfers.specs.Before.{runPast}
 use Rattle.port.specs.declared.Fill.the-variants.{Begun, Full}
 use Rattle.port.specs.declared.Take.{Take}
 use Rattle.commands.specs.declared.Command.{Command}
-use Rattle.commands.specs.declared.Command.the-variants.{Read, Write, Verify, Erase, Identify, ReadBuffer, WriteBuffer, SetGeometry, Diagnose, Recalibrate, Seek, Sense, Other}
+use Rattle.commands.specs.declared.Command.the-variants.{Read, Write, Verify, Erase, Identify, ReadBuffer, WriteBuffer, SetGeometry, Diagnose, Recalibrate, Seek, Sense, SetMultiple, ReadMultiple, WriteMultiple, Other}
 use Rattle.port.specs.Halves.{takeOf, withPart}
 use Rattle.commands.specs.Table.{countOf, commandOf}
 use Rattle.card.specs.declared.Meaning.{Meaning}
@@ -86,6 +86,9 @@ commandChanges Diagnose s marks = []
 commandChanges Recalibrate s marks = []
 commandChanges Seek s marks = []
 commandChanges Sense s marks = []
+commandChanges SetMultiple s marks = []
+commandChanges ReadMultiple s marks = []
+commandChanges WriteMultiple s marks = []
 commandChanges Other s marks = []
 
 -- a Command write in a Device Control hold has no effect
@@ -103,7 +106,7 @@ registerChanges DriveAddress v m = []
 -- the sector of the address registers, in a transfer of sectors and not of the buffer
 abbrev pub loadChanges : Load → List ℕ → Machine → List Change
 loadChanges Buffer bytes m = []
-loadChanges (Sectors left) bytes m = sectorChanges (locatedIn (m .state)) (m .marks) bytes []
+loadChanges (Sectors left pace) bytes m = sectorChanges (locatedIn (m .state)) (m .marks) bytes []
 
 -- a write that makes the last of the 256 words whole stores the buffer, with what it writes in it
 abbrev pub takenChanges : Take → ℕ → Transfer → Machine → List Change

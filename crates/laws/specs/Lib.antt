@@ -2,6 +2,7 @@ pub mod Unchanged
 pub mod Coded
 pub mod Acts
 pub mod Interrupt
+pub mod Blocks
 pub mod Line
 pub mod Changes
 pub mod MayChange

@@ -16,25 +16,28 @@ use Rattle.registers.specs.declared.State.{State}
 
 -- changes of one part of the state
 abbrev pub withRegisters : Registers → State → State
-withRegisters r s = record { made = s .made; current = s .current; registers = r; option = s .option; control = s .control; interrupt = s .interrupt; code = s .code; bad = s .bad }
+withRegisters r s = record { made = s .made; current = s .current; registers = r; option = s .option; control = s .control; interrupt = s .interrupt; code = s .code; bad = s .bad; block = s .block }
 
 abbrev pub withCurrent : Geometry → State → State
-withCurrent g s = record { made = s .made; current = g; registers = s .registers; option = s .option; control = s .control; interrupt = s .interrupt; code = s .code; bad = s .bad }
+withCurrent g s = record { made = s .made; current = g; registers = s .registers; option = s .option; control = s .control; interrupt = s .interrupt; code = s .code; bad = s .bad; block = s .block }
 
 abbrev pub withOption : ℕ → State → State
-withOption v s = record { made = s .made; current = s .current; registers = s .registers; option = v; control = s .control; interrupt = s .interrupt; code = s .code; bad = s .bad }
+withOption v s = record { made = s .made; current = s .current; registers = s .registers; option = v; control = s .control; interrupt = s .interrupt; code = s .code; bad = s .bad; block = s .block }
 
 abbrev pub withControl : Control → State → State
-withControl k s = record { made = s .made; current = s .current; registers = s .registers; option = s .option; control = k; interrupt = s .interrupt; code = s .code; bad = s .bad }
+withControl k s = record { made = s .made; current = s .current; registers = s .registers; option = s .option; control = k; interrupt = s .interrupt; code = s .code; bad = s .bad; block = s .block }
 
 abbrev pub withInterrupt : Bool → State → State
-withInterrupt b s = record { made = s .made; current = s .current; registers = s .registers; option = s .option; control = s .control; interrupt = b; code = s .code; bad = s .bad }
+withInterrupt b s = record { made = s .made; current = s .current; registers = s .registers; option = s .option; control = s .control; interrupt = b; code = s .code; bad = s .bad; block = s .block }
 
 abbrev pub withCode : ℕ → State → State
-withCode n s = record { made = s .made; current = s .current; registers = s .registers; option = s .option; control = s .control; interrupt = s .interrupt; code = n; bad = s .bad }
+withCode n s = record { made = s .made; current = s .current; registers = s .registers; option = s .option; control = s .control; interrupt = s .interrupt; code = n; bad = s .bad; block = s .block }
 
 abbrev pub withBad : ℕ → State → State
-withBad n s = record { made = s .made; current = s .current; registers = s .registers; option = s .option; control = s .control; interrupt = s .interrupt; code = s .code; bad = n }
+withBad n s = record { made = s .made; current = s .current; registers = s .registers; option = s .option; control = s .control; interrupt = s .interrupt; code = s .code; bad = n; block = s .block }
+
+abbrev pub withBlock : ℕ → State → State
+withBlock n s = record { made = s .made; current = s .current; registers = s .registers; option = s .option; control = s .control; interrupt = s .interrupt; code = s .code; bad = s .bad; block = n }
 
 abbrev pub withStatus : ℕ → State → State
 withStatus v s = withRegisters (record { status = v; error = s .registers .error; count = s .registers .count; address = s .registers .address }) s

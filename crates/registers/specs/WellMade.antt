@@ -1,8 +1,8 @@
 -- 01, "What is lent": "A card value is well made if: …". Each condition is a test of its own, in 01's order.
 use Prim.Native.Nat.{ℕ, _%_}
-use mathlib.Core.Bool.{Bool, true, not}
+use mathlib.Core.Bool.{Bool, true, false, not}
 use mathlib.Core.List.{[], _∷_}
-use lib.Dec.{leb, eqb}
+use lib.Dec.{leb, ltb, eqb}
 use Rattle.ground.specs.Choice.{pick, every}
 use Rattle.ground.specs.Rows.{When, firstOr}
 use Rattle.ground.specs.Sizes.{lastWord, mostCount}
@@ -10,12 +10,14 @@ use Rattle.geometry.specs.Limits.{fits, currentFor}
 use Rattle.geometry.specs.Address.{validAddress}
 use Rattle.maps.specs.declared.Mode.{Mode}
 use Rattle.maps.specs.declared.Mode.the-variants.{PcCard, TrueIde}
+use Rattle.registers.specs.declared.Pace.{Pace}
 use Rattle.registers.specs.declared.Load.{Load}
 use Rattle.registers.specs.declared.Load.the-variants.{Sectors, Buffer}
 use Rattle.registers.specs.declared.Phase.{Phase}
 use Rattle.registers.specs.declared.Phase.the-variants.{Idle, DataIn, DataOut}
 use Rattle.registers.specs.declared.State.{State}
 use Rattle.registers.specs.Status.{idleStatus, dataStatus, errorStatus, faultStatus}
+use Rattle.registers.specs.Blocks.{noBlock, singleStride, blockSize}
 use Rattle.registers.specs.State.{sresetIn, indexIn, totalIn, locatedIn}
 
 -- the map index is 0..3
@@ -63,7 +65,7 @@ sectorsFit left s =
 
 unfoldable pub loadFits : Load → State → Bool
 loadFits Buffer s = true
-loadFits (Sectors left) s = sectorsFit left s
+loadFits (Sectors left pace) s = sectorsFit left s
 
 unfoldable pub runFits : Phase → State → Bool
 runFits Idle s = true
@@ -73,6 +75,27 @@ runFits (DataOut t) s = loadFits (t .load) s
 -- 02, "Eight": "Well-made cards now need it to be at most N"
 unfoldable pub badFits : ℕ → ℕ → Bool
 badFits bad total = leb bad total
+
+-- 02, "One": "Well-made cards have none or one of these …"
+unfoldable pub blockFits : ℕ → Bool
+blockFits block = pick (eqb block noBlock) true (blockSize block)
+
+-- "… and one while C4H or C5H runs": the stride is the block then, and 1 while 20H or 30H runs
+unfoldable pub strideFits : ℕ → ℕ → Bool
+strideFits stride block = pick (eqb stride singleStride) true (eqb stride block)
+
+-- "with fewer sectors of the running block moved than that"
+unfoldable pub paceFits : Pace → ℕ → Bool
+paceFits pace block = pick (strideFits (pace .stride) block) (ltb (pace .place) (pace .stride)) false
+
+unfoldable pub loadPaceFits : Load → ℕ → Bool
+loadPaceFits Buffer block = true
+loadPaceFits (Sectors left pace) block = paceFits pace block
+
+unfoldable pub runPaceFits : Phase → ℕ → Bool
+runPaceFits Idle block = true
+runPaceFits (DataIn t) block = loadPaceFits (t .load) block
+runPaceFits (DataOut t) block = loadPaceFits (t .load) block
 
 -- "its geometry fits the limits; the current H is 1..16 and S 1..255 with current C = N div (H·S), at least 1"; then the conditions above
 unfoldable pub wellMade : Phase → State → Bool
@@ -87,4 +110,6 @@ wellMade p s =
     ∷ wordsFit p
     ∷ runFits p s
     ∷ badFits (s .bad) (totalIn s)
+    ∷ blockFits (s .block)
+    ∷ runPaceFits p (s .block)
     ∷ [])

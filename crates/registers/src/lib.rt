@@ -1,9 +1,10 @@
-// The card's state without its buffer: registers, geometries, transfer, the two resets, the interrupt mark, the number of bad sectors; what is well
-// made; what reading and writing a register does, but for a command.
+// The card's state without its buffer: registers, geometries, transfer, the two resets, the interrupt mark, the number of bad sectors, the block;
+// what is well made; what reading and writing a register does, but for a command.
 use geometry::Address;
 use geometry::Geometry;
 use maps::Mode;
 
+pub mod blocks;
 pub mod power_on;
 pub mod resets;
 pub mod states;
@@ -38,9 +39,16 @@ pub enum Half {
     High,
 }
 
-// What moves: sectors, with how many are left, the present one included; or the buffer.
+// 02, "One": how sectors follow each other in blocks. A stride is how many sectors a block has: one for 20H and 30H, the card's block for C4H and C5H.
+// A place is how many sectors of the running block have moved.
+pub struct Pace {
+    pub place: u16,
+    pub stride: u16,
+}
+
+// What moves: sectors, with how many are left, the present one included, and their pace; or the buffer.
 pub enum Load {
-    Sectors(u16),
+    Sectors(u16, Pace),
     Buffer,
 }
 
@@ -78,12 +86,13 @@ pub struct Control {
 
 // All of the card but its phase and its buffer.
 pub struct State {
-    pub control: Control,
-    pub bad: u16, // 02, "Eight": the number of marks that are not 0
-    pub interrupt: bool,
     pub code: u8,
-    pub made: Made,
     pub current: Geometry,
+    pub block: u16, // 02, "One": the sectors of a block, or 0 for none
+    pub interrupt: bool,
+    pub control: Control,
+    pub made: Made,
+    pub bad: u16, // 02, "Eight": the number of marks that are not 0
     pub option: u8,
     pub registers: Registers,
 }

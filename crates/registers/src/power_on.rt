@@ -8,7 +8,7 @@ ghost use mathlib.Core.Path.{_≡_};
 ghost use Rattle.registers.specs.PowerOn.{powerOn};
 
 impl Made {
-    // 01, power-on, with a map setting; 02: and with a number of marks that are not 0, which the opening works out and a reset keeps.
+    // 01, power-on, with a map setting; 02: and with a number of marks that are not 0, which the opening works out and a reset keeps; it forgets the block.
     pub fn power_on(self, bad: u16, option: u8) -> State
         ensures { λ r. ⌜ r ≡ powerOn self bad option ⌝ }
     {
@@ -35,6 +35,7 @@ impl Made {
             interrupt: false,
             code: 0x00,
             bad: bad,
+            block: super::blocks::NO_BLOCK,
         }
     }
 }

@@ -5,12 +5,13 @@ use super::ERROR_STATUS;
 use super::FAULT_STATUS;
 use super::IDLE_STATUS;
 use super::Load;
+use super::Pace;
 use super::Phase;
 use super::State;
 use maps::Mode;
 ghost use mathlib.Core.Path.{_≡_};
 ghost use Rattle.registers.specs.State.{totalIn};
-ghost use Rattle.registers.specs.WellMade.{indexFits, sresetFits, atRest, statusFits, inReset, holdFits, wordsFit, sectorsFit, loadFits, runFits, badFits, wellMade};
+ghost use Rattle.registers.specs.WellMade.{indexFits, sresetFits, atRest, statusFits, inReset, holdFits, wordsFit, sectorsFit, loadFits, runFits, badFits, blockFits, strideFits, paceFits, loadPaceFits, runPaceFits, wellMade};
 
 // The map index is 0..3.
 pub fn index_fits(option: u8) -> bool
@@ -116,7 +117,7 @@ impl State {
     {
         match load {
             Load::Buffer => true,
-            Load::Sectors(left) => self.sectors_fit(left),
+            Load::Sectors(left, _) => self.sectors_fit(left),
         }
     }
 
@@ -143,6 +144,67 @@ impl State {
         ensures { λ r. ⌜ r ≡ badFits (self .bad) (totalIn self) ⌝ }
     {
         self.bad <= self.total()
+    }
+}
+
+// 02: none, or a block of 1, 2, 4, 8 or 16 sectors.
+fn block_fits(block: u16) -> bool
+    ensures { λ r. ⌜ r ≡ blockFits block ⌝ }
+{
+    if block == super::blocks::NO_BLOCK {
+        return true;
+    }
+    super::blocks::block_size(block)
+}
+
+impl Pace {
+    // By single sectors, or by the card's block.
+    fn stride_fits(self, block: u16) -> bool
+        ensures { λ r. ⌜ r ≡ strideFits (self .stride) block ⌝ }
+    {
+        if self.stride == super::blocks::SINGLE {
+            return true;
+        }
+        self.stride == block
+    }
+
+    // With fewer sectors of the running block moved than it has.
+    fn fits(self, block: u16) -> bool
+        ensures { λ r. ⌜ r ≡ paceFits self block ⌝ }
+    {
+        if !self.stride_fits(block) {
+            return false;
+        }
+        self.place < self.stride
+    }
+}
+
+impl Load {
+    fn pace_fits(self, block: u16) -> bool
+        ensures { λ r. ⌜ r ≡ loadPaceFits self block ⌝ }
+    {
+        match self {
+            Load::Buffer => true,
+            Load::Sectors(_, pace) => pace.fits(block),
+        }
+    }
+}
+
+impl Phase {
+    fn pace_fits(self, block: u16) -> bool
+        ensures { λ r. ⌜ r ≡ runPaceFits self block ⌝ }
+    {
+        match self {
+            Phase::Idle => true,
+            Phase::DataIn(t) => {
+                let load = t.load;
+                load.pace_fits(block)
+            }
+            Phase::DataOut(t) => {
+                let load = t.load;
+                load.pace_fits(block)
+            }
+        }
     }
 }
 
@@ -182,6 +244,12 @@ impl Core {
             return false;
         }
         if !state.bad_fits() {
+            return false;
+        }
+        if !block_fits(state.block) {
+            return false;
+        }
+        if !phase.pace_fits(state.block) {
             return false;
         }
         true

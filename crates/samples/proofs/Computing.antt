@@ -12,11 +12,13 @@ use Rattle.sectors.specs.Marks.{readable, writable, marksFit, badIn, lowered}
 use Rattle.sectors.specs.Sectors.{sectorOf, withSector, bufferRead, stored}
 use Rattle.identify.specs.Integrity.{sumOf, integrityHigh, givingZero, withIntegrity}
 use Rattle.identify.specs.Words.{identifyWord, identifyByte, toldBytes, identifyBytes}
-use Rattle.registers.specs.WellMade.{indexFits, sresetFits, atRest, statusFits, inReset, holdFits, wordsFit, sectorsFit, loadFits, runFits, badFits, wellMade}
+use Rattle.registers.specs.Blocks.{blockSize, placeAfter}
+use Rattle.registers.specs.WellMade.{indexFits, sresetFits, atRest, statusFits, inReset, holdFits, wordsFit, sectorsFit, loadFits, runFits, badFits, wellMade, blockFits, strideFits, paceFits, loadPaceFits, runPaceFits}
 use Rattle.registers.specs.Resets.{turnOf, optionTurned, bufferTurned, controlTurned}
 use Rattle.registers.specs.Values.{valueRead, afterRead, registerSet}
 use Rattle.transfers.specs.Before.{addressTest, pastEnd, sectorTest, sectorStored}
 use Rattle.transfers.specs.Steps.{sectorDone, readSector, nextRead, askSector, nextAsked}
+use Rattle.commands.specs.Blocks.{blockSet, blocksRead, blocksAsked}
 use Rattle.commands.specs.Sweeps.{verifyFrom, verifyRun, eraseFrom, eraseRun, allFF}
 use Rattle.port.specs.Halves.{takeOf}
 use Rattle.port.specs.Data.{wordRead, dataRead, wordWritten, dataWritten}
@@ -37,7 +39,8 @@ use Rattle.samples.specs.Passes.{reader, sameEntries, readsAs, holdsOf, 
 unfoldable pub computing : Unit {0}
 unfolding every fits totalOf currentFor locate locateChs locateLba byLba roomOf seek reshaped nextOf nextChs
     answersAt cardAnswers placeAt mapPlace attributePlace registerPlace misfits aboveThree offsetAt memoryAt ioAt windowAt
-    wellMade runFits loadFits sectorsFit wordsFit holdFits inReset statusFits atRest sresetFits indexFits badFits
+    wellMade runFits loadFits sectorsFit wordsFit holdFits inReset statusFits atRest sresetFits indexFits badFits blockFits blockSize strideFits paceFits loadPaceFits runPaceFits placeAfter
+    blockSet blocksRead blocksAsked
     valueRead afterRead registerSet turnOf optionTurned bufferTurned controlTurned zeros
     stored withSector sectorOf bufferRead readable writable marksFit badIn lowered
     readSector nextRead askSector nextAsked sectorDone sectorTest pastEnd addressTest sectorStored

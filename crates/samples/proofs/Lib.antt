@@ -2,6 +2,7 @@ pub mod Computing
 pub mod Samples
 pub mod Lazy
 pub mod ThreeMarks
+pub mod InBlocks
 pub mod WrongAddresses
 pub mod WrongCommands
 pub mod WrongRegisters

@@ -7,13 +7,13 @@ use Rattle.samples.specs.Parts.{put}
 use Rattle.samples.specs.ThreeMarks.{threeMarks, threeBad, asksOf, wordAt, leftAfter, identifiedAfter, written, erased}
 use Rattle.samples.proofs.Computing.{computing}
 
--- word 129 is 3, and the integrity word follows: 53A5H, for 56A5H with none
-pub three-told : (wordAt 129 (identifiedAfter []) ≡ 3) × (wordAt 255 (identifiedAfter []) ≡ 0x53A5)
+-- word 129 is 3, and the integrity word follows: 43A5H, for 46A5H with none
+pub three-told : (wordAt 129 (identifiedAfter []) ≡ 3) × (wordAt 255 (identifiedAfter []) ≡ 0x43A5)
 unfolding computing play threeMarks threeBad asksOf leftAfter identifiedAfter
 three-told = (refl, refl)
 
 -- after a write to one of them 2
-pub written-told : (wordAt 129 (identifiedAfter (written 3)) ≡ 2) × (wordAt 255 (identifiedAfter (written 3)) ≡ 0x54A5)
+pub written-told : (wordAt 129 (identifiedAfter (written 3)) ≡ 2) × (wordAt 255 (identifiedAfter (written 3)) ≡ 0x44A5)
 unfolding computing play threeMarks threeBad asksOf leftAfter identifiedAfter
 written-told = (refl, refl)
 

@@ -26,7 +26,7 @@ pub low-half-first-8 : holdsOf lowHalfFirst reader sample8 ≡ false
 unfolding computing lowHalfFirst
 low-half-first-8 = refl
 
--- word 255 is 56A5H after 91H
+-- word 255 is 46A5H after 91H
 pub integrity-stays-8 : holdsOf integrityStays reader sample8 ≡ false
 unfolding computing integrityStays
 integrity-stays-8 = refl

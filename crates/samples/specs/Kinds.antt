@@ -53,7 +53,7 @@ opcodeIn (WriteData p v) = 0x100
 abbrev pub readsAt : ℕ → Machine → Asked → Bool
 readsAt offset m a = eqb (readIn (meaning m a)) offset
 
--- it gives a command; any command; one that moves sectors: 20H 21H, 30H 31H, 40H 41H, C0H
+-- it gives a command; any command; one of 01's that move sectors: 20H 21H, 30H 31H, 40H 41H, C0H
 abbrev pub gives : ℕ → Machine → Asked → Bool
 gives opcode m a = eqb (opcodeIn (meaning m a)) opcode
 

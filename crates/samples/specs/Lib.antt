@@ -6,6 +6,7 @@ pub mod Kinds
 pub mod Faults
 pub mod Lazy
 pub mod ThreeMarks
+pub mod InBlocks
 pub mod WrongAddresses
 pub mod WrongCommands
 pub mod WrongRegisters

@@ -45,7 +45,7 @@ sample6 = ide (lba 3 30 ++ (put 7 0x20 ∷ (sector 30 ++ (sector 31 ++ (get 7 0x
 unfoldable pub sample7 : Sample
 sample7 = ide (lba 0 0 ++ (put 7 0x40 ∷ get 7 0x51 ∷ get 1 0x10 ∷ (shows 0 0 ++ coded 0x2F)))
 
--- Identify's words, of a card with current C 2, H 3, S 5: 57 and 58 are its capacity, 30; the bytes before the last add up to 2728, so that 58H is lacking
+-- Identify's words, of a card with current C 2, H 3, S 5: 57 and 58 are its capacity, 30; the bytes before the last add up to 2744, so that 48H is lacking
 unfoldable pub identified : List ℕ
 identified =
     0x848A
@@ -59,7 +59,7 @@ identified =
     ∷ 32
     ∷ 0
     ∷ (replicate 10 0x2020 ++ (replicate 3 0 ++ (replicate 24 0x2020
-    ++ (0 ∷ 0 ∷ 0x0200 ∷ 0 ∷ 0 ∷ 0 ∷ 1 ∷ 2 ∷ 3 ∷ 5 ∷ 30 ∷ 0 ∷ 0 ∷ 32 ∷ 0 ∷ (replicate 193 0 ++ (0x58A5 ∷ []))))))
+    ++ (0x0010 ∷ 0 ∷ 0x0200 ∷ 0 ∷ 0 ∷ 0 ∷ 1 ∷ 2 ∷ 3 ∷ 5 ∷ 30 ∷ 0 ∷ 0 ∷ 32 ∷ 0 ∷ (replicate 193 0 ++ (0x48A5 ∷ []))))))
 
 unfoldable pub wordLines : List ℕ → List Line
 wordLines [] = []

@@ -16,7 +16,7 @@ fn answer_line(answer: Answer) {
     numbers[1] = outcome.value();
     numbers[2] = trial_cards::rows::one_of(answer.line);
     lines::line(
-        b"A 10 3210 0 10 10 10 10 10 10 10 10 10 10 0 3210 3210 3210 0 0 3210 3210 3210\n",
+        b"A 10 3210 0 10 10 10 10 10 10 10 10 10 10 0 3210 3210 3210 0 0 3210 3210 3210 3210 3210 3210\n",
         &numbers,
     );
 }

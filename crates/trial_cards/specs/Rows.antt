@@ -1,5 +1,6 @@
--- The card value as a row of 31 numbers: 0 to 2 are for an answer, 3 to 21 are the card's as the A line of oracle/TRIAL.md shows them, the rest are
--- what it does not show. Default C is the last of these, and not beside default H and S: the A line's last field had to come after the others of it.
+-- The card value as a row of 35 numbers: 0 to 2 are for an answer, 3 to 24 are the card's as the A line of oracle/TRIAL.md shows them, the rest are
+-- what it does not show. A stride stands twice: 23 as it is shown, which is 0 where no sectors move, and 34 as a transfer that becomes one of sectors gets it,
+-- which is 1 then.
 use Prim.Native.Nat.{ℕ, _+_, _*_, _/_, _%_}
 use mathlib.Core.Bool.{Bool, true, false}
 use mathlib.Core.List.{List}
@@ -43,19 +44,19 @@ withOption l o k =
 
 abbrev pub withMade : List ℕ → Made → List ℕ
 withMade l m =
-    set (set (set (set l 30 (m .default .cylinders)) 22 (m .default .heads)) 23 (m .default .sectors)) 24 (modeNumber (m .mode))
+    set (set (set (set l 30 (m .default .cylinders)) 31 (m .default .heads)) 32 (m .default .sectors)) 33 (modeNumber (m .mode))
 
 abbrev pub stateRow : State → List ℕ
 stateRow s =
     withOption
     (withRegisters
-    (set (set (set (set (set (set (withMade (replicate 31 0) (s .made)) 12 (s .code)) 13 (oneOf (s .interrupt))) 14 (s .current .cylinders)) 15 (s .current .heads)) 16 (s .current .sectors)) 21 (s .bad))
+    (set (set (set (set (set (set (set (withMade (set (replicate 35 0) 34 1) (s .made)) 12 (s .code)) 13 (oneOf (s .interrupt))) 14 (s .current .cylinders)) 15 (s .current .heads)) 16 (s .current .sectors)) 21 (s .bad)) 22 (s .block))
     (s .registers))
     (s .option)
     (s .control)
 
 abbrev pub withLoad : List ℕ → Load → List ℕ
-withLoad l (Sectors left) = set (set l 20 left) 25 1
+withLoad l (Sectors left pace) = set (set (set (set (set l 20 left) 23 (pace .stride)) 24 (pace .place)) 25 1) 34 (pace .stride)
 withLoad l Buffer = l
 
 abbrev pub withTransfer : List ℕ → ℕ → Transfer → List ℕ

@@ -1,4 +1,4 @@
-// A card of a row of 31 numbers, and a card with one field set.
+// A card of a row of 35 numbers, and a card with one field set.
 use card::Card;
 use geometry::Address;
 use geometry::Geometry;
@@ -8,12 +8,13 @@ use registers::Control;
 use registers::Half;
 use registers::Load;
 use registers::Made;
+use registers::Pace;
 use registers::Phase;
 use registers::Registers;
 use registers::State;
 use registers::Transfer;
 ghost use mathlib.Core.Path.{_≡_};
-ghost use Rattle.trial_cards.specs.Cards.{halfOf, loadOf, madeOf, registersOf, stateOf, phaseWith, phaseOf, cardFromRow, takenOf, placeOf, withNumber, brokenOf};
+ghost use Rattle.trial_cards.specs.Cards.{halfOf, loadOf, paceOf, madeOf, registersOf, stateOf, phaseWith, phaseOf, cardFromRow, takenOf, placeOf, withNumber, brokenOf};
 ghost use Rattle.card.specs.Opening.{zeroCard};
 
 fn half_of(n: u16) -> Half
@@ -28,29 +29,29 @@ fn half_of(n: u16) -> Half
     Half::High
 }
 
-fn load_of(n: u16, left: u16) -> Load
-    ensures { λ r. ⌜ r ≡ loadOf n left ⌝ }
+fn load_of(n: u16, left: u16, pace: Pace) -> Load
+    ensures { λ r. ⌜ r ≡ loadOf n left pace ⌝ }
 {
     if n == 0 {
         return Load::Buffer;
     }
-    Load::Sectors(left)
+    Load::Sectors(left, pace)
 }
 
-fn made_of(row: [u16; 31]) -> Made
+fn made_of(row: [u16; 35]) -> Made
     ensures { λ r. ⌜ r ≡ madeOf row ⌝ }
 {
     Made {
-        mode: card::opening::mode_of(row[24]),
+        mode: card::opening::mode_of(row[33]),
         default: Geometry {
             cylinders: row[30],
-            heads: row[22],
-            sectors: row[23],
+            heads: row[31],
+            sectors: row[32],
         },
     }
 }
 
-fn registers_of(row: [u16; 31]) -> Registers
+fn registers_of(row: [u16; 35]) -> Registers
     ensures { λ r. ⌜ r ≡ registersOf row ⌝ }
 {
     Registers {
@@ -66,7 +67,7 @@ fn registers_of(row: [u16; 31]) -> Registers
     }
 }
 
-fn state_of(row: [u16; 31]) -> State
+fn state_of(row: [u16; 35]) -> State
     ensures { λ r. ⌜ r ≡ stateOf row ⌝ }
 {
     State {
@@ -85,6 +86,7 @@ fn state_of(row: [u16; 31]) -> State
         interrupt: row[13] % 2 == 1,
         code: (row[12] % 256) as u8,
         bad: row[21],
+        block: row[22],
     }
 }
 
@@ -100,18 +102,27 @@ fn phase_with(n: u16, t: Transfer) -> Phase
     Phase::DataOut(t)
 }
 
-fn phase_of(row: [u16; 31]) -> Phase
+fn pace_of(row: [u16; 35]) -> Pace
+    ensures { λ r. ⌜ r ≡ paceOf row ⌝ }
+{
+    Pace {
+        stride: row[34],
+        place: row[24],
+    }
+}
+
+fn phase_of(row: [u16; 35]) -> Phase
     ensures { λ r. ⌜ r ≡ phaseOf row ⌝ }
 {
     let t = Transfer {
-        load: load_of(row[25], row[20]),
+        load: load_of(row[25], row[20], pace_of(row)),
         half: half_of(row[18]),
         words: row[19],
     };
     phase_with(row[17], t)
 }
 
-fn card_from_row(row: [u16; 31], buffer: Sector) -> Card
+fn card_from_row(row: [u16; 35], buffer: Sector) -> Card
     ensures { λ r. ⌜ r ≡ cardFromRow row buffer ⌝ }
 {
     let phase = phase_of(row);
@@ -150,18 +161,18 @@ fn place_of(field: u16, value: u16) -> usize
 {
     if taken_of(field, value) {
         return ground::byte_or_zero(
-            b"\x00\x1E\x16\x17\x0E\x0F\x10\x1A\x1B\x1C\x1D\x0D\x03\x04\x05\x06\x07\x08\x09\x0C\x12\x13\x14\x18\x11\x19\x15",
+            b"\x00\x1E\x1F\x20\x0E\x0F\x10\x1A\x1B\x1C\x1D\x0D\x03\x04\x05\x06\x07\x08\x09\x0C\x12\x13\x14\x21\x11\x19\x15\x16\x22\x18",
             field as usize,
         ) as usize;
     }
     0
 }
 
-fn with_number(row: [u16; 31], at: usize, value: u16) -> [u16; 31]
+fn with_number(row: [u16; 35], at: usize, value: u16) -> [u16; 35]
     ensures { λ r. ⌜ r ≡ withNumber row at value ⌝ }
 {
     let mut r = row;
-    if at < 31 {
+    if at < 35 {
         r[at] = value;
     }
     r
@@ -181,5 +192,5 @@ pub fn broken_of(card: Card, field: u16, value: u16) -> Card
 pub fn zero() -> Card
     ensures { λ r. ⌜ r ≡ zeroCard ⌝ }
 {
-    card_from_row([0; 31], [0; SECTOR_BYTES])
+    card_from_row([0; 35], [0; SECTOR_BYTES])
 }

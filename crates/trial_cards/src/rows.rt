@@ -1,4 +1,4 @@
-// The card value as a row of 31 numbers.
+// The card value as a row of 35 numbers.
 use card::Card;
 use maps::Mode;
 use registers::Control;
@@ -41,7 +41,7 @@ fn half_number(half: Half) -> u16
     }
 }
 
-fn with_registers(row: [u16; 31], registers: Registers) -> [u16; 31]
+fn with_registers(row: [u16; 35], registers: Registers) -> [u16; 35]
     ensures { λ r. ⌜ r ≡ withRegisters row registers ⌝ }
 {
     let address = registers.address;
@@ -56,7 +56,7 @@ fn with_registers(row: [u16; 31], registers: Registers) -> [u16; 31]
     r
 }
 
-fn with_option(row: [u16; 31], option: u8, control: Control) -> [u16; 31]
+fn with_option(row: [u16; 35], option: u8, control: Control) -> [u16; 35]
     ensures { λ r. ⌜ r ≡ withOption row option control ⌝ }
 {
     let held = one_of(control.held);
@@ -71,30 +71,33 @@ fn with_option(row: [u16; 31], option: u8, control: Control) -> [u16; 31]
     r
 }
 
-fn with_made(row: [u16; 31], made: Made) -> [u16; 31]
+fn with_made(row: [u16; 35], made: Made) -> [u16; 35]
     ensures { λ r. ⌜ r ≡ withMade row made ⌝ }
 {
     let mode = made.mode;
     let default = made.default;
     let mut r = row;
     r[30] = default.cylinders;
-    r[22] = default.heads;
-    r[23] = default.sectors;
-    r[24] = mode_number(mode);
+    r[31] = default.heads;
+    r[32] = default.sectors;
+    r[33] = mode_number(mode);
     r
 }
 
-fn state_row(state: State) -> [u16; 31]
+fn state_row(state: State) -> [u16; 35]
     ensures { λ r. ⌜ r ≡ stateRow state ⌝ }
 {
     let current = state.current;
-    let mut r = with_made([0; 31], state.made);
+    let mut none = [0; 35];
+    none[34] = 1; // a transfer that becomes one of sectors moves them singly
+    let mut r = with_made(none, state.made);
     r[12] = ground::wide(state.code);
     r[13] = one_of(state.interrupt);
     r[14] = current.cylinders;
     r[15] = current.heads;
     r[16] = current.sectors;
     r[21] = state.bad;
+    r[22] = state.block;
     with_option(
         with_registers(r, state.registers),
         state.option,
@@ -102,21 +105,25 @@ fn state_row(state: State) -> [u16; 31]
     )
 }
 
-fn with_load(row: [u16; 31], load: Load) -> [u16; 31]
+fn with_load(row: [u16; 35], load: Load) -> [u16; 35]
     ensures { λ r. ⌜ r ≡ withLoad row load ⌝ }
 {
     let mut r = row;
     match load {
-        Load::Sectors(left) => {
+        Load::Sectors(left, pace) => {
+            let stride = pace.stride;
             r[20] = left;
+            r[23] = stride;
+            r[24] = pace.place;
             r[25] = 1;
+            r[34] = stride;
             r
         }
         Load::Buffer => r,
     }
 }
 
-fn with_transfer(row: [u16; 31], phase: u16, t: Transfer) -> [u16; 31]
+fn with_transfer(row: [u16; 35], phase: u16, t: Transfer) -> [u16; 35]
     ensures { λ r. ⌜ r ≡ withTransfer row phase t ⌝ }
 {
     let half = t.half;
@@ -128,7 +135,7 @@ fn with_transfer(row: [u16; 31], phase: u16, t: Transfer) -> [u16; 31]
     with_load(r, load)
 }
 
-fn with_phase(row: [u16; 31], phase: Phase) -> [u16; 31]
+fn with_phase(row: [u16; 35], phase: Phase) -> [u16; 35]
     ensures { λ r. ⌜ r ≡ withPhase row phase ⌝ }
 {
     match phase {
@@ -138,7 +145,7 @@ fn with_phase(row: [u16; 31], phase: Phase) -> [u16; 31]
     }
 }
 
-pub fn row_of(card: Card) -> [u16; 31]
+pub fn row_of(card: Card) -> [u16; 35]
     ensures { λ r. ⌜ r ≡ rowOf card ⌝ }
 {
     let state = card.state;

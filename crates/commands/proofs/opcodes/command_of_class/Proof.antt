@@ -53,7 +53,19 @@ returns-12 c = simp (c .match .keys12)
 
 returns-13 : tie.Need-returns-13
 unfolding commandOfClass
-returns-13 c = search tests
+returns-13 c = simp (c .match .keys13)
+
+returns-14 : tie.Need-returns-14
+unfolding commandOfClass
+returns-14 c = simp (c .match .keys14)
+
+returns-15 : tie.Need-returns-15
+unfolding commandOfClass
+returns-15 c = simp (c .match .keys15)
+
+returns-16 : tie.Need-returns-16
+unfolding commandOfClass
+returns-16 c = search tests
 
 pub command-of-class-spec : {M : Type 1} → statement M
 command-of-class-spec =
@@ -71,4 +83,7 @@ command-of-class-spec =
     returns-10
     returns-11
     returns-12
-    returns-13)
+    returns-13
+    returns-14
+    returns-15
+    returns-16)

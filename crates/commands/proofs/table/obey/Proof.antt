@@ -9,26 +9,20 @@ started-requires c κs = search needs
 enum-told : tie.Need-enum-told
 enum-told c = search needs
 
-count-of-requires : tie.Need-count-of-requires
-count-of-requires c κs = search needs
-
-read-sector-requires : tie.Need-read-sector-requires
-read-sector-requires c κs = search needs
+read-requires : tie.Need-read-requires
+read-requires c κs = search needs
 
 enum-told-2 : tie.Need-enum-told-2
 enum-told-2 c = search needs
 
-count-of-requires-2 : tie.Need-count-of-requires-2
-count-of-requires-2 c κs = search needs
-
-ask-sector-requires : tie.Need-ask-sector-requires
-ask-sector-requires c κs = search needs
+ask-requires : tie.Need-ask-requires
+ask-requires c κs = search needs
 
 enum-told-3 : tie.Need-enum-told-3
 enum-told-3 c = search needs
 
-count-of-requires-3 : tie.Need-count-of-requires-3
-count-of-requires-3 c κs = search needs
+count-of-requires : tie.Need-count-of-requires
+count-of-requires c κs = search needs
 
 verify-run-requires : tie.Need-verify-run-requires
 verify-run-requires c κs = search needs
@@ -36,8 +30,8 @@ verify-run-requires c κs = search needs
 enum-told-4 : tie.Need-enum-told-4
 enum-told-4 c = search needs
 
-count-of-requires-4 : tie.Need-count-of-requires-4
-count-of-requires-4 c κs = search needs
+count-of-requires-2 : tie.Need-count-of-requires-2
+count-of-requires-2 c κs = search needs
 
 erase-run-requires : tie.Need-erase-run-requires
 erase-run-requires c κs = search needs
@@ -99,6 +93,30 @@ sense-requires c κs = search needs
 enum-told-13 : tie.Need-enum-told-13
 enum-told-13 c = search needs
 
+set-block-requires : tie.Need-set-block-requires
+set-block-requires c κs = search needs
+
+enum-told-14 : tie.Need-enum-told-14
+enum-told-14 c = search needs
+
+count-of-requires-3 : tie.Need-count-of-requires-3
+count-of-requires-3 c κs = search needs
+
+read-blocks-requires : tie.Need-read-blocks-requires
+read-blocks-requires c κs = search needs
+
+enum-told-15 : tie.Need-enum-told-15
+enum-told-15 c = search needs
+
+count-of-requires-4 : tie.Need-count-of-requires-4
+count-of-requires-4 c κs = search needs
+
+ask-blocks-requires : tie.Need-ask-blocks-requires
+ask-blocks-requires c κs = search needs
+
+enum-told-16 : tie.Need-enum-told-16
+enum-told-16 c = search needs
+
 ended-requires-3 : tie.Need-ended-requires-3
 ended-requires-3 c κs = search needs
 
@@ -111,14 +129,10 @@ same-length-2 c = search needs
 returns : tie.Need-returns
 returns c =
     let c4 = c .before .before .before .before in
-    let c5 = c4 .before in
-    let c7 = c5 .before .before in
-    simp (c5 .enum-told .given .1) (simp (c7 .started .ensures, c4 .count-of .ensures) at (c .read-sector .ensures))
+    simp (c4 .enum-told .given .1) (simp (c4 .before .before .started .ensures) at (c .read .ensures))
 
 returns-2 : tie.Need-returns-2
-returns-2 c =
-    let c4 = c .before .before .before .before in
-    simp (c .before .before .enum-told2 .given .1, c .ask-sector .ensures, c .before .count-of2 .ensures, c4 .started .ensures)
+returns-2 c = simp (c .before .enum-told2 .given .1, c .ask .ensures, c .before .before .before .started .ensures)
 
 same-length-3 : tie.Need-same-length-3
 same-length-3 c = search needs
@@ -126,7 +140,7 @@ same-length-3 c = search needs
 returns-3 : tie.Need-returns-3
 returns-3 c =
     let c5 = c .before .before .before .before .before in
-    simp (c .before .before .before .enum-told3 .given .1, c .verify-run .ensures, c .before .before .count-of3 .ensures, c5 .started .ensures)
+    simp (c .before .before .before .enum-told3 .given .1, c .verify-run .ensures, c .before .before .count-of .ensures, c5 .started .ensures)
 
 same-length-4 : tie.Need-same-length-4
 same-length-4 c = search needs
@@ -140,7 +154,7 @@ returns-4 c =
     let c7 = c4 .before .before .before in
     let c8 = c7 .before in
     let c10 = c8 .before .before in
-    let w = simp (c7 .count-of4 .ensures, c10 .started .ensures) at (sym (c4 .erase-run .ensures)) in
+    let w = simp (c7 .count-of2 .ensures, c10 .started .ensures) at (sym (c4 .erase-run .ensures)) in
     simp (c8 .enum-told4 .given .1, w)
 
 returns-5 : tie.Need-returns-5
@@ -172,7 +186,27 @@ returns-12 : tie.Need-returns-12
 returns-12 c = simp (c .before .enum-told12 .given .1, c .sense .ensures)
 
 returns-13 : tie.Need-returns-13
-returns-13 c = simp (c .before .enum-told13 .given .1, c .ended3 .ensures, c .before .before .before .started .ensures)
+returns-13 c = simp (c .before .enum-told13 .given .1, c .set-block .ensures, c .before .before .before .started .ensures)
+
+same-length-6 : tie.Need-same-length-6
+same-length-6 c = search needs
+
+same-length-7 : tie.Need-same-length-7
+same-length-7 c = search needs
+
+returns-14 : tie.Need-returns-14
+returns-14 c =
+    let c4 = c .before .before .before .before in
+    let c7 = c4 .before .before .before in
+    simp (c4 .before .enum-told14 .given .1) (simp (c7 .started .ensures, c4 .count-of3 .ensures) at (c .read-blocks .ensures))
+
+returns-15 : tie.Need-returns-15
+returns-15 c =
+    let c4 = c .before .before .before .before in
+    simp (c .before .before .enum-told15 .given .1, c .ask-blocks .ensures, c .before .count-of4 .ensures, c4 .started .ensures)
+
+returns-16 : tie.Need-returns-16
+returns-16 c = simp (c .before .enum-told16 .given .1, c .ended3 .ensures, c .before .before .before .started .ensures)
 
 pub obey-spec : {M : Type 1} → statement M
 obey-spec =
@@ -180,16 +214,14 @@ obey-spec =
     (tie.spec
     started-requires
     enum-told
-    count-of-requires
-    read-sector-requires
+    read-requires
     enum-told-2
-    count-of-requires-2
-    ask-sector-requires
+    ask-requires
     enum-told-3
-    count-of-requires-3
+    count-of-requires
     verify-run-requires
     enum-told-4
-    count-of-requires-4
+    count-of-requires-2
     erase-run-requires
     enum-told-5
     identify-requires
@@ -210,6 +242,14 @@ obey-spec =
     enum-told-12
     sense-requires
     enum-told-13
+    set-block-requires
+    enum-told-14
+    count-of-requires-3
+    read-blocks-requires
+    enum-told-15
+    count-of-requires-4
+    ask-blocks-requires
+    enum-told-16
     ended-requires-3
     same-length
     same-length-2
@@ -228,4 +268,9 @@ obey-spec =
     returns-10
     returns-11
     returns-12
-    returns-13)
+    returns-13
+    same-length-6
+    same-length-7
+    returns-14
+    returns-15
+    returns-16)

@@ -76,10 +76,25 @@ returns-9 : tie.Need-returns-9
 unfolding wellMade
 returns-9 c = sym (one-fails _ 8 (sym (c .before .bad-fits .ensures) ∙ un-not _ _ (c .if9 .taken)))
 
+block-fits-requires : tie.Need-block-fits-requires
+block-fits-requires c κs = search needs
+
 returns-10 : tie.Need-returns-10
+unfolding wellMade
+returns-10 c = sym (one-fails _ 9 (sym (c .before .block-fits .ensures) ∙ un-not _ _ (c .if10 .taken)))
+
+pace-fits-requires : tie.Need-pace-fits-requires
+pace-fits-requires c κs = search needs
+
+returns-11 : tie.Need-returns-11
+unfolding wellMade
+returns-11 c = sym (one-fails _ 10 (sym (c .before .pace-fits .ensures) ∙ un-not _ _ (c .if11 .taken)))
+
+returns-12 : tie.Need-returns-12
 unfolding wellMade every
-returns-10 c =
-    let c2 = c .before .before in
+returns-12 c =
+    let b0 = c .before .before .before .before in
+    let c2 = b0 .before .before in
     let c6 = c2 .before .before .before .before in
     let c7 = c6 .before in
     let c8 = c7 .before in
@@ -102,8 +117,10 @@ returns-10 c =
     let w6 = sym (simp (c8 .in-reset .ensures) at (c7 .hold-fits .ensures)) ∙ un-not _ _ (c6 .if6 .left) in
     let w7 = sym (c2 .before .before .before .words-fit .ensures) ∙ un-not _ _ (c2 .before .before .if7 .left) in
     let w8 = sym (c2 .before .run-fits .ensures) ∙ un-not _ _ (c2 .if8 .left) in
-    let w9 = sym (c .before .bad-fits .ensures) ∙ un-not _ _ (c .if9 .left) in
-    simp (w1, w2, w3, w4, w5, w6, w7, w8, w9)
+    let w9 = sym (b0 .before .bad-fits .ensures) ∙ un-not _ _ (b0 .if9 .left) in
+    let w10 = sym (c .before .before .before .block-fits .ensures) ∙ un-not _ _ (c .before .before .if10 .left) in
+    let w11 = sym (c .before .pace-fits .ensures) ∙ un-not _ _ (c .if11 .left) in
+    simp (w1, w2, w3, w4, w5, w6, w7, w8, w9, w10, w11)
 
 pub well-made-spec : {M : Type 1} → statement M
 well-made-spec =
@@ -129,4 +146,8 @@ well-made-spec =
     returns-8
     bad-fits-requires
     returns-9
-    returns-10)
+    block-fits-requires
+    returns-10
+    pace-fits-requires
+    returns-11
+    returns-12)

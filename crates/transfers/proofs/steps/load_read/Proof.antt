@@ -14,6 +14,9 @@ enum-known-load c = search needs
 less-one-requires : tie.Need-less-one-requires
 less-one-requires c κs = search needs
 
+after-requires : tie.Need-after-requires
+after-requires c κs = search needs
+
 next-read-requires : tie.Need-next-read-requires
 next-read-requires c κs = search needs
 
@@ -21,7 +24,9 @@ returns : tie.Need-returns
 returns c = simp (c .before .enum-told .given .1, c .reading-ended .ensures)
 
 returns-2 : tie.Need-returns-2
-returns-2 c = simp (c .before .before .before .before .load .given .1) (simp (c .before .before .less-one .ensures) at (c .next-read .ensures))
+returns-2 c =
+    let c3 = c .before .before .before in
+    simp (c3 .before .before .load .given .1) (simp (c3 .less-one .ensures, c .before .before .after .ensures) at (c .next-read .ensures))
 
 pub load-read-spec : {M : Type 1} → statement M
 load-read-spec =
@@ -31,6 +36,7 @@ load-read-spec =
     reading-ended-requires
     enum-known-load
     less-one-requires
+    after-requires
     next-read-requires
     returns
     returns-2)

@@ -17,6 +17,9 @@ sector-stored-requires c κs = search needs
 less-one-requires : tie.Need-less-one-requires
 less-one-requires c κs = search needs
 
+after-requires : tie.Need-after-requires
+after-requires c κs = search needs
+
 core-written-requires : tie.Need-core-written-requires
 core-written-requires c κs = search needs
 
@@ -31,9 +34,9 @@ same-length-2 c = search needs
 
 returns-2 : tie.Need-returns-2
 returns-2 c =
-    let c6 = c .before .before .before .before .before .before in
-    let c10 = c6 .before .before .before .before in
-    rw (c10 .load .given .1, ← c6 .sector-stored .ensures, ← c .before .less-one .ensures, c .core-written .ensures)
+    let c7 = c .before .before .before .before .before .before .before in
+    let c11 = c7 .before .before .before .before in
+    rw (c11 .load .given .1, ← c7 .sector-stored .ensures, ← c .before .before .less-one .ensures, ← c .before .after .ensures, c .core-written .ensures)
 
 pub load-written-spec : {M : Type 1} → statement M
 load-written-spec =
@@ -44,6 +47,7 @@ load-written-spec =
     enum-known-load
     sector-stored-requires
     less-one-requires
+    after-requires
     core-written-requires
     returns
     same-length

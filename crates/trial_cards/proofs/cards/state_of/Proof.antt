@@ -50,6 +50,9 @@ cast-t48 c = search needs
 array-read-t51 : tie.Need-array-read-t51
 array-read-t51 c = search needs
 
+array-read-t54 : tie.Need-array-read-t54
+array-read-t54 c = search needs
+
 returns : tie.Need-returns
 returns c = simp (c .registers-of .ensures, c .before .made-of .ensures)
 
@@ -73,4 +76,5 @@ state-of-spec =
     array-read-t46
     cast-t48
     array-read-t51
+    array-read-t54
     returns)

@@ -2,6 +2,9 @@ use borrow.Author.Needs.{needs}
 use Rattle.trial_cards.proofs.rows.state_row.Statement.{statement}
 use Rattle.trial_cards.proofs.rows.state_row.Tie as tie
 
+array-write-none : tie.Need-array-write-none
+array-write-none c = search needs
+
 with-made-requires : tie.Need-with-made-requires
 with-made-requires c κs = search needs
 
@@ -29,6 +32,9 @@ array-write-r-5 c = search needs
 array-write-r-6 : tie.Need-array-write-r-6
 array-write-r-6 c = search needs
 
+array-write-r-7 : tie.Need-array-write-r-7
+array-write-r-7 c = search needs
+
 with-registers-requires : tie.Need-with-registers-requires
 with-registers-requires c κs = search needs
 
@@ -44,6 +50,7 @@ pub state-row-spec : {M : Type 1} → statement M
 state-row-spec =
     tie.close
     (tie.spec
+    array-write-none
     with-made-requires
     wide-requires
     array-write-r
@@ -53,6 +60,7 @@ state-row-spec =
     array-write-r-4
     array-write-r-5
     array-write-r-6
+    array-write-r-7
     with-registers-requires
     with-option-requires
     returns)

@@ -11,6 +11,15 @@ array-write-r c = search needs
 array-write-r-2 : tie.Need-array-write-r-2
 array-write-r-2 c = search needs
 
+array-write-r-3 : tie.Need-array-write-r-3
+array-write-r-3 c = search needs
+
+array-write-r-4 : tie.Need-array-write-r-4
+array-write-r-4 c = search needs
+
+array-write-r-5 : tie.Need-array-write-r-5
+array-write-r-5 c = search needs
+
 enum-told : tie.Need-enum-told
 enum-told c = search needs
 
@@ -22,4 +31,14 @@ returns-2 c = search needs
 
 pub with-load-spec : {M : Type 1} → statement M
 with-load-spec =
-    tie.close (tie.spec enum-known-load array-write-r array-write-r-2 enum-told returns returns-2)
+    tie.close
+    (tie.spec
+    enum-known-load
+    array-write-r
+    array-write-r-2
+    array-write-r-3
+    array-write-r-4
+    array-write-r-5
+    enum-told
+    returns
+    returns-2)

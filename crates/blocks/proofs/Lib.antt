@@ -1,0 +1,11 @@
+pub mod Bare
+pub mod BareAccess
+pub mod Alike
+pub mod Multiple
+pub mod Seen
+pub mod Turns
+pub mod Comes
+pub mod Marks
+pub mod SoFar
+pub mod Counted
+pub mod ByBlock
