@@ -1,5 +1,7 @@
 // What every crate stands on: the sizes of 01, and small functions; in its definitions the choice by a test, rows, tables and what a call leaves, and the
 // laws about tests and lists that the proofs cite.
+#![tactic(auto)]
+
 ghost use Rattle.std.specs.Prelude.{◌≡◌, ◌<◌, ◌≤◌, min, length, get_or};
 ghost use Rattle.ground.specs.Sizes.{sector_bytes};
 
