@@ -1,9 +1,11 @@
 // The answers of document 01: accepted with a value, or refused by one row of its table.
+#![tactic(auto)]
+
 ghost use Rattle.std.specs.Prelude.{◌≡◌};
 ghost use Rattle.answers.specs.Answers.{number_of, outcome_number, outcome_value};
 
 // 01, "Answers": a case for each row of the table, in the order of the numbers.
-#[derive(Drop)]
+#[derive(Clone, Copy)]
 pub enum Refusal {
     GeometryOrMode,
     StoreLength,
@@ -25,7 +27,7 @@ pub enum Refusal {
 }
 
 // What an access, an opening, the reader or the writer comes to.
-#[derive(Drop)]
+#[derive(Clone, Copy)]
 pub enum Outcome {
     Accepted(u16),
     Refused(Refusal),
