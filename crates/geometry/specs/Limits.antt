@@ -35,7 +35,7 @@ fits g = every (limits g)
 unfoldable pub total_of : Geometry → ℕ
 total_of g = pick (fits g) (capacity_of g) 0
 
--- N div (H-as-S)
+-- N div (H·S)
 abbrev pub cylinders_for : ℕ → ℕ → ℕ → ℕ
 cylinders_for heads sectors total = total / (heads * sectors)
 

@@ -1,4 +1,6 @@
 // The card's geometry: its limits, a sector's address and the one after it, and the geometry that 91H asks for (document 01, "What is lent" and "Commands").
+#![tactic(auto)]
+
 pub mod addresses;
 pub mod limits;
 pub mod next;
@@ -11,7 +13,7 @@ pub const BAD_CYLINDER_OR_LBA_CODE: u8 = 0x2F;
 
 pub const BAD_GEOMETRY_CODE: u8 = 0x21;
 
-#[derive(Drop)]
+#[derive(Clone, Copy)]
 pub struct Geometry {
     pub cylinders: u16,
     pub sectors: u16,
@@ -19,7 +21,7 @@ pub struct Geometry {
 }
 
 // The address registers: Sector Number, Cylinder Low, Cylinder High, Drive/Head.
-#[derive(Drop)]
+#[derive(Clone, Copy)]
 pub struct Address {
     pub sector: u8,
     pub low: u8,
@@ -28,13 +30,13 @@ pub struct Address {
 }
 
 // Where a sector stands in the store, and how many remain from there to the end of what its way of addressing reaches, that one among them.
-#[derive(Drop)]
+#[derive(Clone, Copy)]
 pub struct Spot {
     pub index: usize,
     pub remain: usize,
 }
 
-#[derive(Drop)]
+#[derive(Clone, Copy)]
 pub enum Located {
     Good(Spot),
     BadHeadOrSector,
@@ -42,7 +44,7 @@ pub enum Located {
     BadLba,
 }
 
-#[derive(Drop)]
+#[derive(Clone, Copy)]
 pub enum Sought {
     Good,
     BadHead,
@@ -50,7 +52,7 @@ pub enum Sought {
     BadLba,
 }
 
-#[derive(Drop)]
+#[derive(Clone, Copy)]
 pub enum Reshaped {
     Taken(Geometry),
     Refused,

@@ -5,7 +5,7 @@ ghost use Rattle.geometry.specs.Limits.{capacity_of, shape_fits, fits, total_of,
 use super::Geometry;
 
 impl Geometry {
-    // C.H.S, of any 16-bit numbers.
+    // C·H·S, of any 16-bit numbers.
     pub fn capacity(self) -> usize
         ensures { result ≡ capacity_of self }
     {
