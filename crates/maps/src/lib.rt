@@ -1,5 +1,7 @@
 // 01, "Maps": from space, index, address, width and value to what an access finds, or its refusal.
 // Spaces: 0 attribute, 1 memory, 2 I/O, 3 True IDE.
+#![tactic(auto)]
+
 use answers::Refusal;
 
 pub mod offsets;
@@ -7,7 +9,7 @@ pub mod places;
 pub mod rows;
 
 // 01, "What is lent": mode 0 and mode 1.
-#[derive(Drop)]
+#[derive(Clone, Copy)]
 pub enum Mode {
     PcCard,
     TrueIde,
@@ -17,7 +19,7 @@ pub enum Mode {
 pub const OPTION_ADDRESS: u16 = 0x200;
 
 // An access: any space, width, address and value, read or write.
-#[derive(Drop)]
+#[derive(Clone, Copy)]
 pub struct Access {
     pub space: u8,
     pub width: u8,
@@ -27,7 +29,7 @@ pub struct Access {
 }
 
 // 01, "Maps": the registers that the offsets name; what a register is in a read and in a write stands in one name.
-#[derive(Drop)]
+#[derive(Clone, Copy)]
 pub enum Register {
     ErrorFeature,
     SectorCount,
@@ -41,7 +43,7 @@ pub enum Register {
 }
 
 // The data port: its even place (a byte at offset 0 or 8), its odd place (a byte at 9), or a word (at 0 or 8).
-#[derive(Drop)]
+#[derive(Clone, Copy)]
 pub enum Port {
     Even,
     Odd,
@@ -49,7 +51,7 @@ pub enum Port {
 }
 
 // What is read or written: a tuple byte by its number, the Configuration Option Register, a register, or the data port.
-#[derive(Drop)]
+#[derive(Clone, Copy)]
 pub enum Target {
     Tuple(u8),
     Option,
@@ -59,7 +61,7 @@ pub enum Target {
 
 // What stands at an address: no space that answers, nothing, what is read and written by single bytes, or an even data address, where a word is
 // allowed too.
-#[derive(Drop)]
+#[derive(Clone, Copy)]
 pub enum Place {
     Silent,
     Nothing,
@@ -68,7 +70,7 @@ pub enum Place {
 }
 
 // What an access finds: what is read or written there, or its refusal by row 7, 6, 9 or 10.
-#[derive(Drop)]
+#[derive(Clone, Copy)]
 pub enum Standing {
     There(Target),
     Refused(Refusal),
