@@ -24,7 +24,7 @@ pub fn writable(mark: u8) -> bool
 }
 
 // What one walk over all marks finds.
-#[derive(Drop)]
+#[derive(Clone, Copy)]
 pub struct Counted {
     pub bad: usize, // how many are not 0
     pub fit: bool, // whether none is above 2
