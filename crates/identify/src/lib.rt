@@ -1,4 +1,6 @@
 // Identify: 256 words, from the default and the current geometry and the number of marks that are not 0; the last of them is the integrity word.
+#![tactic(auto)]
+
 ghost use Rattle.std.specs.Prelude.{◌≡◌, ◌/◌};
 ghost use Rattle.ground.specs.Choice.{within};
 ghost use Rattle.ground.specs.Tables.{lookup};
@@ -17,7 +19,7 @@ const TABLE_BYTES: usize = 124;
 const BAD_AT: usize = 258;
 
 // What Identify tells.
-#[derive(Drop)]
+#[derive(Clone, Copy)]
 pub struct Facts {
     pub default: Geometry,
     pub current: Geometry,
@@ -55,7 +57,7 @@ impl Facts {
         default.total() as usize
     }
 
-    // Current C.H.S.
+    // Current C·H·S.
     fn capacity(self) -> usize
         ensures { result ≡ capacity_of self.current }
     {
