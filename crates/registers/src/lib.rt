@@ -1,5 +1,7 @@
 // The card's state without its buffer: registers, geometries, transfer, the two resets, the interrupt mark, the number of bad sectors, the block;
 // what is well made; what reading and writing a register does, but for a command.
+#![tactic(auto)]
+
 use geometry::{Address, Geometry};
 use maps::Mode;
 
@@ -32,7 +34,7 @@ pub const ABRT: u8 = 0x04;
 pub const POWER_ON_ERROR: u8 = 0x01;
 
 // 01, "Data": within a word nothing, the low half or the high half has moved.
-#[derive(Drop)]
+#[derive(Clone, Copy)]
 pub enum Half {
     Nothing,
     Low,
@@ -41,35 +43,35 @@ pub enum Half {
 
 // 02, "One": how sectors follow each other in blocks. A stride is how many sectors a block has: one for 20H and 30H, the card's block for C4H and C5H.
 // A place is how many sectors of the running block have moved.
-#[derive(Drop)]
+#[derive(Clone, Copy)]
 pub struct Pace {
     pub place: u16,
     pub stride: u16,
 }
 
 // What moves: sectors, with how many are left, the present one included, and their pace; or the buffer.
-#[derive(Drop)]
+#[derive(Clone, Copy)]
 pub enum Load {
     Sectors(u16, Pace),
     Buffer,
 }
 
 // The order of the fields here and below is the one of those tried that takes the fewest instructions in a run (bench/); it means nothing else.
-#[derive(Drop)]
+#[derive(Clone, Copy)]
 pub struct Transfer {
     pub words: u16,
     pub load: Load,
     pub half: Half,
 }
 
-#[derive(Drop)]
+#[derive(Clone, Copy)]
 pub enum Phase {
     Idle,
     DataIn(Transfer),
     DataOut(Transfer),
 }
 
-#[derive(Drop)]
+#[derive(Clone, Copy)]
 pub struct Registers {
     pub error: u8,
     pub count: u8,
@@ -78,21 +80,21 @@ pub struct Registers {
 }
 
 // What the opening fixes.
-#[derive(Drop)]
+#[derive(Clone, Copy)]
 pub struct Made {
     pub mode: Mode,
     pub default: Geometry,
 }
 
 // Device Control: bit 2 holds the card, bit 1 masks the interrupt line.
-#[derive(Drop)]
+#[derive(Clone, Copy)]
 pub struct Control {
     pub held: bool,
     pub masked: bool,
 }
 
 // All of the card but its phase and its buffer.
-#[derive(Drop)]
+#[derive(Clone, Copy)]
 pub struct State {
     pub code: u8,
     pub current: Geometry,
@@ -106,7 +108,7 @@ pub struct State {
 }
 
 // The card without its buffer.
-#[derive(Drop)]
+#[derive(Clone, Copy)]
 pub struct Core {
     pub phase: Phase,
     pub state: State,

@@ -6,7 +6,7 @@ use super::{Core, Phase, State};
 use ground::{SECTOR_BYTES, Sector};
 
 // What writing a reset's bit does to the hold.
-#[derive(Drop)]
+#[derive(Clone, Copy)]
 pub enum Turn {
     Enter,
     Leave,

@@ -202,6 +202,8 @@ impl Phase {
 }
 
 impl Core {
+    // Once a run: kept out of the loop over its accesses, which is the faster for it.
+    #[inline(never)]
     pub fn well_made(self) -> bool
         ensures { result ≡ well_made self.phase self.state }
     {
