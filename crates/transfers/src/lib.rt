@@ -1,4 +1,6 @@
 // Sectors and the transfer that moves them: how a command ends, the tests before a sector, a transfer's start, and what the last byte of a sector does.
+#![tactic(auto)]
+
 pub mod before;
 pub mod ends;
 pub mod steps;
@@ -13,7 +15,7 @@ pub const WRITE_FAULT_CODE: u8 = 0x03;
 pub const NO_SUCH_COMMAND_CODE: u8 = 0x20;
 
 // How a command ends: well, or by the test of the command table that failed.
-#[derive(Drop)]
+#[derive(Clone, Copy)]
 pub enum End {
     Good,
     BadHeadOrSector,
@@ -27,28 +29,28 @@ pub enum End {
 }
 
 // What the tests before a sector say.
-#[derive(Drop)]
+#[derive(Clone, Copy)]
 pub enum Tested {
     Passes(Spot),
     Fails(End),
 }
 
 // What storing a sector gives: what the tests before it said, and the number of marks that are not 0, as it is then.
-#[derive(Drop)]
+#[derive(Clone, Copy)]
 pub struct Stored {
     pub tested: Tested,
     pub bad: u16,
 }
 
 // Which way a sector or the buffer goes: in, where it is read (a sector also verified), or out, where it is written (a sector also erased).
-#[derive(Drop)]
+#[derive(Clone, Copy)]
 pub enum Way {
     In,
     Out,
 }
 
 // Which write sector is asked for: the first of a command, or a later one.
-#[derive(Drop)]
+#[derive(Clone, Copy)]
 pub enum Order {
     First,
     Later,
