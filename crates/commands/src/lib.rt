@@ -1,11 +1,13 @@
 // Which command each opcode is, the command table, the commands of blocks, and the commands that run over sectors with no data moved.
+#![tactic(auto)]
+
 pub mod blocks;
 mod opcodes;
 pub mod sweeps;
 pub mod table;
 
 // The rows of the command table.
-#[derive(Drop)]
+#[derive(Clone, Copy)]
 pub enum Command {
     // 20H 21H
     Read,

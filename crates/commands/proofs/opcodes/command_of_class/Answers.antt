@@ -1,0 +1,67 @@
+use Rattle.ground.proofs.Tests.{tests}
+use Rattle.commands.specs.Opcodes.{command_of_class}
+use Rattle.commands.proofs.opcodes.command_of_class.Goals as goal
+
+pub returns-in-1 : goal.returns-in-1
+unfolding command_of_class
+returns-in-1 c = simp c.in-1.is
+
+pub returns-in-2 : goal.returns-in-2
+unfolding command_of_class
+returns-in-2 c = simp c.in-2.is
+
+pub returns-in-3 : goal.returns-in-3
+unfolding command_of_class
+returns-in-3 c = simp c.in-3.is
+
+pub returns-in-4 : goal.returns-in-4
+unfolding command_of_class
+returns-in-4 c = simp c.in-4.is
+
+pub returns-in-5 : goal.returns-in-5
+unfolding command_of_class
+returns-in-5 c = simp c.in-5.is
+
+pub returns-in-6 : goal.returns-in-6
+unfolding command_of_class
+returns-in-6 c = simp c.in-6.is
+
+pub returns-in-7 : goal.returns-in-7
+unfolding command_of_class
+returns-in-7 c = simp c.in-7.is
+
+pub returns-in-8 : goal.returns-in-8
+unfolding command_of_class
+returns-in-8 c = simp c.in-8.is
+
+pub returns-in-9 : goal.returns-in-9
+unfolding command_of_class
+returns-in-9 c = simp c.in-9.is
+
+pub returns-in-10 : goal.returns-in-10
+unfolding command_of_class
+returns-in-10 c = simp c.in-10.is
+
+pub returns-in-11 : goal.returns-in-11
+unfolding command_of_class
+returns-in-11 c = simp c.in-11.is
+
+pub returns-in-12 : goal.returns-in-12
+unfolding command_of_class
+returns-in-12 c = simp c.in-12.is
+
+pub returns-in-13 : goal.returns-in-13
+unfolding command_of_class
+returns-in-13 c = simp c.in-13.is
+
+pub returns-in-14 : goal.returns-in-14
+unfolding command_of_class
+returns-in-14 c = simp c.in-14.is
+
+pub returns-in-15 : goal.returns-in-15
+unfolding command_of_class
+returns-in-15 c = simp c.in-15.is
+
+pub returns-in_default : goal.returns-in_default
+unfolding command_of_class
+returns-in_default c = search tests
