@@ -1,4 +1,6 @@
 // The data port: words and bytes, either half first.
+#![tactic(auto)]
+
 ghost use Rattle.std.specs.Prelude.{◌≡◌};
 
 use answers::{Outcome, Refusal};
@@ -8,7 +10,7 @@ pub mod data;
 pub mod halves;
 
 // What of a word an access moves.
-#[derive(Drop)]
+#[derive(Clone, Copy)]
 pub enum Part {
     Low,
     High,
@@ -16,21 +18,21 @@ pub enum Part {
 }
 
 // What becomes of the word with that part: it is begun, or full.
-#[derive(Drop)]
+#[derive(Clone, Copy)]
 pub enum Fill {
     Begun,
     Full,
 }
 
 // Whether a part may move: it is refused, or it moves, with what becomes of the word.
-#[derive(Drop)]
+#[derive(Clone, Copy)]
 pub enum Take {
     Refused,
     Moves(Part, Fill),
 }
 
 // An access's outcome, and the card without its buffer after it.
-#[derive(Drop)]
+#[derive(Clone, Copy)]
 pub struct Done {
     pub outcome: Outcome,
     pub core: Core,
