@@ -1,4 +1,6 @@
 // The card: opening, access and the two resets, by value; what an access means, and what it does.
+#![tactic(auto)]
+
 use answers::{Outcome, Refusal};
 use ground::Sector;
 use maps::{Port, Register};
@@ -11,7 +13,7 @@ pub mod perform;
 pub mod step;
 
 // 01: the card itself goes in and comes back by value.
-#[derive(Drop)]
+#[derive(Clone, Copy)]
 pub struct Card {
     pub phase: Phase,
     pub state: State,
@@ -19,7 +21,7 @@ pub struct Card {
 }
 
 // What an access means.
-#[derive(Drop)]
+#[derive(Clone, Copy)]
 pub enum Meaning {
     Refused(Refusal),
     TupleByte(u8),
@@ -32,14 +34,14 @@ pub enum Meaning {
 }
 
 // What rows 12, 2, 3 and 5 say of every access to a card with what is lent to it: no access changes it.
-#[derive(Drop)]
+#[derive(Clone, Copy)]
 pub enum Verdict {
     Fit,
     Refused(Refusal),
 }
 
 // The answer of the doors: the next card is in it.
-#[derive(Drop)]
+#[derive(Clone, Copy)]
 pub struct Answer {
     pub outcome: Outcome,
     pub line: bool,

@@ -87,6 +87,8 @@ fn powered(geometry: Geometry, mode: Mode, bad: u16) -> Core
 
 impl Card {
     // Any C, H, S and mode, with any store, marks and tuple buffer: rows 1, 2, 3, 5, 4, and power-on.
+    // Once a session: kept out of the loop over its accesses, which is the faster for it.
+    #[inline(never)]
     pub fn open(
         cylinders: u16,
         heads: u16,
