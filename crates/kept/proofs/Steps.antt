@@ -23,10 +23,10 @@ use Rattle.registers.specs.WellMade.{in_reset, sectors_fit, load_fits, bad_fits,
 use Rattle.transfers.specs.declared.End.{End}
 use Rattle.transfers.specs.declared.Tested.{Tested}
 use Rattle.transfers.specs.declared.Tested.TheVariants.{Passes, Fails}
-use Rattle.transfers.specs.declared.Way.TheVariants.{Out}
+use Rattle.transfers.specs.declared.Way.TheVariants.{In, Out}
 use Rattle.transfers.specs.declared.Order.{Order}
 use Rattle.transfers.specs.declared.Order.TheVariants.{Later}
-use Rattle.transfers.specs.Before.{address_test, sector_test, stored_by, sector_stored}
+use Rattle.transfers.specs.Before.{allows, mark_end, address_test, sector_test, stored_by, sector_stored}
 use Rattle.transfers.specs.Steps.{idle_with, sector_done, read_tested, read_sector, next_read, load_read, ask_tested, ask_sector, next_asked, core_written, load_written}
 use Rattle.kept.proofs.Registers.{CoreFits}
 use Rattle.registers.specs.Blocks.{pace_after}
@@ -43,7 +43,7 @@ done_pace left k s p = rw (done_block left s) p
 pub read_next : (left : ℕ) (k : Pace) (d : Made) (m : Machine) → Ready d m.state → CountAgrees left m.state → pace_fits k m.state.block ≡ true → Next d m (read_sector left k m)
 unfolding read_sector sector_test address_test
 read_next left k d m r a p =
-    mark_elim (λ (t : Tested). Next d m (read_tested t left k m)) _ _ m.marks (located_in m.state) refl
+    mark_elim (λ (t : Tested). Next d m (read_tested t left k m)) (allows In) (mark_end In) m.marks (located_in m.state) refl
     (λ spot g. (ready-left (Sectors left k) d m.state r (sectors_fit_lem left k m.state g a p), λ b. (refl, refl, buffer_read_lem m.store spot.index m.buffer b)))
     (λ e b. (ended-left e d m.state r.0, lent_same m))
 
