@@ -28,7 +28,7 @@ use Rattle.account.specs.Plain.{sectors_of, with_current, Well, Aborted, ends, A
 use Rattle.account.specs.Addressed.{At}
 use Rattle.account.specs.Course.{course_of}
 use Rattle.account.specs.Sweeps.{read_sectors, write_sectors, whole_run, verify_sectors, erase_sectors}
-use Rattle.account.specs.Table.{asked, first, from_first, reads, writes, verifies, erases, shaped, sets_geometry, account}
+use Rattle.account.specs.Table.{asked, first, from_first, reads, writes, verifies, erases, shaped, sets_geometry}
 use Rattle.account.specs.Host.{plain_of, plain_in}
 use Rattle.account.specs.Notes.{None, no_notes}
 use Rattle.account.specs.Claim.{AllBytes}
