@@ -26,8 +26,8 @@ use Rattle.account.specs.Host.{plain_of, calm, asks, Hosted, hosted_by, Moves}
 use Rattle.account.specs.Notes.{Waiting, None, LowByte, HighByte, Notes, note, way_of}
 use Rattle.account.specs.Follows.{AcceptedCommand, after}
 use Rattle.hosts.specs.Live.{fits, most, Small, due}
-use Rattle.hosts.specs.Choices.{offsets, data_at, Fitting}
-use Rattle.hosts.specs.Hosts.{onward, Going, rounds, Willing}
+use Rattle.hosts.specs.Choices.{access_of, offsets, data_at, Fitting}
+use Rattle.hosts.specs.Hosts.{round, Round, onward, Going, rounds, Willing}
 use Rattle.hosts.specs.Sends.{next, Sends, still}
 use Rattle.hosts.specs.Likes.{odd_there, liked, space_of, even_place, address_of, choice_in, liked_rounds}
 use Rattle.hosts.proofs.Live.{every_host_ends}
@@ -129,7 +129,9 @@ one_aside way b x small f =
 liked-length : (way : Way) (b : ℕ → ℕ) (besides : Hosted → List Asked) (h : Hosted) (likes : List Port) → length (liked_rounds way b besides h likes) ≡ length likes
 unfolding liked_rounds
 liked-length way b besides h [] = refl
-liked-length way b besides h (like ∷ l) = ap suc (liked-length way b besides _ l)
+liked-length way b besides h (like ∷ l) =
+    let t : Round Asked = record { aside = besides h; choice = access_of way (choice_in b like (onward meaning way h (besides h))) } in
+    ap suc (liked-length way b besides (onward meaning way h (round meaning way h t)) l)
 
 -- So after every command there is a host that comes to its end: of words only, say.
 pub not_empty : (m : Machine) (a : Asked) (v : ℕ) → AcceptedCommand m a v → (l : List Asked) × Moves (step m a).next l

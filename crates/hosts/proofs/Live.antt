@@ -27,7 +27,7 @@ use Rattle.hosts.specs.Choices.{Choice, access_of, Fitting, TakenChoice}
 use Rattle.hosts.specs.Hosts.{Round, onward, Going, rounds, Willing, Chosen, itself, ReadyBy, Ready}
 use Rattle.account.proofs.Rest.{Rel}
 use Rattle.account.proofs.Accepted.{able}
-use Rattle.account.proofs.Theorem.{begun, goes_on_lem, by_meaning}
+use Rattle.account.proofs.Theorem.{begun, goes_on, by_meaning}
 use Rattle.hosts.proofs.Places.{choice_means}
 use Rattle.hosts.proofs.Asks.{asks-due}
 use Rattle.hosts.proofs.Taken.{taken}
@@ -38,7 +38,7 @@ use Rattle.hosts.proofs.Rounds.{comes_to_end}
 
 module _ (m : Machine) (v : ℕ) (l : List Meaning) (k : Able m) (g : GoesBy (commanded v m) l) where
   goes : Rel (way_of (row_of v)) (account (row_of v) (plain_of m)) (after_by m v l).machine (after_by m v l).notes
-  goes = goes_on_lem (account (row_of v) (plain_of m)) (way_of (row_of v)) l (commanded v m) no_notes (begun m v k) g
+  goes = goes_on (account (row_of v) (plain_of m)) (way_of (row_of v)) l (commanded v m) no_notes (begun m v k) g
 
   -- where the card asks, it takes every part that fits
   pub means_every_choice : (port : Port) (value : ℕ) → asks (after_by m v l).machine ≡ true → fits (after_by m v l).notes.waiting port ≡ true → Small (way_of (row_of v)) port value →
@@ -67,7 +67,7 @@ means_every_host_ends m v l k d w =
     let plain = account (row_of v) (plain_of m) in
     subst (MovesBy (commanded v m)) (itself_same (rounds itself way (after_by m v []) l) (commanded v m))
     (comes_to_end itself way (row_of v) (plain_of m) k.typed.count (λ h. Rel way plain h.machine h.notes) (λ h z. z)
-    (λ h t z g. goes_on_lem plain way (meanings_by itself h.machine t) h.machine h.notes z g) (ReadyBy way) (λ h t z r. r) l (after_by m v []) (begun m v k) w (omega arith))
+    (λ h t z g. goes_on plain way (meanings_by itself h.machine t) h.machine h.notes z g) (ReadyBy way) (λ h t z r. r) l (after_by m v []) (begun m v k) w (omega arith))
 
 -- ---- over accesses
 

@@ -22,7 +22,7 @@ use Rattle.hosts.specs.Choices.{writes}
 use Rattle.hosts.specs.Hosts.{Round, onward, Going, round, rounds, Willing, Chosen}
 use Rattle.hosts.specs.Sends.{next, next_of}
 use Rattle.account.proofs.Rest.{Rel, notes}
-use Rattle.hosts.proofs.Reached.{onward-append, going-append, Stands}
+use Rattle.hosts.proofs.Reached.{onward-append, going-append}
 use Rattle.hosts.proofs.Rounds.{chosen-taken}
 
 module _ (b : ℕ → ℕ) where

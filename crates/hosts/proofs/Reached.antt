@@ -24,7 +24,7 @@ use Rattle.account.specs.Notes.{Waiting, None, LowByte, HighByte, Notes, note, n
 use Rattle.hosts.specs.Live.{noted}
 use Rattle.hosts.specs.Hosts.{onward, Going}
 use Rattle.account.proofs.Rest.{Rel, notes}
-use Rattle.account.proofs.Theorem.{goes_on_lem, hosted_plays}
+use Rattle.account.proofs.Theorem.{goes_on, hosted_plays}
 
 -- ---- notes never shrink
 
@@ -116,5 +116,5 @@ Stands row p way h = Sound h.machine × Rel way (account row p) h.machine h.note
 pub reached : (row : CommandRow) (p : Plain) (way : Way) (h : Hosted) (l : List Asked) → Stands row p way h → Going meaning way h l → Stands row p way (onward meaning way h l)
 reached row p way h l s g = (
   subst Sound (sym (hosted_plays way h.machine h.notes l)) (sound-played l h.machine s.0),
-  goes_on_lem (account row p) way (meanings h.machine l) h.machine h.notes s.1 g,
+  goes_on (account row p) way (meanings h.machine l) h.machine h.notes s.1 g,
 )

@@ -33,7 +33,7 @@ use Rattle.hosts.specs.Choices.{Choice, access_of, Fitting}
 use Rattle.hosts.specs.Moment.{CalmBy, so_far}
 use Rattle.account.proofs.Rest.{Rel}
 use Rattle.account.proofs.Accepted.{able}
-use Rattle.account.proofs.Theorem.{begun, goes_on_lem, means_as_the_account}
+use Rattle.account.proofs.Theorem.{begun, goes_on, means_as_the_account}
 use Rattle.hosts.proofs.Reached.{Stands}
 use Rattle.hosts.proofs.Rounds.{comes_to_end}
 use Rattle.hosts.proofs.Live.{choice-taken, means_asks_while_due, fitting-chosen, stands_at_start}
@@ -81,7 +81,7 @@ module _ (c : Card) (store marks : List ℕ) (a : Asked) (v : ℕ) (l : List Cal
       let k = able before a v w in
       let b : Sound (commanded v before) = subst (λ (y : Meaning). Sound (perform y before).next) w.accepted (sound_kept before a k.sound) in
       let s = subst (λ (h : Hosted). Sound h.machine) there (sound-called l way (commanded v before) no_notes b) in
-      let y = goes_on_lem (account (row_of v) (plain_of before)) way meant (commanded v before) no_notes (begun before v k) g in
+      let y = goes_on (account (row_of v) (plain_of before)) way meant (commanded v before) no_notes (begun before v k) g in
       let t = choice-taken (account (row_of v) (plain_of before)) way now x s (subst (λ (h : Hosted). Rel way (account (row_of v) (plain_of before)) h.machine h.notes) there y) e f in
       let o : r.outcome ≡ (step now.machine (access_of way x)).outcome = ap (λ (u : Effect). u.outcome) p in
       (t.answer, o ∙ t.accepted, ap (λ (u : Outcome). note way (meaning now.machine (access_of way x)) u q) o ∙ t.part)
@@ -98,7 +98,7 @@ unfolding hosted_by
 code_every_host_ends m a v l w d x =
     let way = way_of (row_of v) in
     let stays : (h : Hosted) (t : List Call) → Stands (row_of v) (plain_of m) way h → Going call_meaning way h t → Stands (row_of v) (plain_of m) way (onward call_meaning way h t) =
-    λ h t s g. (sound-called t way h.machine h.notes s.0, goes_on_lem (account (row_of v) (plain_of m)) way (call_meanings h.machine t) h.machine h.notes s.1 g) in
+    λ h t s g. (sound-called t way h.machine h.notes s.0, goes_on (account (row_of v) (plain_of m)) way (call_meanings h.machine t) h.machine h.notes s.1 g) in
     comes_to_end call_meaning way (row_of v) (plain_of m) w.typed.count (Stands (row_of v) (plain_of m) way) (λ h s. s.1) stays (ReadyCall way)
     (λ h t s r. (
       r.0,

@@ -24,7 +24,7 @@ use Rattle.hosts.proofs.Reached.{Stands, reached}
 use Rattle.hosts.proofs.Live.{itself_same, means_every_host_ends, fitting-chosen, stands_at_start, every_host_ends}
 use Rattle.hosts.proofs.Ended.{due-agrees}
 use Rattle.account.specs.Claim.{Agrees}
-use Rattle.account.proofs.Theorem.{begun, goes_on_lem, means_as_the_account}
+use Rattle.account.proofs.Theorem.{begun, goes_on, means_as_the_account}
 use Rattle.hosts.proofs.Ordered.{InOrder, all_ordered}
 
 -- A host that keeps sending its own data, in whatever parts it likes, with whatever it likes between, has sent just this data, and the card, the store and the marks
@@ -51,7 +51,7 @@ means_written_as_sent m v b l k o small d w =
     let h = after_by m v [] in
     let x = means_as_the_account m v (rounds itself way h l) k (means_every_host_ends m v l k d (sends-ready b way l h w)) in
     let f = all_ordered itself way o (row_of v) (plain_of m) (λ j. Rel way plain j.machine j.notes) (λ j z. z)
-    (λ j t z g. goes_on_lem plain way (meanings_by itself j.machine t) j.machine j.notes z g) b small (SendsBy b way) (λ j t z r. r) l h (begun m v k) w (unfold listed in refl, tt) in
+    (λ j t z g. goes_on plain way (meanings_by itself j.machine t) j.machine j.notes z g) b small (SendsBy b way) (λ j t z r. r) l h (begun m v k) w (unfold listed in refl, tt) in
     as_sent m v b (after_by m v (rounds itself way h l)) k.typed.count x
     (subst (λ (y : List Meaning). InOrder b (after_by m v y).notes) (itself_same (rounds itself way h l) (commanded v m)) f)
 

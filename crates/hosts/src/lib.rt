@@ -1,5 +1,7 @@
 // However the host moves the data: what it may choose, that it comes to the end, the sectors at every moment, and calls of the code. Nothing
 // here is run: two functions tie the theorems to the code that is.
+#![tactic(auto)]
+
 ghost use Rattle.std.specs.Prelude.{◌<◌};
 ghost use Rattle.card.specs.Access.{asked_with};
 ghost use Rattle.card.specs.Doors.{machine_of};
