@@ -32,11 +32,11 @@ long_body bs e g = length-take-le e.length (drop e.start bs) (omega (arith, leng
 
 -- ---- what an accepted writing says
 pub record WrittenWell (bs : List ℕ) (es : List Entry) : Type 0 where
-  pub all_good : all_good bs es ≡ true
+  pub are_good : all_good bs es ≡ true
   pub short : length (tuple_bytes bs es) ≤ 255
 
 pub written_well : (bs : List ℕ) (es : List Entry) (places v : ℕ) → write_outcome bs es places ≡ Accepted v → WrittenWell bs es
 unfolding write_outcome
 written_well bs es places v e =
     let p = (passed (write_table places (all_good bs es) (leb (length (tuple_bytes bs es)) most_bytes)) (Accepted 0) (ap refused e)).1 in
-    record { all_good = un_not _ _ (p 15); short = leb-true _ _ (un_not _ _ (p 14)) }
+    record { are_good = un_not _ _ (p 15); short = leb-true _ _ (un_not _ _ (p 14)) }

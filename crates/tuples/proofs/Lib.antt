@@ -9,6 +9,5 @@ pub mod RoundTrip
 pub mod Theorems
 pub mod LinkFF
 pub mod OnlyOne
-pub mod Locals
 pub mod RowTests
 pub mod FirstRow

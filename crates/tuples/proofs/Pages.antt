@@ -135,7 +135,7 @@ module _ (bs : List ℕ) where
         ∙ where_good (all_good bs es) _ _ (λ g. fit_is g (leb (length (tuple_bytes bs es)) 255) refl)
 
     same_bytes : (o : Outcome) → write_outcome bs es (length out) ≡ o → unless_refused o the_page.bytes out ≡ unless_refused o (filled_up (tuple_bytes bs es)) out
-    same_bytes (Accepted v) e = let ok = written_well bs es (length out) v e in (all-added ok.all_good).fit_bytes (omega (arith, ok.short))
+    same_bytes (Accepted v) e = let ok = written_well bs es (length out) v e in (all-added ok.are_good).fit_bytes (omega (arith, ok.short))
     same_bytes (Refused x) e = refl
 
     -- what is done with the page is the writer's promise

@@ -1,6 +1,6 @@
 -- Reading what was written, and writing what was read, said of the definitions.
 --     laid, reads-back    the chain of what is written has the list's tuples, as they lie in a row
---     same_codes, same-bodies     so the codes are the same, and each body
+--     same_codes, same_bodies     so the codes are the same, and each body
 --     back        a chain's tuples, written over its own bytes, are the chain up to its end mark, null tuples dropped; none of them is bad, and they fit
 use mathlib.Core.Path.{◌≡◌, refl, sym, ◌∙◌, ap}
 use mathlib.Core.Bool.{true, false, false≢true}
@@ -86,7 +86,7 @@ same_bodies bs (e ∷ es) p q at l h =
 -- ---- writing what was read
 pub record Back (s : List ℕ) (k : ℕ) (r : List ℕ) (es : List Entry) : Type 0 where
   pub same : nulls_dropped k r ≡ take k r ++ tuple_bytes s es
-  pub all_good : all_good s es ≡ true
+  pub are_good : all_good s es ≡ true
   pub short : k + length (tuple_bytes s es) + 1 ≤ length r
 
 -- a tuple in front
@@ -98,7 +98,7 @@ in_front s at b n r fs h255 h0 d back =
     let inside : at + 2 + n ≤ length s = omega (arith, ap length d, length-drop (at + 2) s, back.short) in
     record {
       same = simp (h255, h0) (ap (λ (l : List ℕ). b ∷ (n ∷ l)) (back.same ∙ ap (λ (l : List ℕ). take n l ++ tuple_bytes s fs) (sym d)));
-      all_good = simp (h255, h0, le-leb _ _ inside) back.all_good;
+      are_good = simp (h255, h0, le-leb _ _ inside) back.are_good;
       short = omega (arith, back.short, long, length-append (body_of s (entry b (at + 2) n)) (tuple_bytes s fs));
     }
 
@@ -107,11 +107,11 @@ unfolding chain_from nulls_dropped tuple_bytes all_good every
 back s k [] at d p = absurd (false≢true p)
 back s (suc k) (b ∷ r) at d p =
     let ih = back s k r (at + 1) (after_one s at b r d) p in
-    record { same = ap (λ (l : List ℕ). b ∷ l) ih.same; all_good = ih.all_good; short = omega (arith, ih.short) }
-back s zero (b ∷ []) at d p = record { same = refl; all_good = refl; short = omega arith }
+    record { same = ap (λ (l : List ℕ). b ∷ l) ih.same; are_good = ih.are_good; short = omega (arith, ih.short) }
+back s zero (b ∷ []) at d p = record { same = refl; are_good = refl; short = omega arith }
 back s zero (b ∷ (n ∷ r)) at d p =
     let P : Chain → Type 0 = λ c. c.ended ≡ true → Back s 0 (b ∷ (n ∷ r)) c.entries in
-    pick-elim P (eqb b 255) _ _ (λ h255 _. record { same = simp h255; all_good = refl; short = omega arith })
-    (λ h255. pick-elim P (eqb b 0) _ _ (λ h0 q. let ih = back s zero (n ∷ r) (at + 1) (after_one s at b (n ∷ r) d) q in record { same = simp (h255, h0) ih.same; all_good = ih.all_good; short = omega (arith, ih.short) })
+    pick-elim P (eqb b 255) _ _ (λ h255 _. record { same = simp h255; are_good = refl; short = omega arith })
+    (λ h255. pick-elim P (eqb b 0) _ _ (λ h0 q. let ih = back s zero (n ∷ r) (at + 1) (after_one s at b (n ∷ r) d) q in record { same = simp (h255, h0) ih.same; are_good = ih.are_good; short = omega (arith, ih.short) })
     (λ h0. pick-elim P (leb n (length r)) _ _
     (λ _ q. let e = after_two s at b n r d in in_front s at b n r (chain_from n r (at + 2)).entries h255 h0 e (back s n r (at + 2) e q)) (λ _ q. absurd (false≢true q)))) p

@@ -50,7 +50,7 @@ written_reads_back bs es out r z w v p ls r' zs l e =
     let q = sym w.0 ∙ p in
     let ok = written_well bs es (length out) v q in
     let is : z ≡ filled_up (tuple_bytes bs es) = w.1 ∙ ap (λ (o : Outcome). unless_refused o (filled_up (tuple_bytes bs es)) out) q in
-    subst (λ (y : List ℕ). Reads y ls r' zs → SameTuples bs es y r' zs) (sym is) (of_page bs es ls r' zs ok.all_good ok.short l) e
+    subst (λ (y : List ℕ). Reads y ls r' zs → SameTuples bs es y r' zs) (sym is) (of_page bs es ls r' zs ok.are_good ok.short l) e
 
 -- ---- what was read is written back
 pub chain-written : (s out : List ℕ) (r : Outcome) (z : List ℕ) → length s ≡ 256 → (chain_at s 0).ended ≡ true → length out ≡ 256 → Writes s (all s) out r z → WrittenBack s r z
@@ -58,7 +58,7 @@ unfolding write_outcome
 chain-written s out r z ls c lo w =
     let b = back s 0 s 0 refl c in
     let short : length (tuple_bytes s (all s)) ≤ 255 = omega (arith, b.short) in
-    let o : write_outcome s (all s) (length out) ≡ Accepted 0 = simp (eq-eqb _ _ lo, b.all_good, le-leb _ _ short) in
+    let o : write_outcome s (all s) (length out) ≡ Accepted 0 = simp (eq-eqb _ _ lo, b.are_good, le-leb _ _ short) in
     (w.0 ∙ o, w.1 ∙ ap (λ (o : Outcome). unless_refused o (filled_up (tuple_bytes s (all s))) out) o ∙ ap filled_up (sym b.same))
 
 pub read_then_written_back : (s : List ℕ) (ls : List Entry) (r : Outcome) (zs : List Entry) → Reads s ls r zs → (n : ℕ) → r ≡ Accepted n

@@ -6,7 +6,7 @@ ghost use Rattle.tuples.specs.Chain.{step_at, next_at, first_found};
 use super::{END_MARK, Entry, NO_ENTRY, NULL_CODE};
 
 // What stands at a place of a tuple buffer.
-#[derive(Drop)]
+#[derive(Clone, Copy)]
 pub(crate) enum Step {
     Tuple(Entry),
     Null,
@@ -44,7 +44,7 @@ pub(crate) fn step_at(buffer: &[u8], at: usize) -> Step
 }
 
 // A tuple that was looked for, and the place to go on from.
-#[derive(Drop)]
+#[derive(Clone, Copy)]
 pub(crate) struct Found {
     pub(crate) entry: Entry,
     pub(crate) next: usize,

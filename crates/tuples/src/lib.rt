@@ -1,4 +1,6 @@
 // 01, "Tuples": the reader and the writer of a tuple chain, over a lent buffer and a lent list of entries.
+#![tactic(auto)]
+
 ghost use Rattle.std.specs.Prelude.{◌≡◌};
 ghost use Rattle.tuples.specs.Chain.{end_of};
 
@@ -8,7 +10,7 @@ pub mod read;
 pub mod write;
 
 // A tuple: its code, and where its body starts and how long it is.
-#[derive(Drop)]
+#[derive(Clone, Copy)]
 pub struct Entry {
     pub code: u8,
     pub start: u16,

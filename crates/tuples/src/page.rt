@@ -10,7 +10,7 @@ use answers::{Outcome, Refusal};
 use ground::TUPLE_BUFFER_BYTES;
 
 // The page that the writer makes: 256 bytes, of which those before `at` are tuples; whether a tuple was bad, and whether one went beyond 255 bytes.
-#[derive(Drop)]
+#[derive(Clone, Copy)]
 pub(crate) struct Page {
     pub(crate) bytes: [u8; TUPLE_BUFFER_BYTES],
     pub(crate) at: usize,

@@ -51,7 +51,7 @@ fn read_outcome(buffer: &[u8], places: usize) -> Outcome
 }
 
 // An answer, and the number of entries that it speaks of.
-#[derive(Drop)]
+#[derive(Clone, Copy)]
 struct Checked {
     outcome: Outcome,
     count: usize,
@@ -69,7 +69,7 @@ fn check_read(buffer: &[u8], places: usize) -> Checked
 }
 
 // The tuple buffer, and a place in it.
-#[derive(Drop)]
+#[derive(Clone, Copy)]
 struct Reader<'a> {
     buffer: &'a [u8],
     place: usize,
