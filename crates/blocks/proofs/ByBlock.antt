@@ -1,12 +1,11 @@
 -- 02, "One": "The interrupt mark is then set once per block, the last one possibly partial": of C4H and C5H, for every block at once; and of 20H and 30H, once per
 -- sector, as 01 has it.
-use Prim.Native.Nat.{ℕ, ◌-◌}
+use Prim.Native.Nat.{ℕ}
 use mathlib.Core.Bool.{true, false}
 use mathlib.Core.Path.{◌≡◌, refl, ap}
 use mathlib.Core.List.{List, ◌∷◌}
 use native.Mathlib.Omega.{arith}
 use lib.Dec.{eqb}
-use Rattle.ground.proofs.Picks.{neither}
 use Rattle.registers.specs.Blocks.{pace_from, single}
 use Rattle.registers.specs.Machine.{Machine}
 use Rattle.registers.specs.WellMade.{in_reset}
@@ -25,7 +24,6 @@ use Rattle.account.specs.Table.{asked}
 use Rattle.blocks.specs.Alike.{multiple_code, Gives}
 use Rattle.blocks.specs.Marks.{marks_set, EndsWell, rounded_up}
 use Rattle.blocks.proofs.Turns.{ask_proper}
-use Rattle.blocks.proofs.Marks.{counted}
 use Rattle.laws.specs.Interrupt.{reads_row}
 use Rattle.commands.specs.declared.Command.{Command}
 use Rattle.commands.specs.declared.Command.TheVariants.{Read, Write}

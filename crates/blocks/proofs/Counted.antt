@@ -34,7 +34,6 @@ use Rattle.laws.specs.Acts.{act_of}
 use Rattle.laws.specs.Interrupt.{drq_set, sets, reads_row}
 use Rattle.laws.proofs.InterruptData.{proper}
 use Rattle.account.specs.Host.{asks, Goes}
-use Rattle.account.specs.Table.{asked}
 use Rattle.blocks.specs.Alike.{Gives}
 use Rattle.blocks.specs.Marks.{sets_mark, marks_set, EndsWell, full_blocks, part_moved, rounded_up}
 use Rattle.blocks.proofs.Seen.{seen}

@@ -6,7 +6,7 @@ use mathlib.Core.Logic.{◌⊎◌, inl, inr}
 use mathlib.Core.List.{List}
 use lib.Dec.{eqb}
 use Rattle.ground.proofs.Picks.{pick-elim, un_not}
-use Rattle.registers.specs.State.{located_in, with_bad, runs}
+use Rattle.registers.specs.State.{located_in, with_bad}
 use Rattle.registers.specs.declared.Pace.{Pace}
 use Rattle.registers.specs.declared.Load.TheVariants.{Sectors}
 use Rattle.registers.specs.declared.Transfer.{Transfer}
