@@ -14,7 +14,7 @@ const HEX_TABLE_BYTES: usize = 512;
 pub type HexTable = [u8; HEX_TABLE_BYTES];
 
 // An access's number, and the text of its last four decimal digits as one number, the first in the lowest byte.
-#[derive(Drop)]
+#[derive(Clone, Copy)]
 pub struct LineNumber {
     pub value: u64,
     pub digits: u32,

@@ -1,4 +1,6 @@
 // What is printed, as bytes in a lent output (document 01, "Session file").
+#![tactic(auto)]
+
 pub mod digits;
 pub mod lines;
 mod output;

@@ -106,7 +106,8 @@ pub fn put_accepted(
     put_line(out, at, number, write, 0, table, value)
 }
 
-// A number ends a line.
+// A number ends a line. Of a session, its last line alone.
+#[cold]
 fn put_number(out: &mut [u8], at: usize, n: u64) -> usize
     ensures { output out.new result ≡ put (output out.old at) (decimal n ++ (newline ∷ [])) }
 {
