@@ -1,4 +1,6 @@
 // The records of a session file: what stands at a place of it, or the first test that breaks it (document 01, "Session file").
+#![tactic(auto)]
+
 ghost use Rattle.std.specs.Prelude.{◌≡◌, ◌||◌, ◌+◌, ◌≤◌, ◌++◌, length, eqb};
 ghost use Rattle.ground.specs.Choice.{pick};
 ghost use Rattle.ground.specs.Rows.{first_of};
@@ -16,7 +18,7 @@ const HEAD_LENGTH: u16 = 4;
 pub const OPENING_LENGTH: u16 = 12;
 
 // Which test of the whole file, or of a record, broke it, in the order in which the tests stand first in the definitions.
-#[derive(Drop)]
+#[derive(Clone, Copy)]
 pub enum Break {
     Empty,
     TooLong,
@@ -30,7 +32,7 @@ pub enum Break {
 }
 
 // The opening's fields.
-#[derive(Drop)]
+#[derive(Clone, Copy)]
 pub struct Sizes {
     pub cylinders: u16,
     pub heads: u16,
@@ -39,13 +41,13 @@ pub struct Sizes {
 }
 
 // What stands where an opening is due, and after it.
-#[derive(Drop)]
+#[derive(Clone, Copy)]
 pub enum First {
     Opening(Sizes),
     Stop(Break),
 }
 
-#[derive(Drop)]
+#[derive(Clone, Copy)]
 pub enum After {
     Access(Access),
     Stop(Break),
