@@ -1,4 +1,6 @@
 // The session: the run of a file's accesses, and the text that is printed of it (document 01, "Session file").
+#![tactic(auto)]
+
 use answers::Refusal;
 use card::Card;
 use records::Break;
@@ -12,7 +14,7 @@ pub const LONGEST_FILE: usize = 32768;
 pub(crate) const MOST_SECTORS: usize = 32;
 
 // How a session or a part of one ended.
-#[derive(Drop)]
+#[derive(Clone, Copy)]
 pub enum Ending {
     Whole,
     Broken(Break),
@@ -20,7 +22,7 @@ pub enum Ending {
 }
 
 // What a session or a part of one comes to: the place reached, the accesses done, how it ended, and how much text the output holds.
-#[derive(Drop)]
+#[derive(Clone, Copy)]
 pub struct Told {
     pub place: u64,
     pub done: usize,
@@ -29,7 +31,7 @@ pub struct Told {
 }
 
 // The same of a run, with the card that it leaves.
-#[derive(Drop)]
+#[derive(Clone, Copy)]
 pub struct Ran {
     pub card: Card,
     pub told: Told,
