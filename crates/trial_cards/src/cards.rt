@@ -113,6 +113,7 @@ fn phase_of(row: [u16; 35]) -> Phase
     phase_with(row[17], t)
 }
 
+#[tactic(auto, unfolding(crate::specs::Cards::card_from_row))]
 fn card_from_row(row: [u16; 35], buffer: Sector) -> Card
     ensures { result ≡ card_from_row row buffer }
 {
@@ -169,6 +170,7 @@ fn with_number(row: [u16; 35], at: usize, value: u16) -> [u16; 35]
     r
 }
 
+#[tactic(auto, unfolding(crate::specs::Cards::broken_of))]
 pub fn broken_of(card: Card, field: u16, value: u16) -> Card
     ensures { result ≡ broken_of card field value }
 {
@@ -180,6 +182,7 @@ pub fn broken_of(card: Card, field: u16, value: u16) -> Card
 }
 
 // The all-zero card.
+#[tactic(auto, unfolding(crate::specs::Cards::card_from_row, registers::specs::PowerOn::zeros))]
 pub fn zero() -> Card
     ensures { result ≡ zero_card }
 {

@@ -138,6 +138,7 @@ fn with_phase(row: [u16; 35], phase: Phase) -> [u16; 35]
     }
 }
 
+#[tactic(auto, unfolding(crate::specs::Rows::row_of))]
 pub fn row_of(card: Card) -> [u16; 35]
     ensures { result ≡ row_of card }
 {
