@@ -1,3 +1,2 @@
-pub mod Arrays
 pub mod Lists
 pub mod Theorems

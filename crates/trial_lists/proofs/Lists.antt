@@ -1,5 +1,5 @@
 -- What the functions give, by what the reader and the writer promise.
---     handed_outcome, handed-entry     after reading, a place holds the chain's entry of its number, or what the list held
+--     handed_outcome, handed_entry     after reading, a place holds the chain's entry of its number, or what the list held
 --     made_is           the first places of an array that one entry was stored in are the list to be written
 --     back-refused, back-written      a refused reading is the answer, and else the writing of the entries read
 use mathlib.Core.Path.{◌≡◌, refl, sym, ◌∙◌, ap}

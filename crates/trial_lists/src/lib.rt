@@ -1,5 +1,7 @@
-// Lists of tuples for `trial`: a list of one entry many times read into or written, and a chain written back. Whoever lends a list of entries
-// is proved by hand, so `trial` calls these, which lend their own.
+// Lists of tuples for `trial`: a list of one entry many times read into or written, and a chain written back. `trial` calls these, which lend
+// lists of their own.
+#![tactic(auto)]
+
 ghost use Rattle.std.specs.Prelude.{◌≡◌, ◌≤◌};
 ghost use Rattle.answers.specs.Answers.{outcome_value, refused};
 ghost use Rattle.tuples.specs.Write.{Writes};
@@ -12,7 +14,7 @@ use tuples::{Entry, read, write};
 const MOST_PLACES: usize = 256;
 
 // An entry, with the answer of the reading that handed it out.
-#[derive(Drop)]
+#[derive(Clone, Copy)]
 pub struct Handed {
     pub outcome: Outcome,
     pub entry: Entry,
