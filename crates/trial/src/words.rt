@@ -1,7 +1,7 @@
 // A record of a trial input: eight words, low byte first.
 
 // The first word is the record's kind.
-#[derive(Drop)]
+#[derive(Clone, Copy)]
 pub struct Words {
     pub w0: u16,
     pub w1: u16,
