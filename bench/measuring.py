@@ -10,6 +10,7 @@ import sessions
 from cardtools import calls
 from limits import Fault
 
+CARDRUN = "crates/cardrun/out/cardrun"
 INDEPENDENT = "target/oracle/release/oracle"
 fail = functools.partial(calls.fail, "bench")
 
@@ -39,7 +40,7 @@ def programs(given):
     build("oracle")
     if given is None:
         build("cardrun")
-    cardrun = ["target/bin/cardrun"] if native() else ["./cardrun"]
+    cardrun = [CARDRUN] if native() else ["./cardrun"]
     return {"cardrun": cardrun if given is None else split(given), "independent": [INDEPENDENT, "play"]}
 
 
@@ -79,7 +80,7 @@ def traced(path, folder):
     program, *loaded = emulator()
     trace = os.path.join(folder, "trace")
     with open(path, "rb") as given:
-        subprocess.run([program, "-one-insn-per-tb", "-d", "exec,nochain", "-D", trace, *loaded, "target/bin/cardrun"],
+        subprocess.run([program, "-one-insn-per-tb", "-d", "exec,nochain", "-D", trace, *loaded, CARDRUN],
                        stdin=given, stdout=subprocess.DEVNULL, check=False)
     with open(trace, "rb") as lines:
         count = sum(1 for line in lines if line.startswith(b"Trace "))

@@ -67,10 +67,10 @@ def stands_in(path, name):
 
 
 @functools.lru_cache
-def elsewhere(crate, name):
+def elsewhere(crate, name, patterns=("specs/*.antt", "proofs/*.antt", "src/*.rt")):
     """Where else the name stands: in files of the crate, or if in none, of any."""
     for crates in (crate, "*"):
-        paths = [path for pattern in ("specs/*.antt", "proofs/*.antt", "src/*.rt") for path in sorted(glob.glob(f"crates/{crates}/{pattern}"))]
+        paths = [path for pattern in patterns for path in sorted(glob.glob(f"crates/{crates}/{pattern}"))]
         found = [path for path in paths if stands_in(path, name)]
         if found:
             return ", but in " + ", ".join(found)

@@ -19,7 +19,7 @@ class Tree:
             open(os.path.join(folder, name), "w", encoding="utf-8").close()
         for name in ("rt", "cargo"):
             program(os.path.join(folder, "bin"), name, f"echo {name} $1 >>{folder}/calls\nexit $FAILS")
-        self.cardrun = program(os.path.join(folder, "target/bin"), "cardrun", "")
+        self.cardrun = program(os.path.join(folder, "crates/cardrun/out"), "cardrun", "")
 
     def age(self, seconds):
         """Makes the source older than cardrun by so much."""
@@ -45,10 +45,10 @@ def test_cardrun_is_built_where_a_source_is_newer():
         tree.age(60)
         assert tree.build("cardrun") == (0, "", "")
         tree.age(-60)
-        assert tree.build("cardrun", fails=1)[:2] == (1, "rt check\n")
-        assert tree.build("cardrun")[:2] == (0, "rt check\n")
+        assert tree.build("cardrun", fails=1)[:2] == (1, "rt run\n")
+        assert tree.build("cardrun")[:2] == (0, "rt run\n")
         os.remove(tree.cardrun)
-        assert tree.build("cardrun")[:2] == (0, "rt check\n")
+        assert tree.build("cardrun")[:2] == (0, "rt run\n")
 
 
 def test_the_independent_program_is_left_to_cargo():
@@ -73,3 +73,13 @@ def test_parts_are_counted():
         assert done.stdout.splitlines()[-1] == wanted, done
     done = subprocess.run(["bash", "-c", ". tools/counted.sh; counted sh -c 'echo 2 passed, 0 failed; exit 3' || echo status $status"], capture_output=True, text=True, check=False)
     assert done.stdout.endswith("status 3\n"), done
+
+
+def test_a_bad_edit_is_told():
+    """`rt ci` passes where a must-fail edit is bad, and says so on its line `rt: ok`."""
+    script = '. tools/counted.sh; counted printf "%s\\n" "$1" "7 passed, 0 failed" && edits_tried && echo "good $total" || echo "told $ok"'
+    edits, done = "rt: ok; handles allowed: none; must-fail edits: 5 refused", "; every proof and must-fail edit was done in this run"
+    for line, wanted in ((edits + done, "good 7"), (edits + ", 2 of them only by a limit" + done, "good 7"), ("rt: ok; handles allowed: none" + done, "good 7"),
+                         (edits + ", 1 bad" + done, None), (edits + ", 2 of them only by a limit, 10 bad" + done, None), ("rt: low proved", "told rt ci has no line that begins rt: ok")):
+        told = subprocess.run(["bash", "-c", script, "bash", line], capture_output=True, text=True, check=False).stdout.splitlines()[-1]
+        assert told == (wanted or f"told {line}"), (line, told)

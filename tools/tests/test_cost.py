@@ -6,15 +6,18 @@ import tempfile
 
 TREE = {
     "crates.txt": "# comment\nlow:\nhigh: low\n",
-    "crates/low/src/lib.rt": "// a comment\nghost use a.b;\n\npub fn one(x: u8) -> u8\n    requires { ⌜ x < 3 ⌝ }\n    ensures {\n        λ r. ⌜ r ≡ x ⌝\n    }\n{\n    x\n}\n\nfn two() {\n}\n",
+    "crates/low/src/lib.rt": "// a comment\n#![tactic(auto)]\n\nghost use a.b;\n\n#[tactic(\n    auto,\n    using(a)\n)]\npub fn one(x: u8) -> u8\n    requires { x < 3 }\n    ensures {\n        result ≡ x\n    }\n{\n    x\n}\n\nfn two() {\n}\n",
     "crates/low/specs/Lib.antt": "pub mod A\n",
     "crates/low/specs/A.antt": "-- why\nuse x.{y}\n\npub a : b\na = c\n",
     "crates/low/proofs/Law.antt": "use x.{y}\n-- why\nlaw : a\nlaw = b\n",
-    "crates/low/proofs/one/Proof.antt": "use x.{y}\n\n-- src/lib.rt:1:1\nadd : tie.Need-add\nadd c = search needs\n\nreturns : tie.Need-returns I\nreturns c =\n    let d = c in\n    search needs d\n\npub one-spec : {M : Type 1} → statement M\none-spec =\n    tie.close\n    (tie.spec\n    add\n    returns)\n",
+    "crates/low/proofs/one/Answers.antt": "use x.{y}\nuse z as goal\n\n-- src/lib.rt:1:1\npub overflow_add-x : goal.overflow_add-x\noverflow_add-x c = search rules\n\npub loop-x-init : goal.loop-x-init\nloop-x-init c = search rules\n\npub returns : goal.returns\nreturns c =\n    search (rules, y)\n",
+    "crates/low/proofs/one/Invariants.antt": "use x.{y}\nuse z as goal\n\nabbrev pub invariant-loop-x : goal.invariant-loop-x\ninvariant-loop-x l = y l\n",
     "crates/low/must-fail/wrong.edit": "# x\n",
     "crates/high/src/main.rt": "fn main() {\n}\n\npub(crate) fn inner() {\n}\n",
 }
+# What an older toolchain printed, and what this one does, which gives no seconds.
 LOG = "rt: low proved (8 s)\nrt: high proved (11 s)\nrt: must-fail low/wrong: refused, as it must be (first at proofs/one/Proof.antt:75:5; 16 s)\n2 passed, 0 failed\n"
+LOG_OF_TODAY = "rt: low proved\nrt: high is kept: an earlier run on this machine proved the same files\nrt: must-fail low/wrong.edit: refused, as it must be: proofs/one/Answers.antt:75:5: error (3 s) there\n3 passed, 0 failed\n"
 
 
 def call(*words):
@@ -27,7 +30,7 @@ def cells(line):
 
 def test_a_tree_with_known_numbers():
     with tempfile.TemporaryDirectory() as root:
-        for name, text in {**TREE, "log": LOG, "other": "nothing\n", "failed": "rt: low NOT PROVED (exit 1, 3 s)\n"}.items():
+        for name, text in {**TREE, "log": LOG, "today": LOG_OF_TODAY, "other": "nothing\n", "failed": "rt: low NOT PROVED\n"}.items():
             os.makedirs(os.path.dirname(os.path.join(root, name)), exist_ok=True)
             with open(os.path.join(root, name), "w", encoding="utf-8") as file:
                 file.write(text)
@@ -36,6 +39,8 @@ def test_a_tree_with_known_numbers():
         assert cells(lines[3]) == "high 2 0 4 0 0 0 0 0 0 11 –".split(), lines[3]
         assert cells(lines[4]) == "**all** 4 1 10 4 2 14 3 2 1 19 16".split(), lines[4]
         assert cells(call("--root", root).stdout.splitlines()[2])[-2:] == ["–", "–"]
+        today = call(os.path.join(root, "today"), "--root", root)
+        assert today.returncode == 0 and [cells(line)[-2:] for line in today.stdout.splitlines()[2:]] == 3 * [["–", "–"]], today
         with open(os.path.join(root, "binary"), "wb") as file:
             file.write(b"\x7fELF\xff\xfe")
         for wrong, status in (("other", 1), ("failed", 1), ("none", 2), ("binary", 1)):

@@ -10,7 +10,7 @@ import subprocess
 import tempfile
 
 import decided
-from functions import in_crate, proofs_of
+from functions import PROOFS, in_crate, proofs_of
 from named import pages, read
 
 # Commands that are not run here, and why.
@@ -90,7 +90,7 @@ def test_every_command_in_the_docs():
 
 
 def test_a_block_ends_at_its_first_command_that_fails():
-    """So `rt fmt` rewrites nothing where `rt fmt --check` tells of something."""
+    """So nothing is said of a later command where an earlier one tells of something."""
     with tempfile.TemporaryDirectory() as folder:
         page, made = (os.path.join(folder, name) for name in ("page.md", "made"))
         with open(page, "w", encoding="utf-8") as file:
@@ -179,7 +179,7 @@ def test_must_fail_edits_that_the_docs_name_are_there():
 
 def test_proofs_stand_where_the_docs_say():
     """That of a method goes by the module of its type (functions.py); a folder in capitals is a type."""
-    for path in glob.glob("crates/*/proofs/**/Proof.antt", recursive=True):
-        crate, folders = re.fullmatch(r"crates/(\w+)/proofs/(.+)/Proof\.antt", path).groups()
+    for path in (path for file in PROOFS for path in glob.glob(f"crates/*/proofs/**/{file}", recursive=True)):
+        crate, folders = re.fullmatch(r"crates/(\w+)/proofs/(.+)/\w+\.antt", path).groups()
         name = "::".join(re.search(r"(?:([A-Z]\w*)/)?(\w+)$", folders).groups("")).removeprefix("::")
         assert in_crate(crate, name) and path in proofs_of(crate, name), path

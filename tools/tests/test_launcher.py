@@ -42,7 +42,7 @@ def test_another_processor_has_the_emulator_before_the_program():
 
         status, printed, said = call(["./cardrun", "sessions/sample.session"], folder, "aarch64", RATTLE_HOME=kit)
         assert (status, printed.splitlines()[:3], said) == (0, [loader, "--library-path", lib], ""), (status, printed, said)
-        assert printed.endswith("/target/bin/cardrun\n"), printed
+        assert printed.endswith("/crates/cardrun/out/cardrun\n"), printed
 
 
 def test_cardrun_says_what_is_not_there():

@@ -1,13 +1,14 @@
-"""docs/PROMISES.md: a line for every public function, with two wrong programs and the needs that refuse them, and a line for every must-fail edit.
+"""docs/PROMISES.md: a line for every public function, with two wrong programs and the goals that refuse them, and a line for every must-fail edit.
 
 The functions stand in a chapter for each crate, in the order of crates.txt; the names in a function's line are definitions or the lemmas of OnlyOne.
-In what refuses a program, a need stands in the proof of its function, if that has a file (functions.py says where), and a law where it says (named.py has the form).
+In what refuses a program, a goal is one of those that the check has of its function (`rt names` lists them), a step of a proof stands in its files
+(functions.py says where), and a law where it says (named.py has the form).
 """
 import glob
 import os
 import re
 
-from functions import in_crate, proofs_of, sources
+from functions import goals_of, in_crate, proofs_of, sources
 from named import Told, in_definitions, read
 
 PAGE = "docs/PROMISES.md"
@@ -52,37 +53,42 @@ def defined(name):
     return any(in_definitions(read(path), name) for pattern in ("specs/*", "proofs/OnlyOne") for path in glob.glob(f"crates/*/{pattern}.antt"))
 
 
-def need_fault(crate, function, need, step):
-    """What is wrong in a need, or in a step, of a function's proof, or None; a function that has no proof file may have any need."""
+def has_step(proof, name):
+    """A fact that a proof's file names, by itself or within an answer."""
+    return in_definitions(proof, name) or re.search(rf"^ *let {re.escape(name)} :", proof, re.M)
+
+
+def goal_fault(crate, function, goal, step):
+    """What is wrong in a goal, or in a step, of a function's proof, or None."""
     if not function:
-        return f"of which function is `{need}`"
+        return f"of which function is `{goal}`"
     if not in_crate(crate, function):
         return f"there is no `{function}` in {crate}"
     proofs = [read(path) for path in proofs_of(crate, function) if os.path.exists(path)]
-    there = in_definitions if step else lambda proof, name: re.search(rf"\bNeed-{name}(?![\w-])", proof)
-    return f"there is no `{need}` in the proof of `{function}`" if proofs and not any(there(proof, need) for proof in proofs) else None
+    there = any(has_step(proof, goal) for proof in proofs) if step else goal in goals_of(crate, function)
+    return None if there else f"there is no `{goal}` in the proof of `{function}`"
 
 
-def needs_told(part, function):
-    """(function, need) for each need: it is that of the function after the next `of`, or where there is none, of the line's own."""
-    needs = []
+def goals_told(part, function):
+    """(function, goal) for each goal: it is that of the function after the next `of`, or where there is none, of the line's own."""
+    goals = []
     for of, name in re.findall(r"(\bof )?`([^`]+)`", part):
         if not of:
-            needs.append(name)
+            goals.append(name)
         else:
-            yield from ((name, need) for need in needs)
-            needs = []
-    yield from ((function, need) for need in needs)
+            yield from ((name, goal) for goal in goals)
+            goals = []
+    yield from ((function, goal) for goal in goals)
 
 
 def refused_faults(crate, where, refused, function=None):
-    """What is wrong in what refuses a program: a function's need or a step of its proof stands there, a law where it says."""
+    """What is wrong in what refuses a program: a function has that goal, a step of its proof stands there, a law where it says."""
     told = Told()
     for part in refused.split("; "):
         if "/proofs/" in part:
             told.look_up(where, part)
             continue
-        found = [need_fault(crate, *needed, "a step of its proof" in part) for needed in needs_told(part, function)]
+        found = [goal_fault(crate, *told_goal, "a step of its proof" in part) for told_goal in goals_told(part, function)]
         told.faults += [f"{where}: {fault}" for fault in found if fault]
     return told.faults
 
@@ -103,7 +109,7 @@ def crate_faults(crate, lines):
         faults += [] if len(wrong) == 2 else [f"{crate}: `{name}` has {len(wrong)} wrong programs"]
         for line in wrong:
             found = re.match(r"  - .+?: ([^:]*`.+)$", line)
-            faults += refused_faults(crate, f"{crate}: `{name}`", found[1], name) if found else [f"{crate}: `{name}`: no need refuses this:{line[3:]}"]
+            faults += refused_faults(crate, f"{crate}: `{name}`", found[1], name) if found else [f"{crate}: `{name}`: no goal refuses this:{line[3:]}"]
     return faults
 
 
@@ -151,18 +157,18 @@ def test_every_public_function_and_every_edit_has_its_line():
     assert count and edits_there()
 
 
-RIGHT = """`A lemma`: ground/proofs/OnlyOne `only-one`
+RIGHT = """`A lemma`: ground/proofs/OnlyOne `only_one`
 | `answered r store marks` | a lemma |
 ## answers
-- `Refusal::number`: `numberOf` (`only-both`).
-  - another: `returns`
-  - none: `returns-2` of `Refusal::number`
+- `Refusal::number`: `number_of` (`only_both`).
+  - another: `returns-in-StoreLength`
+  - none: `returns-in-SessionBroken` of `Refusal::number`
 - `Outcome::number`: a number, without a proof file.
-  - another: `returns`
-  - none: `returns-2`
+  - another: `returns-in-Accepted`
+  - none: `returns-in-Refused`
 - `Outcome::value`: a value.
-  - another: `returns`
-  - none: `returns-2`
+  - another: `returns-in-Accepted`
+  - none: `returns-in-Refused`
 
 ## Where a must-fail edit is refused
 - card/order_3_5: definition, code and proof: 5 before 3: card/proofs/FirstRow `first-row`; and `returns` of `verdict_of`
@@ -170,16 +176,16 @@ RIGHT = """`A lemma`: ground/proofs/OnlyOne `only-one`
 # What is changed in it, and what is to be told.
 WRONG = {
     ("`answered r", "`questioned r"): "text: there is no definition `questioned`",
-    ("`numberOf`", "`numbersOf`"): "answers: `Refusal::number`: there is no definition `numbersOf`",
-    ("`only-both`", "`only-three`"): "answers: `Refusal::number`: there is no definition `only-three`",
-    ("`only-one`", "`only-two`"): "text: no `only-two` in crates/ground/proofs/OnlyOne.antt",
+    ("`number_of`", "`numbers_of`"): "answers: `Refusal::number`: there is no definition `numbers_of`",
+    ("`only_both`", "`only_three`"): "answers: `Refusal::number`: there is no definition `only_three`",
+    ("`only_one`", "`only_two`"): "text: no `only_two` in crates/ground/proofs/OnlyOne.antt",
     ("- `Outcome::value`: a value", "- `Outcome::worth`: a value"): "answers: no line for `Outcome::value`",
     ("- `Outcome::number`: a number", "- `Refusal::number`: a number"): "answers: two lines for `Refusal::number`",
-    ("  - none: `returns-2` of `Refusal::number`\n", ""): "answers: `Refusal::number` has 1 wrong programs",
-    ("  - none: `returns-2` of `Refusal::number`", "  - none: it is wrong"): "answers: `Refusal::number`: no need refuses this: none: it is wrong",
+    ("  - none: `returns-in-SessionBroken` of `Refusal::number`\n", ""): "answers: `Refusal::number` has 1 wrong programs",
+    ("  - none: `returns-in-SessionBroken` of `Refusal::number`", "  - none: it is wrong"): "answers: `Refusal::number`: no goal refuses this: none: it is wrong",
     ("of `Refusal::number`", "of `Refusal::value`"): "answers: `Refusal::number`: there is no `Refusal::value` in answers",
-    ("`returns-2` of `Refusal::number`", "`returns-99`"): "answers: `Refusal::number`: there is no `returns-99` in the proof of `Refusal::number`",
-    ("`returns-2` of `Refusal::number`", "`walk`, a step of its proof"): "answers: `Refusal::number`: there is no `walk` in the proof of `Refusal::number`",
+    ("`returns-in-SessionBroken` of `Refusal::number`", "`returns-99`"): "answers: `Refusal::number`: there is no `returns-99` in the proof of `Refusal::number`",
+    ("`returns-in-SessionBroken` of `Refusal::number`", "`walk`, a step of its proof"): "answers: `Refusal::number`: there is no `walk` in the proof of `Refusal::number`",
     ("## answers", "## Answers"): "chapters: ; crates with public functions: answers",
     ("order_3_5", "order_5_3"): "no line for card/order_3_5",
     ("`first-row`", "`last-row`"): "card/order_3_5: no `last-row` in crates/card/proofs/FirstRow.antt",
@@ -199,8 +205,8 @@ def test_what_is_wrong_in_promises_is_told():
 
 
 def test_a_public_function_with_no_promise_is_told():
-    code = "impl T {\n    pub fn f(self) -> u8\n        ensures { λ r. ⌜ r ≡ 0 ⌝ }\n    {\n        0\n    }\n}\n\npub fn g(n: u8) -> u8 {\n    n\n}\n\npub fn main() {\n}\n"
+    code = "impl T {\n    pub fn f(self) -> u8\n        ensures { result ≡ 0 }\n    {\n        0\n    }\n}\n\npub fn g(n: u8) -> u8 {\n    n\n}\n\npub fn main() {\n}\n"
     found = dict(functions_in(code))
     assert list(found) == ["T::f", "g"], found
     assert promised(found["T::f"]) and not promised(found["g"])
-    assert not promised("\n    requires { n < 2 }\n    ensures { λ r. ⌜ r ≡ 0 ⌝ }\n")
+    assert not promised("\n    requires { n < 2 }\n    ensures { result ≡ 0 }\n")

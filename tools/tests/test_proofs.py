@@ -1,7 +1,7 @@
 """docs/PROOFS.md: a theorem that a table gives with a file is public there; so is a name that any page gives with a path, as `name` (crates/…) or `name` in crates/….
 
 In a table, a file without a crate is one of the path before it in the row, or else of the last folder crates/… that the page named; it stands in
-proofs/, if nothing else is said. A name with no `-` is a definition or a function of any crate, and another row's theorem may be named.
+proofs/, if nothing else is said. A name that is a definition or a function of any crate, and another row's theorem, may be named, and so may a law of one word.
 """
 import os
 import re
@@ -36,12 +36,18 @@ def rows_of(page):
             yield number, names, files
 
 
+def known(name):
+    """A definition or a function, or a law of one word."""
+    places = ("specs/*.antt", "src/*.rt") if re.search("[-_]", name) else ("specs/*.antt", "proofs/*.antt", "src/*.rt")
+    return bool(elsewhere("*", name, places))
+
+
 def table_faults(page):
     rows = list(rows_of(page))
     given = {name for _, names, files in rows for name in names if any(public(path, name) for path in files)}
     faults = [f"line {line}: there is no {path}" for line, _, files in rows for path in files if not os.path.exists(path)]
     for line, names, files in rows:
-        faults += [f"line {line}: no public `{name}` in {', '.join(files)}" for name in names if name not in given and ("-" in name or not elsewhere("*", name))]
+        faults += [f"line {line}: no public `{name}` in {', '.join(files)}" for name in names if name not in given and not known(name)]
     return faults, len(given)
 
 
@@ -64,19 +70,19 @@ def test_names_with_a_path_stand_there():
 
 RIGHT = """Of tables in crates/laws:
 | no rule | statement | wrong |
-| a rule | `coded-kept`, of `Machine` (Coded.antt); by the offset (specs/ByOffset.antt); `first-row` says which | a wrong `card` |
+| a rule | `coded_kept`, of `Machine` (Coded.antt); by the offset (specs/ByOffset.antt); `first-row` says which | a wrong `card` |
 | a rule | `first-row` | crates/card/proofs/FirstRow.antt, each test in specs/Rows.antt | another |
-| a rule | `opening-first-row` | the same file | another |
+| a rule | `opening_first_row` | the same file | another |
 """
 # What is changed in it, and what is to be told.
 WRONG = {
-    ("`coded-kept`", "`coded-lost`"): "line 3: no public `coded-lost` in crates/laws/proofs/Coded.antt, crates/laws/specs/ByOffset.antt",
+    ("`coded_kept`", "`coded_lost`"): "line 3: no public `coded_lost` in crates/laws/proofs/Coded.antt, crates/laws/specs/ByOffset.antt",
     ("`Machine`", "`Mechanic`"): "line 3: no public `Mechanic` in crates/laws/proofs/Coded.antt, crates/laws/specs/ByOffset.antt",
     ("(Coded.antt)", "(Encoded.antt)"): "line 3: there is no crates/laws/proofs/Encoded.antt",
     ("crates/laws", "crates/card"): "line 3: there is no crates/card/proofs/Coded.antt",
     ("| `first-row` |", "| `last-row` |"): "line 3: no public `first-row` in crates/laws/proofs/Coded.antt, crates/laws/specs/ByOffset.antt",
     ("specs/Rows", "specs/Columns"): "line 4: there is no crates/card/specs/Columns.antt",
-    ("`opening-first-row`", "`opening-last-row`"): "line 5: no public `opening-last-row` in crates/card/proofs/FirstRow.antt",
+    ("`opening_first_row`", "`opening_last_row`"): "line 5: no public `opening_last_row` in crates/card/proofs/FirstRow.antt",
 }
 
 
@@ -85,6 +91,6 @@ def test_what_is_wrong_in_the_tables_is_told():
     for (old, new), fault in WRONG.items():
         assert RIGHT.count(old) == 1, old
         assert fault in table_faults(RIGHT.replace(old, new))[0], (new, table_faults(RIGHT.replace(old, new)))
-    text = "`sound-kept` and `well-kept` (crates/kept/proofs/Step.antt); `reshaped` in `crates/geometry/specs/Shape.antt`, "
+    text = "`sound_kept` and `well_kept` (crates/kept/proofs/Step.antt); `reshaped` in `crates/geometry/specs/Shape.antt`, "
     assert not text_faults(text), text_faults(text)
-    assert text_faults(text.replace("well", "ill").replace("`resh", "`unsh")) == ["no public `ill-kept` in crates/kept/proofs/Step.antt", "no public `unshaped` in crates/geometry/specs/Shape.antt"]
+    assert text_faults(text.replace("well", "ill").replace("`resh", "`unsh")) == ["no public `ill_kept` in crates/kept/proofs/Step.antt", "no public `unshaped` in crates/geometry/specs/Shape.antt"]

@@ -82,20 +82,20 @@ def test_names_of_the_rules_stand_where_their_rows_say():
     assert told.rows and told.names and told.places and told.decisions
 
 
-RIGHT = """A place stands before its names: `crate/File` (answers/Answers `outcomeNumber`). `no-name` has none; must-fail crate/edit, sessions/NAME.
+RIGHT = """A place stands before its names: `crate/File` (answers/Answers `outcome_number`). `no-name` has none; must-fail crate/edit, sessions/NAME.
 ## Answers
 What is refused: answers/Answers `refused`.
-| R1 | a rule (D1) | answers/Answers `numberOf StoreLength`, answers/Rows `FirstRow`; `ground` | promise of answers/src/lib `Refusal::number` |
+| R1 | a rule (D1) | answers/Answers `number_of StoreLength`, answers/Rows `FirstRow`; `ground` | promise of answers/src/lib `Refusal::number` |
 | R2 | a rule | answers/src/lib `Outcome`, `Accepted`; answers/Answers `Says` | card/proofs/FirstRow `first-row`: sample 13; must-fail card/order_3_5; run: sessions/sample |
 | R2a | a rule | no definition | `tools/compare` |
 """
 # What is changed in it, and what is to be told.
 WRONG = {
-    ("`outcomeNumber`", "`outcomeWeight`"): "introduction: no `outcomeWeight` in crates/answers/specs/Answers.antt",
+    ("`outcome_number`", "`outcome_weight`"): "introduction: no `outcome_weight` in crates/answers/specs/Answers.antt",
     ("(answers/Answers", "(answers/Refusals"): "introduction: there is no crates/answers/specs/Refusals.antt",
     ("`refused`", "`refuted`"): "Answers: no `refuted` in crates/answers/specs/Answers.antt",
-    ("`numberOf StoreLength`", "`numbersOf`"): "R1: no `numbersOf` in crates/answers/specs/Answers.antt",
-    ("`numberOf StoreLength`", "`outcomeValue StoreLength`"): "R1: no StoreLength in `outcomeValue` of crates/answers/specs/Answers.antt",
+    ("`number_of StoreLength`", "`numbers_of`"): "R1: no `numbers_of` in crates/answers/specs/Answers.antt",
+    ("`number_of StoreLength`", "`outcome_value StoreLength`"): "R1: no StoreLength in `outcome_value` of crates/answers/specs/Answers.antt",
     ("answers/Rows `FirstRow`", "answers/Columns `FirstRow`"): "R1: there is no crates/answers/specs/Columns.antt",
     ("answers/Rows `FirstRow`", "answers/Answers `FirstRow`"): "R1: no `FirstRow` in crates/answers/specs/Answers.antt, but in crates/answers/specs/Rows.antt",
     ("`ground`", "`grounds`"): "R1: there is no grounds",
