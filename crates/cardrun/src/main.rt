@@ -1,32 +1,17 @@
 // `cardrun`: a session file from standard input, and everything that is printed of it.
 #![tactic(auto)]
 
-ghost use Rattle.std.specs.Prelude.{◌≤◌, length};
+// The numbers of standard input and output.
+const STDIN_FILENO: i32 = 0;
 
-use std::io::{Read, Stdin};
-
-// Reads until the buffer is full, the input ends or a read fails; gives how many bytes it has put at its start.
-fn read_full(input: &mut Stdin, buffer: &mut [u8]) -> usize
-    ensures { result ≤ length buffer.new }
-{
-    let mut done = 0;
-    while done < buffer.len() {
-        let n = input.read(&mut buffer[done..]).unwrap_or(0);
-        if n == 0 {
-            break;
-        }
-        done += n;
-    }
-    done
-}
+const STDOUT_FILENO: i32 = 1;
 
 // Reads to the input's end, or one byte past the longest file; plays; writes once.
-fn main(rt: HostRuntime) {
+fn main() {
     let mut file = [0u8; session::LONGEST_FILE + 1];
-    let size = read_full(&mut rt.stdin(), &mut file);
-    let mut out = [0u8; 65536];
+    let size = io::read_full(STDIN_FILENO, &mut file);
+    let mut out = io::large_buffer();
     let told = session::play::play(&file[..size], &mut out);
     let text = told.text;
-    // A write that fails ends the printing; there is no other place to tell it.
-    let _ = rt.write_all(&out[..text]);
+    io::write_all(STDOUT_FILENO, &out[..text]);
 }

@@ -4,38 +4,29 @@ use crate::{bytes, lines};
 use card::{Answer, Card};
 use ground::Sector;
 use maps::Access;
-use std::io::Stdout;
 
 // The A line.
-fn answer_line(to: Stdout, answer: Answer) {
+fn answer_line(answer: Answer) {
     let outcome = answer.outcome;
     let mut numbers = trial_cards::rows::row_of(answer.card);
     numbers[0] = ground::wide(outcome.number());
     numbers[1] = outcome.value();
     numbers[2] = trial_cards::rows::one_of(answer.line);
     lines::line(
-        to,
         b"A 10 3210 0 10 10 10 10 10 10 10 10 10 10 0 3210 3210 3210 0 0 3210 3210 3210 3210 3210 3210\n",
         &numbers,
     );
 }
 
-fn open(to: Stdout, w: Words, store: &[u8], marks: &[u8], tuples: &[u8]) -> Card {
+fn open(w: Words, store: &[u8], marks: &[u8], tuples: &[u8]) -> Card {
     let answer = Card::open(w.w1, w.w2, w.w3, w.w4, store, marks, tuples);
-    answer_line(to, answer);
+    answer_line(answer);
     answer.card
 }
 
-fn access(
-    to: Stdout,
-    card: Card,
-    access: Access,
-    store: &mut [u8],
-    marks: &mut [u8],
-    tuples: &[u8],
-) -> Card {
+fn access(card: Card, access: Access, store: &mut [u8], marks: &mut [u8], tuples: &[u8]) -> Card {
     let answer = card.access(access, store, marks, tuples);
-    answer_line(to, answer);
+    answer_line(answer);
     answer.card
 }
 
@@ -58,14 +49,7 @@ fn next_value(value: u16, width: u8, step: u16) -> u16 {
     next % 256
 }
 
-fn accesses(
-    to: Stdout,
-    card: Card,
-    w: Words,
-    store: &mut [u8],
-    marks: &mut [u8],
-    tuples: &[u8],
-) -> Card {
+fn accesses(card: Card, w: Words, store: &mut [u8], marks: &mut [u8], tuples: &[u8]) -> Card {
     let space = low(w.w1);
     let width = low(w.w2);
     let n = times(w.w6);
@@ -80,7 +64,7 @@ fn accesses(
             address: w.w4,
             write: w.w3 != 0,
         };
-        c = access(to, c, asked, store, marks, tuples);
+        c = access(c, asked, store, marks, tuples);
         value = next_value(value, width, w.w7);
         i += 1;
     }
@@ -93,24 +77,23 @@ fn sum_of(buffer: Sector) -> u16 {
 }
 
 // The S line and the M line.
-fn show(to: Stdout, buffer: Sector, store: &[u8], marks: &[u8], tuples: &[u8]) {
+fn show(buffer: Sector, store: &[u8], marks: &[u8], tuples: &[u8]) {
     let numbers = [bytes::sum(store), sum_of(buffer), bytes::sum(tuples)];
-    lines::line(to, b"S 3210 3210 3210\n", &numbers);
-    lines::bytes_line(to, b"M ", marks);
+    lines::line(b"S 3210 3210 3210\n", &numbers);
+    lines::bytes_line(b"M ", marks);
 }
 
 // Kinds 1 and 12, which change no row.
-fn opened(to: Stdout, card: Card, w: Words, store: &[u8], marks: &[u8], tuples: &[u8]) -> Card {
+fn opened(card: Card, w: Words, store: &[u8], marks: &[u8], tuples: &[u8]) -> Card {
     if w.w0 == 1 {
-        return open(to, w, store, marks, tuples);
+        return open(w, store, marks, tuples);
     }
     let buffer = card.buffer;
-    show(to, buffer, store, marks, tuples);
+    show(buffer, store, marks, tuples);
     card
 }
 
 pub(crate) fn record(
-    to: Stdout,
     card: Card,
     w: Words,
     store: &mut [u8],
@@ -118,7 +101,7 @@ pub(crate) fn record(
     tuples: &[u8],
 ) -> Card {
     if w.w0 == 3 {
-        return accesses(to, card, w, store, marks, tuples);
+        return accesses(card, w, store, marks, tuples);
     }
-    opened(to, card, w, store, marks, tuples)
+    opened(card, w, store, marks, tuples)
 }

@@ -1,5 +1,4 @@
-// Lines of text, each written at once. A write that fails is let go: there is no other place to tell it.
-use std::io::Stdout;
+// Lines of text, each written at once.
 
 fn digit(n: u16) -> u8 {
     let d = (n % 16) as u8;
@@ -37,7 +36,7 @@ fn number_or_zero(numbers: &[u16], number: u8) -> u16 {
 }
 
 // A pattern of at most 128 bytes, with the numbers in turn.
-pub(crate) fn line(to: Stdout, pattern: &[u8], numbers: &[u16]) {
+pub(crate) fn line(pattern: &[u8], numbers: &[u16]) {
     let n = ground::at_most(pattern.len(), 128);
     let mut out = [0u8; 128];
     let mut number: u8 = 0;
@@ -48,7 +47,7 @@ pub(crate) fn line(to: Stdout, pattern: &[u8], numbers: &[u16]) {
         number = next(number, c);
         i += 1;
     }
-    let _ = to.write_all(&out[..n]);
+    io::write_all(1, &out[..n]);
 }
 
 fn byte_digit(byte: u8, i: usize) -> u8 {
@@ -60,7 +59,7 @@ fn byte_digit(byte: u8, i: usize) -> u8 {
 }
 
 // A start, at most 1,024 bytes, a newline.
-pub(crate) fn bytes_line(to: Stdout, start: &[u8], bytes: &[u8]) {
+pub(crate) fn bytes_line(start: &[u8], bytes: &[u8]) {
     let n = 2 * ground::at_most(bytes.len(), 1024);
     let mut out = [0u8; 2048];
     let mut i: usize = 0;
@@ -68,7 +67,7 @@ pub(crate) fn bytes_line(to: Stdout, start: &[u8], bytes: &[u8]) {
         out[i] = byte_digit(ground::byte_or_zero(bytes, i / 2), i);
         i += 1;
     }
-    let _ = to.write_all(start);
-    let _ = to.write_all(&out[..n]);
-    let _ = to.write_all(b"\n");
+    io::write_all(1, start);
+    io::write_all(1, &out[..n]);
+    io::write_all(1, b"\n");
 }

@@ -2,7 +2,6 @@
 use crate::words::{Words, low};
 use crate::{bytes, lines};
 use answers::Outcome;
-use std::io::Stdout;
 use tuples::Entry;
 
 pub(crate) fn entry(w: Words) -> Entry {
@@ -14,15 +13,15 @@ pub(crate) fn entry(w: Words) -> Entry {
 }
 
 // The R line and the W line; the R line has no sum.
-fn outcome_line(to: Stdout, pattern: &[u8], outcome: Outcome, sum: u16) {
+fn outcome_line(pattern: &[u8], outcome: Outcome, sum: u16) {
     let numbers = [ground::wide(outcome.number()), outcome.value(), sum];
-    lines::line(to, pattern, &numbers);
+    lines::line(pattern, &numbers);
 }
 
 // An E line.
-fn entry_line(to: Stdout, e: Entry) {
+fn entry_line(e: Entry) {
     let numbers = [ground::wide(e.code), e.start, e.length];
-    lines::line(to, b"E 10 3210 3210\n", &numbers);
+    lines::line(b"E 10 3210 3210\n", &numbers);
 }
 
 // The places that are shown: the entries, and two more.
@@ -33,17 +32,17 @@ fn places_shown(entries: u16) -> usize {
     256
 }
 
-fn read(to: Stdout, w: Words, buffer: &[u8]) {
+fn read(w: Words, buffer: &[u8]) {
     let places = w.w1 as usize;
     let before = entry(w);
     let first = trial_lists::read_into(buffer, places, before, 0);
     let outcome = first.outcome;
-    outcome_line(to, b"R 10 3210\n", outcome, 0);
+    outcome_line(b"R 10 3210\n", outcome, 0);
     let n = places_shown(outcome.value());
     let mut i: usize = 0;
     while i < n {
         let h = trial_lists::read_into(buffer, places, before, i);
-        entry_line(to, h.entry);
+        entry_line(h.entry);
         i += 1;
     }
 }
@@ -56,18 +55,18 @@ fn written(w: Words, last: Entry, bodies: &[u8], buffer: &mut [u8]) -> Outcome {
 }
 
 // The W line and the T line.
-fn written_lines(to: Stdout, outcome: Outcome, buffer: &[u8]) {
-    outcome_line(to, b"W 10 3210 3210\n", outcome, bytes::sum(buffer));
-    lines::bytes_line(to, b"T ", buffer);
+fn written_lines(outcome: Outcome, buffer: &[u8]) {
+    outcome_line(b"W 10 3210 3210\n", outcome, bytes::sum(buffer));
+    lines::bytes_line(b"T ", buffer);
 }
 
-pub(crate) fn record(to: Stdout, w: Words, last: Entry, bodies: &[u8], buffer: &mut [u8]) {
+pub(crate) fn record(w: Words, last: Entry, bodies: &[u8], buffer: &mut [u8]) {
     if w.w0 == 6 {
-        read(to, w, buffer);
+        read(w, buffer);
         return;
     }
     if w.w0 == 7 || w.w0 == 14 {
         let outcome = written(w, last, bodies, buffer);
-        written_lines(to, outcome, buffer);
+        written_lines(outcome, buffer);
     }
 }

@@ -10,7 +10,6 @@ mod words;
 ghost use Rattle.std.specs.Prelude.{◌≡◌, ◌≤◌, length};
 
 use card::Card;
-use std::io::{Read, Stdin, Stdout};
 use tuples::Entry;
 use words::{Words, low};
 
@@ -137,14 +136,14 @@ fn card_record(card: Card, w: Words) -> Card {
 }
 
 // Kinds 6, 7 and 14.
-fn list_record(to: Stdout, rows: Rows, side: Side, w: Words) -> Rows {
+fn list_record(rows: Rows, side: Side, w: Words) -> Rows {
     let lent = side.lent;
     let last = side.last;
     let bodies = rows.bodies;
     let mut tuples = rows.tuples;
-    let b = ground::at_most(lent.bodies as usize, bodies.len());
-    let t = ground::at_most(lent.tuples as usize, tuples.len());
-    lists::record(to, w, last, &bodies[..b], &mut tuples[..t]);
+    let b = io::count(lent.bodies as isize, &bodies);
+    let t = io::count(lent.tuples as isize, &tuples);
+    lists::record(w, last, &bodies[..b], &mut tuples[..t]);
     Rows {
         tuples: tuples,
         ..rows
@@ -152,20 +151,13 @@ fn list_record(to: Stdout, rows: Rows, side: Side, w: Words) -> Rows {
 }
 
 // Kinds 1, 3 and 12.
-fn door_record(
-    to: Stdout,
-    card: Card,
-    rows: Rows,
-    lent: Lengths,
-    w: Words,
-    store: &mut [u8],
-) -> Bench {
+fn door_record(card: Card, rows: Rows, lent: Lengths, w: Words, store: &mut [u8]) -> Bench {
     let tuples = rows.tuples;
     let mut marks = rows.marks;
-    let t = ground::at_most(lent.tuples as usize, tuples.len());
-    let m = ground::at_most(lent.marks as usize, marks.len());
-    let s = ground::at_most(lent.store as usize, store.len());
-    let next = doors::record(to, card, w, &mut store[..s], &mut marks[..m], &tuples[..t]);
+    let t = io::count(lent.tuples as isize, &tuples);
+    let m = io::count(lent.marks as isize, &marks);
+    let s = io::count(lent.store as isize, store);
+    let next = doors::record(card, w, &mut store[..s], &mut marks[..m], &tuples[..t]);
     Bench {
         card: next,
         rows: Rows {
@@ -186,44 +178,29 @@ fn at_doors(kind: u16) -> bool {
 }
 
 // One record. Each function does nothing at a kind that is not its own.
-fn turn(to: Stdout, bench: Bench, side: Side, w: Words, store: &mut [u8]) -> Bench {
+fn turn(bench: Bench, side: Side, w: Words, store: &mut [u8]) -> Bench {
     if at_doors(w.w0) {
-        return door_record(to, bench.card, bench.rows, side.lent, w, store);
+        return door_record(bench.card, bench.rows, side.lent, w, store);
     }
     bytes::fill(store, w);
     let card = card_record(bench.card, w);
-    let rows = list_record(to, row_record(bench.rows, w), side, w);
+    let rows = list_record(row_record(bench.rows, w), side, w);
     Bench {
         card: card,
         rows: rows,
     }
 }
 
-// Reads until the buffer is full, the input ends or a read fails; gives how many bytes it has put at its start.
-fn read_full(input: &mut Stdin, buffer: &mut [u8]) -> usize
-    ensures { result ≤ length buffer.new }
-{
-    let mut done = 0;
-    while done < buffer.len() {
-        let n = input.read(&mut buffer[done..]).unwrap_or(0);
-        if n == 0 {
-            break;
-        }
-        done += n;
-    }
-    done
-}
-
 // Reads the input; the end of its last whole record is given.
-fn read(from: &mut Stdin, input: &mut [u8]) -> u32
+fn read(input: &mut [u8]) -> u32
     ensures { result ≤ 65536 }
 {
-    let n = ground::at_most(read_full(from, input), 65536);
+    let n = ground::at_most(io::read_full(0, input), 65536);
     (n - n % 16) as u32
 }
 
 // The records in turn, and at the end one of kind 12.
-fn play(to: Stdout, input: &[u8], end: u32, store: &mut [u8])
+fn play(input: &[u8], end: u32, store: &mut [u8])
     requires { end ≤ 65536 }
 {
     let mut bench = start();
@@ -233,7 +210,7 @@ fn play(to: Stdout, input: &[u8], end: u32, store: &mut [u8])
         let w = words::words_at(input, place, end);
         place += 16;
         side = changed(side, w);
-        bench = turn(to, bench, side, w, store);
+        bench = turn(bench, side, w, store);
     }
 }
 
@@ -243,9 +220,9 @@ fn zero_store() -> [u8; 524288]
     [0; 524288]
 }
 
-fn main(rt: HostRuntime) {
-    let mut input = [0u8; 65536];
+fn main() {
+    let mut input = io::large_buffer();
     let mut store = zero_store();
-    let end = read(&mut rt.stdin(), &mut input);
-    play(rt.stdout(), &input, end, &mut store);
+    let end = read(&mut input);
+    play(&input, end, &mut store);
 }

@@ -3,12 +3,12 @@
 --     Filling       k of n entries are written over ls, and the chain's other entries are those from `at` on; `start`, `more`: none is written; one more is
 use mathlib.Core.Path.{◌≡◌, refl, sym, ◌∙◌, ap}
 use mathlib.Core.List.{List, ◌∷◌, ◌++◌, nil≢cons, []}
-use Prim.Native.Nat.{ℕ, suc, ◌+◌, ◌<◌, ◌≤◌}
+use Prim.Native.Nat.{ℕ, suc, ◌+◌, ◌^◌, ◌<◌, ◌≤◌}
 use native.Mathlib.Omega.{arith}
 use native.Mathlib.Numerals.{add-one}
 use lib.ListN.{length, get_or, take, drop, set}
 use lib.Seq.{drop-cons, drop-drop, take-suc, set_at, length-take-le, length_front, append_snoc}
-use lib.Dec.{leb, eqb}
+use lib.Dec.{leb, eqb, lit<}
 use Rattle.ground.proofs.Picks.{pick-elim}
 use Rattle.tuples.specs.Chain.{Chain, entry, no_entry, end_of, chain_from, chain_at, next_at, first_found, found}
 use Rattle.tuples.specs.declared.Entry.{Entry}
@@ -57,12 +57,13 @@ pub record Filling (s : List ℕ) (ls : List Entry) (n : ℕ) : Type 0 where
   pub k : ℕ
   pub at : ℕ
   pub zs : List Entry
+  pub fits : at < 2 ^ 64
   pub most : k ≤ n
   pub left : (chain_at s at).entries ≡ drop k (all s)
   pub so_far : zs ≡ take k (all s) ++ drop k ls
 
 abbrev pub start : (s : List ℕ) (ls : List Entry) (n : ℕ) → Filling s ls n
-start s ls n = record { k = 0; at = 0; zs = ls; most = omega arith; left = refl; so_far = refl }
+start s ls n = record { k = 0; at = 0; zs = ls; fits = lit< tt; most = omega arith; left = refl; so_far = refl }
 
 -- one element more, where the list was filled up to it
 pub fill_one : {A : Type 0} (es ls zs : List A) (k : ℕ) (d e : A) → k < length es → k < length ls → e ≡ get_or es k d → zs ≡ take k es ++ drop k ls → set zs k e ≡ take (k + 1) es ++ drop (k + 1) ls
@@ -74,7 +75,7 @@ fill_one es ls zs k d e p q h f =
     ∙ ap (λ (j : ℕ). take j es ++ drop j ls) (sym (add-one k))
 
 module _ {s : List ℕ} {ls : List Entry} {n : ℕ} (F : Filling s ls n) (less : F.k < n) (in_es : n ≤ length (all s)) (in_ls : n ≤ length ls)
-    (e : Entry) (m : ℕ) (next : found e m ≡ next_at s F.at) where
+    (e : Entry) (m : ℕ) (m-fits : m < 2 ^ 64) (next : found e m ≡ next_at s F.at) where
   pub one : (e ≡ get_or (all s) F.k no_entry) × ((chain_at s m).entries ≡ drop (suc F.k) (all s))
   one =
       let o = onward s F.at (get_or (all s) F.k no_entry) (drop (suc F.k) (all s)) (F.left ∙ drop-cons (all s) F.k no_entry (omega arith)) in
@@ -85,6 +86,7 @@ module _ {s : List ℕ} {ls : List Entry} {n : ℕ} (F : Filling s ls n) (less :
     k = F.k + 1;
     at = m;
     zs = set F.zs F.k e;
+    fits = m-fits;
     most = omega arith;
     left = one.1 ∙ ap (λ (j : ℕ). drop j (all s)) (sym (add-one F.k));
     so_far = fill_one (all s) ls F.zs F.k no_entry e (omega arith) (omega arith) one.0 F.so_far;

@@ -1,7 +1,10 @@
 -- The loop goes as `Filling` says, and the reader's answer says that its count is within the chain and within the list.
 use Rattle.std.proofs.Common.{◌≡◌, ◌≤◌, ◌<◌, ◌++◌, ℕ, List, length, take, drop, sym, ◌∙◌, ap, subst, arith}
 use Rattle.answers.proofs.Outcomes.{says as outcomes-say}
-use Rattle.tuples.specs.Chain.{next_at, found}
+use Rattle.std.proofs.Common.{◌∷◌, ◌^◌}
+use lib.Seq.{drop-cons}
+use Rattle.tuples.specs.Chain.{chain_at, next_at, found, first_found, end_of, no_entry}
+use Rattle.tuples.specs.declared.chain.Found.{Found}
 use Rattle.tuples.specs.Read.{read_outcome, read_list, checked}
 use Rattle.tuples.specs.declared.Entry.{Entry}
 use Rattle.tuples.specs.declared.read.Checked.{Checked}
@@ -32,16 +35,26 @@ bounds-list-k c =
     let w = within c.args.buffer.now c.args.list.now _ c.check_read-check.ensures in
     omega arith
 
+-- the place behind a tuple that was found is its end
+behind : (s : List ℕ) (at m : ℕ) (e x : Entry) (es : List Entry) → found e m ≡ next_at s at → (chain_at s at).entries ≡ x ∷ es → m ≡ end_of e
+unfolding next_at
+behind s at m e x es n p =
+    let f = n ∙ ap (λ (l : List Entry). first_found l at) p in
+    ap (λ (y : Found). y.next) f ∙ sym (ap (λ (y : Found). end_of y.entry) f)
+
 pub loop-k-preserved : goal.loop-k-preserved
 loop-k-preserved c =
     let s = c.args.buffer.now in
     let ls = c.args.list.now in
     let l = c.loop-k in
+    let e = c.advance-e.result in
     let w = within s ls _ c.check_read-check.ensures in
-    let f : Filling s ls c.check_read-check.result.count = record { k = l.k; at = l.reader.place; zs = l.list; most = l.invariant.most; left = l.invariant.left; so_far = l.invariant.so_far } in
-    let onward : found c.advance-e.result c.advance-e.new.r.place ≡ next_at s l.reader.place = rw l.invariant.same at c.advance-e.ensures.1 in
-    let m : Filling s ls c.check_read-check.result.count = more f c.loop-k-test.true w.in_es w.in_ls c.advance-e.result c.advance-e.new.r.place onward in
-    record { same = ap (λ b. b.now) c.advance-e.ensures.0 ∙ l.invariant.same; most = m.most; left = m.left; so_far = m.so_far }
+    let f : Filling s ls c.check_read-check.result.count = record { k = l.k; at = l.reader.place; zs = l.list; fits = l.invariant.fits; most = l.invariant.most; left = l.invariant.left; so_far = l.invariant.so_far } in
+    let onward : found e c.advance-e.new.r.place ≡ next_at s l.reader.place = rw l.invariant.same at c.advance-e.ensures.1 in
+    let end : c.advance-e.new.r.place ≡ end_of e = behind s l.reader.place _ e _ _ onward (f.left ∙ drop-cons (all s) l.k no_entry (omega arith)) in
+    let small : end_of e < 2 ^ 64 = omega (arith, c.advance-e.type_inv) in
+    let m : Filling s ls c.check_read-check.result.count = more f c.loop-k-test.true w.in_es w.in_ls e c.advance-e.new.r.place (rw end small) onward in
+    record { same = ap (λ b. b.now) c.advance-e.ensures.0 ∙ l.invariant.same; fits = m.fits; most = m.most; left = m.left; so_far = m.so_far }
 
 pub returns : goal.returns
 returns c =
