@@ -6,8 +6,9 @@ Up to the next `;`, a place holds for the names in backticks after it:
     crate/proofs/File     crates/crate/proofs/File.antt
     crate/src/file        crates/crate/src/file.rt
 
-A name is a definition, law, record, field or case that begins its own line there, in code a function (`T::f` in an `impl T`), enum, struct,
-variant or constant. Words after it, as in `obeyed Sense`, stand in its text. A name with no place before it is a crate or a path from the root.
+A name is a definition, law, record, field or case that begins its own line there, in code a function (`T::f` in an `impl T`, `TFromS::f`
+in an `impl From<S> for T`, as the check names it), enum, struct, variant or constant. Words after it, as in `obeyed Sense`, stand in its text.
+A name with no place before it is a crate or a path from the root.
 """
 import functools
 import glob
@@ -50,7 +51,8 @@ def in_code(text, name):
     """The text of a function, enum, struct, variant or constant of an .rt file."""
     if "::" in name:
         owner, name = name.split("::")
-        parts = re.findall(rf"^impl(?:<[^>]*>)? {owner}\b.*?^}}", text, re.M | re.S)
+        impls = re.finditer(r"^impl(?:<[^>]*>)? (?:(\w+)(?:<(\w+)>)? for )?(\w+)\b.*?^}", text, re.M | re.S)
+        parts = [found[0] for found in impls if f"{found[3]}{found[1] or ''}{found[2] or ''}" == owner]
         begins = rf"^    (?:pub(?:\(crate\))? )?fn {re.escape(name)}\b"
     else:
         parts = [text]

@@ -161,14 +161,14 @@ RIGHT = """`A lemma`: ground/proofs/OnlyOne `only_one`
 | `answered r store marks` | a lemma |
 ## answers
 - `Refusal::number`: `number_of` (`only_both`).
-  - another: `returns-in-StoreLength`
-  - none: `returns-in-SessionBroken` of `Refusal::number`
-- `Outcome::number`: a number, without a proof file.
-  - another: `returns-in-Accepted`
-  - none: `returns-in-Refused`
-- `Outcome::value`: a value.
-  - another: `returns-in-Accepted`
-  - none: `returns-in-Refused`
+  - another: `returns`
+  - none: `returns` of `Refusal::number`
+- `number`: a number, without a proof file.
+  - another: `returns-in-Ok`
+  - none: `returns-in-Err`
+- `value`: a value.
+  - another: `returns`
+  - none: `returns`
 
 ## Where a must-fail edit is refused
 - card/order_3_5: definition, code and proof: 5 before 3: card/proofs/FirstRow `first-row`; and `returns` of `verdict_of`
@@ -179,13 +179,13 @@ WRONG = {
     ("`number_of`", "`numbers_of`"): "answers: `Refusal::number`: there is no definition `numbers_of`",
     ("`only_both`", "`only_three`"): "answers: `Refusal::number`: there is no definition `only_three`",
     ("`only_one`", "`only_two`"): "text: no `only_two` in crates/ground/proofs/OnlyOne.antt",
-    ("- `Outcome::value`: a value", "- `Outcome::worth`: a value"): "answers: no line for `Outcome::value`",
-    ("- `Outcome::number`: a number", "- `Refusal::number`: a number"): "answers: two lines for `Refusal::number`",
-    ("  - none: `returns-in-SessionBroken` of `Refusal::number`\n", ""): "answers: `Refusal::number` has 1 wrong programs",
-    ("  - none: `returns-in-SessionBroken` of `Refusal::number`", "  - none: it is wrong"): "answers: `Refusal::number`: no goal refuses this: none: it is wrong",
+    ("- `value`: a value", "- `worth`: a value"): "answers: no line for `value`",
+    ("- `number`: a number", "- `Refusal::number`: a number"): "answers: two lines for `Refusal::number`",
+    ("  - none: `returns` of `Refusal::number`\n", ""): "answers: `Refusal::number` has 1 wrong programs",
+    ("  - none: `returns` of `Refusal::number`", "  - none: it is wrong"): "answers: `Refusal::number`: no goal refuses this: none: it is wrong",
     ("of `Refusal::number`", "of `Refusal::value`"): "answers: `Refusal::number`: there is no `Refusal::value` in answers",
-    ("`returns-in-SessionBroken` of `Refusal::number`", "`returns-99`"): "answers: `Refusal::number`: there is no `returns-99` in the proof of `Refusal::number`",
-    ("`returns-in-SessionBroken` of `Refusal::number`", "`walk`, a step of its proof"): "answers: `Refusal::number`: there is no `walk` in the proof of `Refusal::number`",
+    ("`returns` of `Refusal::number`", "`returns-99`"): "answers: `Refusal::number`: there is no `returns-99` in the proof of `Refusal::number`",
+    ("`returns` of `Refusal::number`", "`walk`, a step of its proof"): "answers: `Refusal::number`: there is no `walk` in the proof of `Refusal::number`",
     ("## answers", "## Answers"): "chapters: ; crates with public functions: answers",
     ("order_3_5", "order_5_3"): "no line for card/order_3_5",
     ("`first-row`", "`last-row`"): "card/order_3_5: no `last-row` in crates/card/proofs/FirstRow.antt",

@@ -86,7 +86,7 @@ RIGHT = """A place stands before its names: `crate/File` (answers/Answers `outco
 ## Answers
 What is refused: answers/Answers `refused`.
 | R1 | a rule (D1) | answers/Answers `number_of StoreLength`, answers/Rows `FirstRow`; `ground` | promise of answers/src/lib `Refusal::number` |
-| R2 | a rule | answers/src/lib `Outcome`, `Accepted`; answers/Answers `Says` | card/proofs/FirstRow `first-row`: sample 13; must-fail card/order_3_5; run: sessions/sample |
+| R2 | a rule | registers/src/lib `Phase`, `Idle`; answers/Answers `Says` | card/proofs/FirstRow `first-row`: sample 13; must-fail card/order_3_5; run: sessions/sample |
 | R2a | a rule | no definition | `tools/compare` |
 """
 # What is changed in it, and what is to be told.
@@ -100,7 +100,7 @@ WRONG = {
     ("answers/Rows `FirstRow`", "answers/Answers `FirstRow`"): "R1: no `FirstRow` in crates/answers/specs/Answers.antt, but in crates/answers/specs/Rows.antt",
     ("`ground`", "`grounds`"): "R1: there is no grounds",
     ("`Refusal::number`", "`Refusal::value`"): "R1: no `Refusal::value` in crates/answers/src/lib.rt",
-    ("`Accepted`", "`Excepted`"): "R2: no `Excepted` in crates/answers/src/lib.rt",
+    ("`Idle`", "`Idler`"): "R2: no `Idler` in crates/registers/src/lib.rt",
     ("`first-row`", "`last-row`"): "R2: no `last-row` in crates/card/proofs/FirstRow.antt",
     ("sample 13", "sample 14"): "R2: no sample 14",
     ("order_3_5", "order_5_3"): "R2: there is no crates/card/must-fail/order_5_3.edit",
@@ -108,7 +108,7 @@ WRONG = {
     ("tools/compare", "tools/comparison"): "R2a: there is no tools/comparison",
     ("(D1)", "(D1, D999)"): "R1: no decision D999",
     ("| R2 |", "| R3 |"): "R3: it stands after R1",
-    ("| R2 |", "| 2 |"): "Answers: what is this row: | 2 | a rule | answers/src/lib `Outcome`",
+    ("| R2 |", "| 2 |"): "Answers: what is this row: | 2 | a rule | registers/src/lib `Phase`",
     ("sample 13", "R13"): "R2: no row R13",
     ("| R2a |", "| R2 |"): "R2: it stands after R2",
     ("| no definition |", "| – |"): "R2a: it has not four cells that say something",

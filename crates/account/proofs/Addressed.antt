@@ -1,4 +1,5 @@
 -- The bridge: what the account reads in the address registers, and decides of them, is what `geometry` does.
+use Rattle.std.proofs.Common.{Ok, Err}
 use Prim.Native.Nat.{ℕ, ◌+◌, ◌-◌, ◌*◌, ◌/◌, ◌%◌}
 use mathlib.Core.Bool.{Bool, true, false, not, ◌||◌, false≢true}
 use mathlib.Core.Path.{◌≡◌, refl, sym, ap, ◌∙◌}
@@ -11,17 +12,17 @@ use Rattle.ground.proofs.Picks.{both_of}
 use Rattle.geometry.specs.declared.Geometry.{Geometry}
 use Rattle.geometry.specs.declared.Address.{Address}
 use Rattle.geometry.specs.declared.Spot.{Spot}
-use Rattle.geometry.specs.declared.Located.{Located}
-use Rattle.geometry.specs.Address.{by_lba, head_of, cylinder_of, lba_of, chs_index, room_of, locate_lba, locate_chs, locate, good_at}
+use Rattle.geometry.specs.Address.{by_lba, head_of, cylinder_of, lba_of, chs_index, room_of, locate_lba, locate_chs, locate, good_at, Located}
 use Rattle.account.specs.Numbers.{code_head_or_sector, code_cylinder_or_lba}
 use Rattle.account.specs.Addressed.{Addressed, At, Bad, selects_lba, cylinder_number, lba_number, judged, addressed_by}
+use Rattle.geometry.specs.declared.BadAddress.{BadAddress}
 
 -- a decision of `geometry` in the account's words
 abbrev pub as_addressed : Located → Addressed
-as_addressed (Located.Good spot) = At spot.index
-as_addressed Located.BadHeadOrSector = Bad code_head_or_sector
-as_addressed Located.BadCylinder = Bad code_cylinder_or_lba
-as_addressed Located.BadLba = Bad code_cylinder_or_lba
+as_addressed (Ok spot) = At spot.index
+as_addressed (Err BadAddress.HeadOrSector) = Bad code_head_or_sector
+as_addressed (Err BadAddress.Cylinder) = Bad code_cylinder_or_lba
+as_addressed (Err BadAddress.Lba) = Bad code_cylinder_or_lba
 
 abbrev is_at : Addressed → Bool
 is_at (At i) = true
@@ -32,11 +33,11 @@ index_at (At i) = i
 index_at (Bad code) = 0
 
 -- in a room of so many sectors
-pub good_at_lem : (l : Located) (room i : ℕ) → as_addressed l ≡ At i → ((p : Spot) → l ≡ Located.Good p → l ≡ good_at room p.index) → l ≡ good_at room i
-good_at_lem (Located.Good spot) room i e f = f spot refl ∙ ap (λ (x : Addressed). good_at room (index_at x)) e
-good_at_lem Located.BadHeadOrSector room i e f = absurd (false≢true (ap is_at e))
-good_at_lem Located.BadCylinder room i e f = absurd (false≢true (ap is_at e))
-good_at_lem Located.BadLba room i e f = absurd (false≢true (ap is_at e))
+pub good_at_lem : (l : Located) (room i : ℕ) → as_addressed l ≡ At i → ((p : Spot) → l ≡ Ok p → l ≡ good_at room p.index) → l ≡ good_at room i
+good_at_lem (Ok spot) room i e f = f spot refl ∙ ap (λ (x : Addressed). good_at room (index_at x)) e
+good_at_lem (Err BadAddress.HeadOrSector) room i e f = absurd (false≢true (ap is_at e))
+good_at_lem (Err BadAddress.Cylinder) room i e f = absurd (false≢true (ap is_at e))
+good_at_lem (Err BadAddress.Lba) room i e f = absurd (false≢true (ap is_at e))
 
 -- ---- what the registers say
 
@@ -71,7 +72,7 @@ not_in_track s n = go (leb 1 s) (leb s n) refl refl
 -- in LBA the room is N: t and r are the one test
 addressed_by_lem : (l t r u v w : Bool) (room i j k : ℕ) → (l ≡ true → r ≡ t) → (v ≡ true → j ≡ k) →
     pick l (judged false (not t) Bad (At i)) (judged (not u || not v) (not w) Bad (At j))
-    ≡ as_addressed (pick l (pick r (good_at room i) Located.BadLba) (pick (pick u v false) (pick w (good_at room k) Located.BadCylinder) Located.BadHeadOrSector))
+    ≡ as_addressed (pick l (pick r (good_at room i) (Err BadAddress.Lba)) (pick (pick u v false) (pick w (good_at room k) (Err BadAddress.Cylinder)) (Err BadAddress.HeadOrSector)))
 addressed_by_lem true true r u v w room i j k e h = rw (e refl)
 addressed_by_lem true false r u v w room i j k e h = rw (e refl)
 addressed_by_lem false t r true true true room i j k e h = ap At (h refl)

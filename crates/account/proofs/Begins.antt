@@ -1,4 +1,5 @@
 -- A sector command begins: the first address is decided, and the account of the rest is the account of the command.
+use Rattle.std.proofs.Common.{Ok, Err}
 use Prim.Native.Nat.{ℕ, zero, suc, ◌+◌, ◌-◌, ◌%◌, ◌<◌}
 use mathlib.Core.Bool.{Bool, true, false}
 use mathlib.Core.Path.{◌≡◌, refl}
@@ -10,7 +11,6 @@ use borrow.Author.Tests.{ltb-true, ltb-false, lt-leb, le-leb, ne_eqb}
 use Rattle.ground.specs.Choice.{pick}
 use Rattle.ground.specs.Left.{leaving}
 use Rattle.geometry.specs.declared.Spot.{Spot}
-use Rattle.geometry.specs.declared.Located.{Located}
 use Rattle.geometry.proofs.Kept.{Bytes}
 use Rattle.registers.specs.declared.Pace.{Pace}
 use Rattle.registers.specs.declared.State.{State}
@@ -41,6 +41,8 @@ use Rattle.account.proofs.Reading.{read_rest}
 use Rattle.account.proofs.ReadBetween.{read_between}
 use Rattle.account.proofs.Writing.{ask_rest}
 use Rattle.account.proofs.WriteBetween.{ask_between}
+use Rattle.geometry.specs.Address.{Located}
+use Rattle.geometry.specs.declared.BadAddress.{BadAddress}
 
 -- "Count 0 means 256": 1..256 sectors, agreeing with Count modulo 256
 pub asked-elim : (P : ℕ → Type 0) (count : ℕ) → count < 256 → ((n : ℕ) → count ≡ suc n % 256 → P (suc n)) → P (asked count)
@@ -52,7 +54,7 @@ asked-elim P (suc k) h f = rw (ne_eqb (suc k) 0 (omega arith)) (f k (omega arith
 abbrev pub Eight : State → Type 0
 Eight s = (s.registers.count < 256) × Bytes s.registers.address
 
-seated : (n : ℕ) (p : Spot) (s : State) → Bytes s.registers.address → s.registers.count ≡ suc n % 256 → located_in s ≡ Located.Good p → Seated (course_in s) p.index (suc n) s
+seated : (n : ℕ) (p : Spot) (s : State) → Bytes s.registers.address → s.registers.count ≡ suc n % 256 → located_in s ≡ Ok p → Seated (course_in s) p.index (suc n) s
 seated n p s b c e = (c, seat_address s p b e, refl)
 
 -- a run from a good start is past the end in the machine, more than remain, just where it is in the account
@@ -74,59 +76,59 @@ module _ (n : ℕ) (pace : Pace) (m : Machine) (b : Bytes m.state.registers.addr
   pub read_begins : (l : Located) (d : List ℕ) → Ground In m → located_in m.state ≡ l →
       rest (read_sector (suc n) pace m) d ≡ from_first (as_addressed l) silent (λ i. read_sectors (course_of (plain_of m)) i (suc n) (plain_of m)) (plain_of m)
   unfolding read_sector sector_test address_test rest_at
-  read_begins (Located.Good spot) d g e =
+  read_begins (Ok spot) d g e =
       read_rest n pace (course_in m.state) spot.index m d g.0 g.1 (seated n spot m.state b c e) (where_first m.state spot g.0 e)
-  read_begins Located.BadHeadOrSector d g e = rw e
-  read_begins Located.BadCylinder d g e = rw e
-  read_begins Located.BadLba d g e = rw e
+  read_begins (Err BadAddress.HeadOrSector) d g e = rw e
+  read_begins (Err BadAddress.Cylinder) d g e = rw e
+  read_begins (Err BadAddress.Lba) d g e = rw e
 
   pub read_begins_between : (l : Located) → Ground In m → located_in m.state ≡ l → Between In (read_sector (suc n) pace m) None
   unfolding read_sector sector_test address_test
-  read_begins_between (Located.Good spot) g e = read_between n pace (course_in m.state) spot.index m g (seated n spot m.state b c e) (where_first m.state spot g.0 e)
-  read_begins_between Located.BadHeadOrSector g e = rw e (g, refl)
-  read_begins_between Located.BadCylinder g e = rw e (g, refl)
-  read_begins_between Located.BadLba g e = rw e (g, refl)
+  read_begins_between (Ok spot) g e = read_between n pace (course_in m.state) spot.index m g (seated n spot m.state b c e) (where_first m.state spot g.0 e)
+  read_begins_between (Err BadAddress.HeadOrSector) g e = rw e (g, refl)
+  read_begins_between (Err BadAddress.Cylinder) g e = rw e (g, refl)
+  read_begins_between (Err BadAddress.Lba) g e = rw e (g, refl)
 
   pub write_begins : (l : Located) (d : List ℕ) → Ground Out m → located_in m.state ≡ l →
       rest (with_core (ask_sector (suc n) pace First m.state) m) d ≡ from_first (as_addressed l) silent (λ i. write_sectors (course_of (plain_of m)) i (suc n) (plain_of m) d) (plain_of m)
   unfolding ask_sector address_test rest_at
-  write_begins (Located.Good spot) d g e =
+  write_begins (Ok spot) d g e =
       ask_rest n pace First (course_in m.state) spot.index m.state m.buffer m.store m.marks d (seated n spot m.state b c e) (where_first m.state spot g.0 e)
-  write_begins Located.BadHeadOrSector d g e = rw e
-  write_begins Located.BadCylinder d g e = rw e
-  write_begins Located.BadLba d g e = rw e
+  write_begins (Err BadAddress.HeadOrSector) d g e = rw e
+  write_begins (Err BadAddress.Cylinder) d g e = rw e
+  write_begins (Err BadAddress.Lba) d g e = rw e
 
   pub write_begins_between : (l : Located) → length m.buffer ≡ 512 → Ground Out m → located_in m.state ≡ l → Between Out (with_core (ask_sector (suc n) pace First m.state) m) None
   unfolding ask_sector address_test
-  write_begins_between (Located.Good spot) f g e =
+  write_begins_between (Ok spot) f g e =
       ask_between n pace First (course_in m.state) spot.index m.state m.buffer m.store m.marks f g (seated n spot m.state b c e) (where_first m.state spot g.0 e)
-  write_begins_between Located.BadHeadOrSector f g e = rw e (g, refl)
-  write_begins_between Located.BadCylinder f g e = rw e (g, refl)
-  write_begins_between Located.BadLba f g e = rw e (g, refl)
+  write_begins_between (Err BadAddress.HeadOrSector) f g e = rw e (g, refl)
+  write_begins_between (Err BadAddress.Cylinder) f g e = rw e (g, refl)
+  write_begins_between (Err BadAddress.Lba) f g e = rw e (g, refl)
 
   pub verify_begins : (l : Located) → Ground In m → located_in m.state ≡ l →
       plain_in (verify_run (suc n) m.state m.marks).state m.buffer m.store m.marks
       ≡ from_first (as_addressed l) (λ q. q) (λ i. whole_run (course_of (plain_of m)) i (suc n) (plain_of m) (verify_sectors (course_of (plain_of m)) i (suc n) (plain_of m))) (plain_of m)
-  verify_begins (Located.Good spot) g e =
+  verify_begins (Ok spot) g e =
       unfold verify_run past_end in
       rw e
       (run_by (ltb spot.remain (suc n)) (λ (k : Core). plain_in k.state m.buffer m.store m.marks) (ended End.PastEnd m.state) (verify_from (suc n) m.state m.marks) spot
       (course_in m.state) (suc n) (plain_of m) _ refl (seat_room m.state spot g.0 e) refl
       (verify_is n (course_in m.state) spot.index m.state m.buffer m.store m.marks g.0 (seated n spot m.state b c e) (where_first m.state spot g.0 e)))
-  verify_begins Located.BadHeadOrSector g e = unfold verify_run past_end verify_from sector_test address_test in rw e
-  verify_begins Located.BadCylinder g e = unfold verify_run past_end verify_from sector_test address_test in rw e
-  verify_begins Located.BadLba g e = unfold verify_run past_end verify_from sector_test address_test in rw e
+  verify_begins (Err BadAddress.HeadOrSector) g e = unfold verify_run past_end verify_from sector_test address_test in rw e
+  verify_begins (Err BadAddress.Cylinder) g e = unfold verify_run past_end verify_from sector_test address_test in rw e
+  verify_begins (Err BadAddress.Lba) g e = unfold verify_run past_end verify_from sector_test address_test in rw e
 
   pub erase_begins : (l : Located) → Ground In m → located_in m.state ≡ l →
       erased_plain (erase_run (suc n) m.state m.store m.marks) m.buffer
       ≡ from_first (as_addressed l) (λ q. q) (λ i. whole_run (course_of (plain_of m)) i (suc n) (plain_of m) (erase_sectors (course_of (plain_of m)) i (suc n) (plain_of m))) (plain_of m)
-  erase_begins (Located.Good spot) g e =
+  erase_begins (Ok spot) g e =
       unfold erase_run past_end in
       rw e
       (run_by (ltb spot.remain (suc n)) (λ k. erased_plain k m.buffer) (leaving (ended End.PastEnd m.state) (store_marks_in m)) (erase_from (suc n) m.state m.store m.marks) spot
       (course_in m.state) (suc n) (plain_of m) _ refl (seat_room m.state spot g.0 e) refl
       (erase_is n (course_in m.state) spot.index m.state m.buffer m.store m.marks g.0 g.1
       (seated n spot m.state b c e) (where_first m.state spot g.0 e)))
-  erase_begins Located.BadHeadOrSector g e = unfold erase_run past_end erase_from sector_stored sector_test address_test in rw e
-  erase_begins Located.BadCylinder g e = unfold erase_run past_end erase_from sector_stored sector_test address_test in rw e
-  erase_begins Located.BadLba g e = unfold erase_run past_end erase_from sector_stored sector_test address_test in rw e
+  erase_begins (Err BadAddress.HeadOrSector) g e = unfold erase_run past_end erase_from sector_stored sector_test address_test in rw e
+  erase_begins (Err BadAddress.Cylinder) g e = unfold erase_run past_end erase_from sector_stored sector_test address_test in rw e
+  erase_begins (Err BadAddress.Lba) g e = unfold erase_run past_end erase_from sector_stored sector_test address_test in rw e

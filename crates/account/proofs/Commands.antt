@@ -1,4 +1,5 @@
 -- Every command begins as its account says.
+use Rattle.std.proofs.Common.{Some, Option}
 use Prim.Native.Nat.{ℕ, ◌+◌, ◌*◌, ◌%◌, ◌≤◌}
 use mathlib.Core.Bool.{Bool, true, false, ◌||◌}
 use mathlib.Core.Path.{◌≡◌, refl, sym, ◌∙◌}
@@ -7,9 +8,8 @@ use lib.Dec.{ltb, eqb}
 use lib.ListN.{length}
 use Rattle.ground.specs.Choice.{pick}
 use Rattle.geometry.specs.declared.Geometry.{Geometry}
-use Rattle.geometry.specs.declared.Reshaped.{Reshaped}
 use Rattle.geometry.specs.Limits.{total_of, current_for}
-use Rattle.geometry.specs.Shape.{reshaped, current_after}
+use Rattle.geometry.specs.Shape.{reshaped, current_after, Reshaped}
 use Rattle.registers.specs.declared.Pace.{Pace}
 use Rattle.registers.specs.declared.Phase.TheVariants.{Idle}
 use Rattle.registers.specs.declared.State.{State}
@@ -123,7 +123,7 @@ erase_all m g h =
 -- 91H
 set_by : (a v : Bool) (g : Geometry) (s : State) (b t k : List ℕ) →
     pick (a || v) (ends (Aborted code_geometry) (plain_in s b t k)) (ends Well (with_current g (plain_in s b t k)))
-    ≡ plain_in (reshaped_ended (pick a Reshaped.Refused (pick v Reshaped.Refused (Reshaped.Taken g))) s).state b t k
+    ≡ plain_in (reshaped_ended (pick a Option.None (pick v Option.None (Some g))) s).state b t k
 set_by true v g s b t k = refl
 set_by false true g s b t k = refl
 set_by false false g s b t k = refl
@@ -138,10 +138,10 @@ set_is s b t k h =
     (shaped (s.registers.address.head % 16 + 1) s.registers.count (sectors_of s.made.default)) s b t k)
 
 pub set-idle : (r : Reshaped) (s : State) → (reshaped_ended r s).phase ≡ Idle
-set-idle (Reshaped.Taken g) s = refl
-set-idle Reshaped.Refused s = refl
+set-idle (Some g) s = refl
+set-idle Option.None s = refl
 
 pub set_ground : (r : Reshaped) (s : State) (b t k : List ℕ) → current_for (current_after r s.current) (total_of s.made.default) ≡ true →
     Ground In (machine (core Idle s) b t k) → Ground In (machine (reshaped_ended r s) b t k)
-set_ground (Reshaped.Taken x) s b t k e g = ((e, g.0.1, g.0.2), g.1, g.2, g.3, g.4)
-set_ground Reshaped.Refused s b t k e g = g
+set_ground (Some x) s b t k e g = ((e, g.0.1, g.0.2), g.1, g.2, g.3, g.4)
+set_ground Option.None s b t k e g = g

@@ -10,8 +10,7 @@ use Rattle.geometry.specs.Limits.{total_of}
 use Rattle.registers.specs.declared.State.{State}
 use Rattle.registers.specs.declared.Core.{Core}
 use Rattle.registers.specs.State.{with_bad}
-use Rattle.transfers.specs.declared.Tested.{Tested}
-use Rattle.transfers.specs.Before.{sector_stored}
+use Rattle.transfers.specs.Before.{sector_stored, Tested}
 use Rattle.transfers.specs.Steps.{sector_done}
 use Rattle.commands.specs.Sweeps.{erase_from, all_ff}
 use Rattle.account.specs.Plain.{Plain, Finish, Well, WriteFault}

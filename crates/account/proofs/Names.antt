@@ -1,4 +1,5 @@
 -- How the registers name a sector: a good address is the name of its index, and the next address is the name of the next index.
+use Rattle.std.proofs.Common.{Ok}
 use Prim.Native.Nat.{ℕ, ◌+◌, ◌*◌, ◌-◌, ◌/◌, ◌%◌, ◌≤◌, ◌<◌}
 use mathlib.Core.Bool.{Bool, true, false}
 use mathlib.Core.Path.{◌≡◌, sym, ap, ◌∙◌}
@@ -12,7 +13,6 @@ use Rattle.ground.proofs.Picks.{pick-elim}
 use Rattle.geometry.specs.declared.Geometry.{Geometry}
 use Rattle.geometry.specs.declared.Address.{Address}
 use Rattle.geometry.specs.declared.Spot.{Spot}
-use Rattle.geometry.specs.declared.Located.{Located}
 use Rattle.geometry.specs.Limits.{capacity_of, current_for}
 use Rattle.geometry.specs.Address.{by_lba, head_of, cylinder_of, lba_of, chs_index, room_of, locate}
 use Rattle.geometry.specs.Next.{at_lba, at_chs, next_chs, next_of}
@@ -69,14 +69,14 @@ by b top g i = pick b (lba_named top i) (chs_named top g i)
 
 self_by : (b : Bool) (a : Address) (g : Geometry) (n : ℕ) (p : Spot) →
     Bytes a →
-    locate_by b a g n ≡ Located.Good p →
+    locate_by b a g n ≡ Ok p →
     by b (a.head / 16) g p.index ≡ a
 self_by true a g n p y e = rw (lba_facts (lba_of a) n p e).1 (lba_self a y)
 self_by false a g n p y e =
     let f = chs_facts (cylinder_of a) (head_of a) a.sector g (capacity_of g) p e in
     chs_spelled (a.head / 16) g p.index (cylinder_of a) (head_of a) a.sector f.0.0 f.0.1 f.0.2 f.1 ∙ chs_self a y
 
-pub named_self : (a : Address) (g : Geometry) (n : ℕ) (p : Spot) → Bytes a → locate a g n ≡ Located.Good p → by (by_lba a) (a.head / 16) g p.index ≡ a
+pub named_self : (a : Address) (g : Geometry) (n : ℕ) (p : Spot) → Bytes a → locate a g n ≡ Ok p → by (by_lba a) (a.head / 16) g p.index ≡ a
 unfolding locate room_of
 named_self a g n p y e = self_by (by_lba a) a g n p y e
 
@@ -126,7 +126,7 @@ next-chs a g i l f q =
 next_by_lem : (b : Bool) (a : Address) (g : Geometry) (n : ℕ) (p : Spot) →
     current_for g n ≡ true →
     n ≤ 65535 →
-    locate_by b a g n ≡ Located.Good p →
+    locate_by b a g n ≡ Ok p →
     pick b (at_lba a (lba_of a + 1)) (next_chs a g) ≡ by b (a.head / 16) g (p.index + 1)
 next_by_lem true a g n p c m e = rw (lba_facts (lba_of a) n p e).1
 next_by_lem false a g n p c m e =
@@ -136,7 +136,7 @@ next_by_lem false a g n p c m e =
 pub next-named : (a : Address) (g : Geometry) (n : ℕ) (p : Spot) →
     current_for g n ≡ true →
     n ≤ 65535 →
-    locate a g n ≡ Located.Good p →
+    locate a g n ≡ Ok p →
     next_of a g ≡ by (by_lba a) (a.head / 16) g (p.index + 1)
 unfolding locate next_of room_of
 next-named a g n p c m e = next_by_lem (by_lba a) a g n p c m e

@@ -19,7 +19,6 @@ use Rattle.registers.specs.declared.Transfer.{Transfer}
 use Rattle.registers.specs.declared.Phase.TheVariants.{DataIn}
 use Rattle.registers.specs.State.{located_in}
 use Rattle.registers.specs.Machine.{Machine}
-use Rattle.transfers.specs.declared.Tested.{Tested}
 use Rattle.transfers.specs.Steps.{idle_with, sector_done, read_tested, read_sector, next_read, load_read, all_moved}
 use Rattle.port.specs.Halves.{next_word}
 use Rattle.port.specs.Data.{with_phase}
@@ -37,6 +36,7 @@ use Rattle.account.proofs.Tried.{read_tested_lem}
 use Rattle.account.proofs.Verifying.{where_good}
 use Rattle.account.proofs.Rest.{bare, here, Ground, Running, Between, Loaded, loaded_of}
 use Rattle.account.proofs.Reading.{sector_read}
+use Rattle.transfers.specs.Before.{Tested}
 
 bytes_take : (n : ℕ) (l : List ℕ) → AllBytes l → AllBytes (take n l)
 bytes_take zero l h i = omega arith

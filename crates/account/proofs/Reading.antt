@@ -21,7 +21,6 @@ use Rattle.registers.specs.Status.{data_status}
 use Rattle.registers.specs.Blocks.{pace_after}
 use Rattle.registers.specs.State.{located_in}
 use Rattle.registers.specs.Machine.{Machine}
-use Rattle.transfers.specs.declared.Tested.{Tested}
 use Rattle.transfers.specs.Steps.{idle_with, sector_done, read_tested, read_sector, next_read, load_read, all_moved}
 use Rattle.port.specs.Halves.{next_word}
 use Rattle.port.specs.Data.{with_phase}
@@ -35,6 +34,7 @@ use Rattle.account.proofs.Tried.{stops_sweep, stops_ends, read_tested_lem}
 use Rattle.account.proofs.Stored.{LentFor}
 use Rattle.account.proofs.Verifying.{where_good, seated_last}
 use Rattle.account.proofs.Rest.{bare, here, done_in, rest_at, rest, sweep_status, Loaded}
+use Rattle.transfers.specs.Before.{Tested}
 
 pub sector_read : (n i : ℕ) (store buffer : List ℕ) → i < n → length store ≡ 512 * n → buffer_read store i buffer ≡ sector_at store i
 unfolding buffer_read sector_of

@@ -5,8 +5,7 @@ use mathlib.Core.Path.{◌≡◌, refl, sym, ap, ◌∙◌}
 use mathlib.Core.List.{List, [], ◌∷◌, ◌++◌, append_assoc}
 use native.Mathlib.Omega.{arith}
 use lib.ListN.{length, take, drop, set, get_or}
-use Rattle.geometry.specs.declared.Located.{Located}
-use Rattle.geometry.specs.Address.{index_of, locate}
+use Rattle.geometry.specs.Address.{index_of, locate, Located}
 use Rattle.geometry.specs.Limits.{total_of}
 use Rattle.registers.specs.declared.Pace.{Pace}
 use Rattle.registers.specs.declared.Half.{Half}

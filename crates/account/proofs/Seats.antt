@@ -1,4 +1,5 @@
 -- A sweep's registers: at index i with n sectors left; and how they go on to the next index.
+use Rattle.std.proofs.Common.{Ok, Err}
 use Prim.Native.Nat.{ℕ, suc, ◌+◌, ◌-◌, ◌%◌, ◌≤◌, ◌<◌}
 use mathlib.Core.Bool.{Bool, true, false}
 use mathlib.Core.Path.{◌≡◌, refl, sym, ap, subst, ◌∙◌}
@@ -9,9 +10,8 @@ use borrow.Author.Tests.{ne_eqb, lt-ltb}
 use Rattle.ground.specs.Choice.{pick}
 use Rattle.geometry.specs.declared.Geometry.{Geometry}
 use Rattle.geometry.specs.declared.Spot.{Spot}
-use Rattle.geometry.specs.declared.Located.{Located}
 use Rattle.geometry.specs.Limits.{total_of, current_for}
-use Rattle.geometry.specs.Address.{by_lba, room_of, spot_at, good_at}
+use Rattle.geometry.specs.Address.{by_lba, room_of, spot_at, good_at, Located}
 use Rattle.geometry.specs.Next.{next_of}
 use Rattle.geometry.proofs.LimitFacts.{current_room}
 use Rattle.geometry.proofs.Inside.{remain_room, good_by_index}
@@ -27,6 +27,7 @@ use Rattle.account.specs.Course.{Course, course_of, named}
 use Rattle.account.specs.Host.{plain_in}
 use Rattle.account.proofs.Addressed.{selects_is}
 use Rattle.account.proofs.Names.{named_self, next-named}
+use Rattle.geometry.specs.declared.BadAddress.{BadAddress}
 
 abbrev pub course_in : State → Course
 course_in s = course_of (plain_in s [] [] [])
@@ -48,7 +49,7 @@ good_on c i = good_at c.room i
 
 -- where the address points: at sector i, or past the room
 abbrev pub past_room : Course → Located
-past_room c = pick c.lba Located.BadLba Located.BadCylinder
+past_room c = pick c.lba (Err BadAddress.Lba) (Err BadAddress.Cylinder)
 
 abbrev pub Where : Course → ℕ → State → Type 0
 Where c i s = located_in s ≡ pick (ltb i c.room) (good_on c i) (past_room c)
@@ -58,17 +59,17 @@ unfolding room_of
 room_is s h = rw (selects_is s.registers.address) (ap (λ (n : ℕ). pick (by_lba s.registers.address) n (sectors_of s.current)) h.1)
 
 -- the first sector of a sweep
-pub seat_room : (s : State) (p : Spot) → Shaped s.made s.current → located_in s ≡ Located.Good p → (p.index < (course_in s).room) × (p.remain ≡ (course_in s).room - p.index)
+pub seat_room : (s : State) (p : Spot) → Shaped s.made s.current → located_in s ≡ Ok p → (p.index < (course_in s).room) × (p.remain ≡ (course_in s).room - p.index)
 seat_room s p h e = subst (λ (n : ℕ). (p.index < n) × (p.remain ≡ n - p.index)) (room_is s h) (remain_room s.registers.address s.current (total_of s.made.default) p e)
 
-pub seat_address : (s : State) (p : Spot) → Bytes s.registers.address → located_in s ≡ Located.Good p → s.registers.address ≡ named (course_in s) p.index
+pub seat_address : (s : State) (p : Spot) → Bytes s.registers.address → located_in s ≡ Ok p → s.registers.address ≡ named (course_in s) p.index
 unfolding named
 seat_address s p b e = rw (selects_is s.registers.address) (sym (named_self s.registers.address s.current (total_of s.made.default) p b e))
 
-pub seat_good : (s : State) (p : Spot) → Shaped s.made s.current → located_in s ≡ Located.Good p → located_in s ≡ good_on (course_in s) p.index
+pub seat_good : (s : State) (p : Spot) → Shaped s.made s.current → located_in s ≡ Ok p → located_in s ≡ good_on (course_in s) p.index
 seat_good s p h e = subst (λ (n : ℕ). located_in s ≡ good_at n p.index) (room_is s h) (good_by_index s.registers.address s.current (total_of s.made.default) p e)
 
-pub where_first : (s : State) (p : Spot) → Shaped s.made s.current → located_in s ≡ Located.Good p → Where (course_in s) p.index s
+pub where_first : (s : State) (p : Spot) → Shaped s.made s.current → located_in s ≡ Ok p → Where (course_in s) p.index s
 where_first s p h e = seat_good s p h e ∙ (rw (lt-ltb p.index (course_in s).room (seat_room s p h e).0))
 
 -- the next one: `sector_done` moves the registers on
@@ -82,11 +83,11 @@ done_on n s = rw (ne_eqb (suc n) 0 (omega arith))
 course_kept : (n : ℕ) (s : State) → course_in (onward n s) ≡ course_in s
 course_kept n s = let k = next_kept s.registers.address s.current in rw (selects_is (next_of s.registers.address s.current), selects_is s.registers.address, k.0, k.1)
 
-address_next : (n : ℕ) (s : State) (p : Spot) → Shaped s.made s.current → located_in s ≡ Located.Good p → (onward n s).registers.address ≡ named (course_in s) (p.index + 1)
+address_next : (n : ℕ) (s : State) (p : Spot) → Shaped s.made s.current → located_in s ≡ Ok p → (onward n s).registers.address ≡ named (course_in s) (p.index + 1)
 unfolding named
 address_next n s p h e = rw (selects_is s.registers.address) (next-named s.registers.address s.current (total_of s.made.default) p h.0 h.2 e)
 
-where_next : (n : ℕ) (s : State) (p : Spot) → Shaped s.made s.current → located_in s ≡ Located.Good p → Where (course_in s) (p.index + 1) (onward n s)
+where_next : (n : ℕ) (s : State) (p : Spot) → Shaped s.made s.current → located_in s ≡ Ok p → Where (course_in s) (p.index + 1) (onward n s)
 where_next n s p h e =
     subst (λ (r : ℕ). located_in (onward n s) ≡ pick (ltb (p.index + 1) r) (good_at r (p.index + 1)) (past_room (course_in s)))
     (room_is s h)

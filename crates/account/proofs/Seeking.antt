@@ -1,4 +1,5 @@
 -- 7XH: the account's test is the machine's.
+use Rattle.std.proofs.Common.{Ok, Err}
 use Prim.Native.Nat.{ℕ}
 use mathlib.Core.Bool.{Bool, true, false, not}
 use mathlib.Core.Path.{◌≡◌, refl}
@@ -6,7 +7,6 @@ use mathlib.Core.List.{List}
 use lib.Dec.{ltb}
 use Rattle.ground.proofs.Below.{not_below}
 use Rattle.ground.specs.Choice.{pick}
-use Rattle.geometry.specs.declared.Sought.{Sought}
 use Rattle.geometry.specs.Address.{seek, by_lba, lba_of, head_of, cylinder_of}
 use Rattle.registers.specs.declared.State.{State}
 use Rattle.registers.specs.State.{total_in}
@@ -18,10 +18,11 @@ use Rattle.account.specs.Host.{plain_in}
 use Rattle.account.proofs.Addressed.{selects_is, lba_is, cylinder_is}
 use Rattle.account.proofs.Seats.{Shaped}
 use Rattle.account.proofs.Tried.{finish_of}
+use Rattle.geometry.specs.declared.BadAddress.{BadAddress}
 
 seek_by : (a u v w : Bool) →
     pick a (judged false (not u) NotFound Well) (judged (not v) (not w) NotFound Well)
-    ≡ finish_of (sought_end (pick a (pick u Sought.Good Sought.BadLba) (pick v (pick w Sought.Good Sought.BadCylinder) Sought.BadHead)))
+    ≡ finish_of (sought_end (pick a (pick u (Ok tt) (Err BadAddress.Lba)) (pick v (pick w (Ok tt) (Err BadAddress.Cylinder)) (Err BadAddress.HeadOrSector))))
 seek_by true true v w = refl
 seek_by true false v w = refl
 seek_by false u true true = refl

@@ -1,4 +1,5 @@
 -- The machine's tests before a sector are the account's tests of its index, and its ends are the account's ends.
+use Rattle.std.proofs.Common.{Ok, Err}
 use Prim.Native.Nat.{ℕ, ◌%◌, ◌<◌}
 use mathlib.Core.Bool.{Bool, true, false, not, ◌||◌, false≢true, true≢false}
 use mathlib.Core.Path.{◌≡◌, refl, sym, ap, ◌∙◌, subst}
@@ -7,15 +8,12 @@ use lib.Dec.{ltb, eqb}
 use lib.ListN.{get_or}
 use borrow.Author.Tests.{ltb-true}
 use Rattle.ground.specs.Choice.{pick}
-use Rattle.geometry.specs.declared.Located.{Located}
 use Rattle.sectors.specs.Marks.{readable, writable}
 use Rattle.registers.specs.declared.State.{State}
 use Rattle.transfers.specs.declared.End.{End}
-use Rattle.transfers.specs.declared.Tested.{Tested}
-use Rattle.transfers.specs.declared.Tested.TheVariants.{Passes, Fails}
 use Rattle.transfers.specs.Ends.{ended}
 use Rattle.transfers.specs.declared.Way.TheVariants.{In, Out}
-use Rattle.transfers.specs.Before.{address_test, tested_of, mark_tested, sector_test}
+use Rattle.transfers.specs.Before.{address_test, tested_of, mark_tested, sector_test, Tested}
 use Rattle.kept.proofs.Ends.{erring}
 use Rattle.account.specs.Numbers.{code_head_or_sector, code_cylinder_or_lba, code_geometry, code_others}
 use Rattle.account.specs.Plain.{Plain, Finish, Well, NotFound, Unreadable, WriteFault, Aborted, ends, with_place}
@@ -23,6 +21,8 @@ use Rattle.account.specs.Course.{Course, named}
 use Rattle.account.specs.Sweeps.{Sweep, tried, stopped, tests, unreadable, unwritable, sweep_ends}
 use Rattle.account.specs.Host.{plain_in}
 use Rattle.account.proofs.Seats.{Seated, Where, past_room, place_seated, spot_on, good_on}
+use Rattle.geometry.specs.Address.{Located}
+use Rattle.geometry.specs.declared.BadAddress.{BadAddress}
 
 -- an end of the machine in the account's words
 abbrev pub finish_of : End → Finish
@@ -73,18 +73,18 @@ stops_ends e h c n i s b t k q =
 
 -- ---- the tests
 
-past_end_lem : (l : Bool) → (P : Tested → Finish → Type 0) → ((e : End) → erring e ≡ true → P (Fails e) (finish_of e)) → P (tested_of (pick l Located.BadLba Located.BadCylinder)) (NotFound code_cylinder_or_lba)
+past_end_lem : (l : Bool) → (P : Tested → Finish → Type 0) → ((e : End) → erring e ≡ true → P (Err e) (finish_of e)) → P (tested_of (pick l (Err BadAddress.Lba) (Err BadAddress.Cylinder))) (NotFound code_cylinder_or_lba)
 past_end_lem true P f = f End.BadLba refl
 past_end_lem false P f = f End.BadCylinder refl
 
 -- past the end a mark is not looked at
 past_marked : (l : Bool) (allows : ℕ → Bool) (e : End) (marks : List ℕ) →
-    mark_tested allows e (tested_of (pick l Located.BadLba Located.BadCylinder)) marks ≡ tested_of (pick l Located.BadLba Located.BadCylinder)
+    mark_tested allows e (tested_of (pick l (Err BadAddress.Lba) (Err BadAddress.Cylinder))) marks ≡ tested_of (pick l (Err BadAddress.Lba) (Err BadAddress.Cylinder))
 past_marked true allows e marks = refl
 past_marked false allows e marks = refl
 
-marked : (u v : Bool) (c : Course) (i : ℕ) (e : End) (P : Tested → Finish → Type 0) → erring e ≡ true → v ≡ not u → P (Passes (spot_on c i)) Well → ((f : End) → erring f ≡ true → P (Fails f) (finish_of f)) →
-    P (pick u (Passes (spot_on c i)) (Fails e)) (pick v (finish_of e) Well)
+marked : (u v : Bool) (c : Course) (i : ℕ) (e : End) (P : Tested → Finish → Type 0) → erring e ≡ true → v ≡ not u → P (Ok (spot_on c i)) Well → ((f : End) → erring f ≡ true → P (Err f) (finish_of f)) →
+    P (pick u (Ok (spot_on c i)) (Err e)) (pick v (finish_of e) Well)
 marked true true c i e P h q x f = absurd (true≢false q)
 marked true false c i e P h q x f = x
 marked false true c i e P h q x f = f e h
@@ -92,13 +92,13 @@ marked false false c i e P h q x f = absurd (false≢true q)
 
 module _ (allows forbids : ℕ → Bool) (e : End) (h : erring e ≡ true) (opposite : (m : ℕ) → forbids m ≡ not (allows m)) where
   placed : (b : Bool) (c : Course) (i : ℕ) (marks : List ℕ) (P : Tested → Finish → Type 0) → ltb i c.room ≡ b →
-      (i < c.room → P (Passes (spot_on c i)) Well) → ((f : End) → erring f ≡ true → P (Fails f) (finish_of f)) →
+      (i < c.room → P (Ok (spot_on c i)) Well) → ((f : End) → erring f ≡ true → P (Err f) (finish_of f)) →
       P (mark_tested allows e (tested_of (pick b (good_on c i) (past_room c))) marks) (pick b (pick (forbids (get_or marks i 0)) (finish_of e) Well) (NotFound code_cylinder_or_lba))
   placed true c i marks P q x f = marked (allows (get_or marks i 0)) (forbids (get_or marks i 0)) c i e P h (opposite (get_or marks i 0)) (x (ltb-true i c.room q)) f
   placed false c i marks P q x f = rw (past_marked c.lba allows e marks) (past_end_lem c.lba P f)
 
   tested : (c : Course) (i : ℕ) (s : State) (marks : List ℕ) (P : Tested → Finish → Type 0) → Where c i s →
-      (i < c.room → P (Passes (spot_on c i)) Well) → ((f : End) → erring f ≡ true → P (Fails f) (finish_of f)) →
+      (i < c.room → P (Ok (spot_on c i)) Well) → ((f : End) → erring f ≡ true → P (Err f) (finish_of f)) →
       P (mark_tested allows e (address_test s) marks) (tests forbids (finish_of e) c marks i)
   unfolding address_test tests
   tested c i s marks P w x f =
@@ -122,14 +122,14 @@ unwrite_opposite m = go (eqb m 2)
 
 -- what holds of a sound sector and of each failed test, holds of a sector to be read
 pub read_tested_lem : (c : Course) (i : ℕ) (s : State) (marks : List ℕ) (P : Tested → Finish → Type 0) → Where c i s →
-    (i < c.room → P (Passes (spot_on c i)) Well) → ((f : End) → erring f ≡ true → P (Fails f) (finish_of f)) →
+    (i < c.room → P (Ok (spot_on c i)) Well) → ((f : End) → erring f ≡ true → P (Err f) (finish_of f)) →
     P (sector_test In s marks) (tests unreadable Unreadable c marks i)
 unfolding sector_test
 read_tested_lem c i s marks P w x f = tested readable unreadable End.Unreadable refl unread_opposite c i s marks P w x f
 
 -- and of a sector to be stored
 pub store_tested : (c : Course) (i : ℕ) (s : State) (marks : List ℕ) (P : Tested → Finish → Type 0) → Where c i s →
-    (i < c.room → P (Passes (spot_on c i)) Well) → ((f : End) → erring f ≡ true → P (Fails f) (finish_of f)) →
+    (i < c.room → P (Ok (spot_on c i)) Well) → ((f : End) → erring f ≡ true → P (Err f) (finish_of f)) →
     P (sector_test Out s marks) (tests unwritable WriteFault c marks i)
 unfolding sector_test
 store_tested c i s marks P w x f = tested writable unwritable End.WriteFault refl unwrite_opposite c i s marks P w x f

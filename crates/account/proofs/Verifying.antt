@@ -6,7 +6,6 @@ use native.Mathlib.Omega.{arith}
 use borrow.Author.Tests.{lt-ltb}
 use Rattle.registers.specs.declared.State.{State}
 use Rattle.registers.specs.State.{located_in}
-use Rattle.transfers.specs.declared.Tested.{Tested}
 use Rattle.transfers.specs.Steps.{sector_done}
 use Rattle.commands.specs.Sweeps.{unless_failed, verify_from}
 use Rattle.account.specs.Plain.{Finish, Well, Unreadable}
@@ -15,6 +14,7 @@ use Rattle.account.specs.Sweeps.{tried, stopped, sweep_from, tests, unreadable, 
 use Rattle.account.specs.Host.{plain_in}
 use Rattle.account.proofs.Seats.{Shaped, Seated, Where, onward, done_on, seat_next, good_on}
 use Rattle.account.proofs.Tried.{stops_sweep, stops_ends, read_tested_lem}
+use Rattle.transfers.specs.Before.{Tested}
 
 -- where the registers point at sector i
 pub where_good : (c : Course) (i : ℕ) (s : State) → Where c i s → i < c.room → located_in s ≡ good_on c i

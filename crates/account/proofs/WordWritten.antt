@@ -1,4 +1,5 @@
 -- Writing: the last byte of a sector has come, and a word has come.
+use Rattle.std.proofs.Common.{Ok, Err}
 use Prim.Native.Nat.{ℕ, zero, suc, ◌+◌, ◌-◌, ◌*◌, ◌<◌}
 use mathlib.Core.Bool.{Bool, true, false}
 use mathlib.Core.Path.{◌≡◌, refl, sym, ◌∙◌}
@@ -11,7 +12,6 @@ use lib.Seq.{take_all, take-suc-set, take-suc, take-set-le, get_or-set_same, get
 use borrow.Author.Tests.{ltb-true, ltb-false}
 use Rattle.ground.specs.Choice.{pick}
 use Rattle.geometry.specs.declared.Spot.{Spot}
-use Rattle.geometry.specs.declared.Located.{Located}
 use Rattle.geometry.specs.Limits.{total_of}
 use Rattle.sectors.specs.Marks.{writable}
 use Rattle.registers.specs.Blocks.{pace_after}
@@ -23,7 +23,6 @@ use Rattle.registers.specs.declared.State.{State}
 use Rattle.registers.specs.State.{located_in}
 use Rattle.registers.specs.Machine.{Machine, with_buffer}
 use Rattle.transfers.specs.declared.End.{End}
-use Rattle.transfers.specs.declared.Tested.TheVariants.{Passes, Fails}
 use Rattle.transfers.specs.declared.Way.TheVariants.{Out}
 use Rattle.transfers.specs.Before.{address_test, sector_test, sector_stored}
 use Rattle.transfers.specs.Steps.{load_written, all_moved}
@@ -39,8 +38,8 @@ use Rattle.account.proofs.Rest.{bare, here, done_out, rest_at, rest, Loaded}
 use Rattle.account.proofs.Writing.{done_over, marked_rest}
 
 -- the tests at the last byte, of a valid address
-pub sector_test_lem : (p : Spot) (s : State) (marks : List ℕ) → located_in s ≡ Located.Good p →
-    sector_test Out s marks ≡ pick (writable (get_or marks p.index 0)) (Passes p) (Fails End.WriteFault)
+pub sector_test_lem : (p : Spot) (s : State) (marks : List ℕ) → located_in s ≡ Ok p →
+    sector_test Out s marks ≡ pick (writable (get_or marks p.index 0)) (Ok p) (Err End.WriteFault)
 unfolding sector_test address_test
 sector_test_lem p s marks e = rw e
 

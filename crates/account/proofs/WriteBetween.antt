@@ -1,4 +1,5 @@
 -- Writing: what holds between two accesses is kept from sector to sector.
+use Rattle.std.proofs.Common.{Ok, Err}
 use Prim.Native.Nat.{ℕ, zero, suc, ◌+◌, ◌-◌, ◌<◌}
 use mathlib.Core.Bool.{Bool, true, false}
 use mathlib.Core.Path.{◌≡◌, refl, sym, subst}
@@ -9,7 +10,6 @@ use lib.Dec.{ltb}
 use lib.ListN.{length, set, get_or}
 use borrow.Author.Tests.{ltb-true, ne_eqb}
 use Rattle.ground.specs.Choice.{pick}
-use Rattle.geometry.specs.declared.Located.{Located}
 use Rattle.geometry.specs.Limits.{total_of}
 use Rattle.sectors.specs.Marks.{writable}
 use Rattle.registers.specs.declared.Pace.{Pace}
@@ -24,7 +24,6 @@ use Rattle.registers.specs.Machine.{Machine, machine, with_buffer}
 use Rattle.transfers.specs.declared.Order.{Order}
 use Rattle.transfers.specs.declared.Order.TheVariants.{Later}
 use Rattle.transfers.specs.declared.End.{End}
-use Rattle.transfers.specs.declared.Tested.TheVariants.{Passes, Fails}
 use Rattle.transfers.specs.Before.{address_test, tested_of, stored_by, sector_stored}
 use Rattle.transfers.specs.Steps.{idle, sector_done, ask_tested, ask_sector, next_asked, written_by, load_written, all_moved}
 use Rattle.port.specs.Halves.{next_word}
@@ -39,9 +38,11 @@ use Rattle.account.proofs.Seats.{Seated, Where, past_room, course_in, onward, do
 use Rattle.account.proofs.Stored.{stored_is, stored-lent}
 use Rattle.account.proofs.Rest.{bare, here, Ground, Running, Between, Loaded, loaded_of}
 use Rattle.account.proofs.WordWritten.{sector_test_lem, here_inside}
+use Rattle.geometry.specs.Address.{Located}
+use Rattle.geometry.specs.declared.BadAddress.{BadAddress}
 
 past_between : (l : Bool) (n : ℕ) (pace : Pace) (order : Order) (s : State) (b t k : List ℕ) → Ground Out (idle s b t k) →
-    Between Out (machine (ask_tested (tested_of (pick l Located.BadLba Located.BadCylinder)) n pace order s) b t k) None
+    Between Out (machine (ask_tested (tested_of (pick l (Err BadAddress.Lba) (Err BadAddress.Cylinder))) n pace order s) b t k) None
 past_between true n pace order s b t k g = (g, refl)
 past_between false n pace order s b t k g = (g, refl)
 
@@ -67,7 +68,7 @@ asked_between (suc n) pace c i s b t k f g q e =
 
 marked_between : (u : Bool) (n : ℕ) (pace : Pace) (c : Course) (i : ℕ) (m : Machine) → i < total_of m.state.made.default → length m.buffer ≡ 512 → Ground Out m → Seated c i (suc n) m.state →
     located_in m.state ≡ good_on c i →
-    Between Out (written_by (stored_by (pick u (Passes (spot_on c i)) (Fails End.WriteFault)) m.buffer (store_marks_in m)) n pace m) None
+    Between Out (written_by (stored_by (pick u (Ok (spot_on c i)) (Err End.WriteFault)) m.buffer (store_marks_in m)) n pace m) None
 marked_between true n pace c i m h f g q e =
     rw (stored_is (total_of m.state.made.default) i m.state.bad m.store m.marks m.buffer h g.1)
     (asked_between n pace c i (with_bad (m.state.bad - bad_at i m.marks) m.state) m.buffer (put_sector i m.buffer m.store) (set m.marks i 0) f

@@ -1,4 +1,5 @@
 -- Writing: from sector to sector the account of the rest is kept.
+use Rattle.std.proofs.Common.{Ok, Err}
 use Prim.Native.Nat.{ℕ, zero, suc, ◌+◌, ◌-◌, ◌<◌}
 use mathlib.Core.Bool.{Bool, true, false, not, true≢false, false≢true}
 use mathlib.Core.Path.{◌≡◌, refl, sym, ap, ◌∙◌, subst}
@@ -9,7 +10,6 @@ use lib.Dec.{ltb}
 use lib.ListN.{take, drop, set, get_or}
 use borrow.Author.Tests.{ltb-true, lt-ltb, ne_eqb}
 use Rattle.ground.specs.Choice.{pick}
-use Rattle.geometry.specs.declared.Located.{Located}
 use Rattle.geometry.specs.Limits.{total_of}
 use Rattle.registers.specs.declared.Pace.{Pace}
 use Rattle.registers.specs.declared.Load.{Load}
@@ -21,7 +21,6 @@ use Rattle.registers.specs.Machine.{Machine, machine}
 use Rattle.transfers.specs.declared.Order.{Order}
 use Rattle.transfers.specs.declared.Order.TheVariants.{Later}
 use Rattle.transfers.specs.declared.End.{End}
-use Rattle.transfers.specs.declared.Tested.TheVariants.{Passes, Fails}
 use Rattle.transfers.specs.Before.{address_test, tested_of, stored_by}
 use Rattle.transfers.specs.Steps.{sector_done, ask_tested, ask_sector, next_asked, written_by}
 use Rattle.kept.specs.Lent.{store_marks_in}
@@ -36,6 +35,8 @@ use Rattle.account.proofs.Tried.{stops_ends}
 use Rattle.account.proofs.Stored.{LentFor, stored_is, sweep-later, bad_on, bad-none}
 use Rattle.account.proofs.Verifying.{seated_last}
 use Rattle.account.proofs.Rest.{done_out, stored_then, rest_at, rest, sweep_status}
+use Rattle.geometry.specs.Address.{Located}
+use Rattle.geometry.specs.declared.BadAddress.{BadAddress}
 
 -- ---- the account of a sector, and of the rest
 
@@ -84,7 +85,7 @@ done_over (Sectors n pace) p x b d = stored_over _ n _ _ p x b d
 -- ---- the machine
 
 past_rest : (l : Bool) (n : ℕ) (pace : Pace) (order : Order) (c : Course) (i : ℕ) (s : State) (b t k d : List ℕ) → Seated c i (suc n) s →
-    rest (machine (ask_tested (tested_of (pick l Located.BadLba Located.BadCylinder)) (suc n) pace order s) b t k) d
+    rest (machine (ask_tested (tested_of (pick l (Err BadAddress.Lba) (Err BadAddress.Cylinder))) (suc n) pace order s) b t k) d
     ≡ write_done c i (tried (NotFound code_cylinder_or_lba) (suc n) i (sweep_from (tests unwritable WriteFault c k) (i + 1) n)) (plain_in s b t k) d
 unfolding rest_at first_sectors last_sectors replaced cleared
 past_rest true n pace order c i s b t k d q = rw (bad-none s.bad i k, stops_ends End.BadLba refl c (suc n) i s b t k q)
@@ -119,7 +120,7 @@ asked_rest (suc n) pace c i s b t k d h q e =
 -- its mark first
 pub marked_rest : (u v : Bool) (n : ℕ) (pace : Pace) (c : Course) (i : ℕ) (m : Machine) (d : List ℕ) → v ≡ not u → i < total_of m.state.made.default → Shaped m.state.made m.state.current →
     LentFor (total_of m.state.made.default) m.store m.marks → Seated c i (suc n) m.state → located_in m.state ≡ good_on c i →
-    rest (written_by (stored_by (pick u (Passes (spot_on c i)) (Fails End.WriteFault)) m.buffer (store_marks_in m)) n pace m) d
+    rest (written_by (stored_by (pick u (Ok (spot_on c i)) (Err End.WriteFault)) m.buffer (store_marks_in m)) n pace m) d
     ≡ stored_then v (suc n) i c (plain_of m) m.buffer d
 unfolding stored_then
 marked_rest true true n pace c i m d e h g l q w = absurd (true≢false e)

@@ -1,12 +1,12 @@
 -- What the host notes of the data, by its accesses and their answers.
-use Rattle.std.specs.Prelude.{ℕ, ◌/◌, ◌%◌, List, [], ◌∷◌, ◌++◌}
-use Rattle.answers.specs.declared.Outcome.{Outcome}
+use Rattle.std.specs.Prelude.{ℕ, ◌/◌, ◌%◌, List, [], ◌∷◌, ◌++◌, Ok, Err}
 use Rattle.maps.specs.declared.Port.{Port}
 use Rattle.transfers.specs.declared.Way.{Way}
 use Rattle.transfers.specs.declared.Way.TheVariants.{In, Out}
 use Rattle.card.specs.declared.Meaning.{Meaning}
 use Rattle.card.specs.declared.Meaning.TheVariants.{TupleByte, ReadOption, WriteOption, ReadRegister, WriteRegister, ReadData, WriteData}
 use Rattle.account.specs.CommandRows.{CommandRow, Reads, Writes, Verifies, Erases, Identifies, ReadsBuffer, WritesBuffer, SetsGeometry, Diagnoses, Recalibrates, Seeks, Senses, SetsMultiple, ReadsMultiple, WritesMultiple, Others}
+use Rattle.answers.specs.Answers.{Outcome}
 
 -- of the word at hand: nothing yet, its low byte, or its high byte
 pub data Waiting : Type 0 where
@@ -43,8 +43,8 @@ note_data Port.Odd (HighByte b) v q = q
 
 -- what was read, if the access was not refused; and what was written
 abbrev pub note_read : Outcome → Port → Notes → Notes
-note_read (Outcome.Accepted v) port q = note_data port q.waiting v q
-note_read (Outcome.Refused r) port q = q
+note_read (Ok v) port q = note_data port q.waiting v q
+note_read (Err r) port q = q
 
 -- (a byte has eight bits)
 abbrev pub sent : Port → ℕ → ℕ
@@ -53,8 +53,8 @@ sent Port.Odd v = v % 256
 sent Port.Word v = v
 
 abbrev pub note_written : Outcome → Port → ℕ → Notes → Notes
-note_written (Outcome.Accepted n) port v q = note_data port q.waiting (sent port v) q
-note_written (Outcome.Refused r) port v q = q
+note_written (Ok n) port v q = note_data port q.waiting (sent port v) q
+note_written (Err r) port v q = q
 
 -- only data that moves the command's way is noted
 unfoldable pub note : Way → Meaning → Outcome → Notes → Notes

@@ -1,14 +1,14 @@
 -- The numbers of the refusals; that no outcome is accepted and refused; what equal outcomes say.
+use Rattle.std.proofs.Common.{Ok, Err}
 use Prim.Native.Nat.{ℕ, ◌-◌, ◌≤◌}
 use mathlib.Core.Bool.{false, false≢true}
 use mathlib.Core.Path.{◌≡◌, refl, sym, ap, ◌∙◌}
 use mathlib.Core.List.{List, [], ◌∷◌}
 use native.Mathlib.Omega.{arith}
 use lib.ListN.{get_or}
-use Rattle.answers.specs.declared.Outcome.{Outcome}
 use Rattle.answers.specs.declared.Refusal.{Refusal}
 use Rattle.answers.specs.declared.Refusal.TheVariants.{GeometryOrMode, StoreLength, MarksLength, MarkAboveTwo, TupleBufferLength, NoRegister, SpaceSilent, HeldBySreset, WidthOrValue, IndexAboveThree, HalfMoved, NotWellMade, ChainBroken, TuplesTooLong, TupleBad, ListTooShort, SessionBroken}
-use Rattle.answers.specs.Answers.{number_of, outcome_number, outcome_value, refused, Says}
+use Rattle.answers.specs.Answers.{number_of, outcome_number, outcome_value, refused, Says, Outcome}
 
 pub number_range : (r : Refusal) → (1 ≤ number_of r) × (number_of r ≤ 17)
 number_range GeometryOrMode = (omega arith, omega arith)
@@ -61,12 +61,12 @@ found SessionBroken = refl
 pub same_number : (r s : Refusal) → number_of r ≡ number_of s → r ≡ s
 same_number r s e = sym (found r) ∙ ap refusal_at e ∙ found s
 
-pub accepts_not : {P : Type 0} (value : ℕ) (r : Refusal) → Outcome.Accepted value ≡ Outcome.Refused r → P
+pub accepts_not : {P : Type 0} (value : ℕ) (r : Refusal) → Ok value ≡ Err r → P
 accepts_not value r e = absurd (false≢true (ap refused e))
 
-pub accepted : (o : Outcome) → refused o ≡ false → o ≡ Outcome.Accepted (outcome_value o)
-accepted (Outcome.Accepted value) e = refl
-accepted (Outcome.Refused r) e = absurd (false≢true (sym e))
+pub accepted : (o : Outcome) → refused o ≡ false → o ≡ Ok (outcome_value o)
+accepted (Ok value) e = refl
+accepted (Err r) e = absurd (false≢true (sym e))
 
 pub says : (a b : Outcome) → a ≡ b → Says a b
 says a b e = (ap outcome_number e, ap outcome_value e)

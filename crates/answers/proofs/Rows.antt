@@ -2,6 +2,7 @@
 --     first_of_lem    what is done to its answer is done to each row's
 --     passed      where it refuses nothing, no row applies
 --     by_rows     an outcome that has its number is refused by the first row that applies
+use Rattle.std.proofs.Common.{Ok, Err}
 use Prim.Native.Nat.{ℕ}
 use mathlib.Core.Path.{◌≡◌, refl, sym, ap, ◌∙◌}
 use mathlib.Core.Bool.{Bool, true, false, true≢false, false≢true}
@@ -12,9 +13,7 @@ use borrow.Author.Tests.{eqb-true, eq-eqb, ne_eqb}
 use Rattle.ground.specs.Choice.{pick}
 use Rattle.ground.proofs.Picks.{pick-elim, pick_same, not_first}
 use Rattle.answers.specs.declared.Refusal.{Refusal}
-use Rattle.answers.specs.declared.Outcome.{Outcome}
-use Rattle.answers.specs.declared.Outcome.TheVariants.{Accepted, Refused}
-use Rattle.answers.specs.Answers.{number_of, outcome_number, refused}
+use Rattle.answers.specs.Answers.{number_of, outcome_number, refused, Outcome}
 use Rattle.ground.specs.Rows.{Row, When, Unless, applies, given, first_of}
 use Rattle.answers.specs.Rows.{applies_at, Exactly}
 use Rattle.answers.proofs.Outcomes.{number_range, same_number}
@@ -26,7 +25,7 @@ first_of_lem f (When false r ∷ l) give rest = first_of_lem f l give rest
 first_of_lem f (Unless true r ∷ l) give rest = first_of_lem f l give rest
 first_of_lem f (Unless false r ∷ l) give rest = refl
 
-pub passed : (l : List (Row Refusal)) (rest : Outcome) → refused (first_of l Refused rest) ≡ false → (first_of l Refused rest ≡ rest) × ((n : ℕ) → applies_at l n ≡ false)
+pub passed : (l : List (Row Refusal)) (rest : Outcome) → refused (first_of l Err rest) ≡ false → (first_of l Err rest ≡ rest) × ((n : ℕ) → applies_at l n ≡ false)
 passed [] rest e = (refl, λ n. refl)
 passed (When true r ∷ l) rest e = absurd (true≢false e)
 passed (When false r ∷ l) rest e = let p = passed l rest e in (p.0, λ n. rw (p.1 n) (pick_same (eqb (number_of r) n) false))
@@ -111,16 +110,16 @@ given-none [] e = tt
 given-none (x ∷ l) e = none_here (applies x) (row_number x) (table_number l) (Silent l) (no_zero (given x)) (given-none l) (sym (number_by x l) ∙ e)
 
 -- ---- of an outcome; where the table has the order that is asked for, this is ByRows
-refused_by_lem : (o : Outcome) (r : Refusal) → outcome_number o ≡ number_of r → o ≡ Refused r
-refused_by_lem (Accepted value) r e = absurd (no_zero r (sym e))
-refused_by_lem (Refused s) r e = ap Refused (same_number s r e)
+refused_by_lem : (o : Outcome) (r : Refusal) → outcome_number o ≡ number_of r → o ≡ Err r
+refused_by_lem (Ok value) r e = absurd (no_zero r (sym e))
+refused_by_lem (Err s) r e = ap Err (same_number s r e)
 
 accepted-zero : (o : Outcome) → Exactly (refused o ≡ false) (outcome_number o ≡ 0)
-accepted-zero (Accepted value) = (λ e. refl, λ e. refl)
-accepted-zero (Refused r) = (λ e. absurd (true≢false e), λ e. absurd (no_zero r e))
+accepted-zero (Ok value) = (λ e. refl, λ e. refl)
+accepted-zero (Err r) = (λ e. absurd (true≢false e), λ e. absurd (no_zero r e))
 
 pub by_rows : (table : List (Row Refusal)) (o : Outcome) → once table ≡ true → outcome_number o ≡ table_number table →
-    ((r : Refusal) → Exactly (o ≡ Refused r) (First table (number_of r))) × Exactly (refused o ≡ false) (Silent table)
+    ((r : Refusal) → Exactly (o ≡ Err r) (First table (number_of r))) × Exactly (refused o ≡ false) (Silent table)
 by_rows table o u e = (
   λ r. (λ h. given-first table (number_of r) u (no_zero r) (sym e ∙ ap outcome_number h), λ f. refused_by_lem o r (e ∙ first-given table (number_of r) f)),
   (λ h. given-none table (sym e ∙ (accepted-zero o).0 h), λ s. (accepted-zero o).1 (e ∙ silent-given table s)),

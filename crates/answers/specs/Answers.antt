@@ -1,9 +1,7 @@
 -- 01, "Answers": each refusal has the number of its row; an accepted access is 0 with its value; every refusal gives value 0.
-use Rattle.std.specs.Prelude.{ℕ, Bool, true, false, ◌≡◌}
+use Rattle.std.specs.Prelude.{ℕ, Bool, true, false, ◌≡◌, Ok, Err, Result}
 use Rattle.answers.specs.declared.Refusal.{Refusal}
 use Rattle.answers.specs.declared.Refusal.TheVariants.{GeometryOrMode, StoreLength, MarksLength, MarkAboveTwo, TupleBufferLength, NoRegister, SpaceSilent, HeldBySreset, WidthOrValue, IndexAboveThree, HalfMoved, NotWellMade, ChainBroken, TuplesTooLong, TupleBad, ListTooShort, SessionBroken}
-use Rattle.answers.specs.declared.Outcome.{Outcome}
-use Rattle.answers.specs.declared.Outcome.TheVariants.{Accepted, Refused}
 
 -- in the order of 01's table
 abbrev pub number_of : Refusal → ℕ
@@ -40,17 +38,21 @@ number_of ListTooShort = 16
 -- session file broken
 number_of SessionBroken = 17
 
+-- what an access, an opening, the reader or the writer comes to: accepted with a value, or refused by one row
+abbrev pub Outcome : Type 0
+Outcome = Result ℕ Refusal
+
 abbrev pub outcome_number : Outcome → ℕ
-outcome_number (Accepted value) = 0
-outcome_number (Refused refusal) = number_of refusal
+outcome_number (Ok value) = 0
+outcome_number (Err refusal) = number_of refusal
 
 abbrev pub outcome_value : Outcome → ℕ
-outcome_value (Accepted value) = value
-outcome_value (Refused refusal) = 0
+outcome_value (Ok value) = value
+outcome_value (Err refusal) = 0
 
 abbrev pub refused : Outcome → Bool
-refused (Accepted value) = false
-refused (Refused refusal) = true
+refused (Ok value) = false
+refused (Err refusal) = true
 
 -- two outcomes have the same number and value of 01
 abbrev pub Says : Outcome → Outcome → Type 0

@@ -1,11 +1,9 @@
 -- 01, "Answers": a table of refusals, looked through from the top: "The first that applies, in this order, is given".
-use Rattle.std.specs.Prelude.{ℕ, Bool, true, false, ◌≡◌, List, [], ◌∷◌, eqb}
+use Rattle.std.specs.Prelude.{ℕ, Bool, true, false, ◌≡◌, List, [], ◌∷◌, eqb, Err}
 use Rattle.ground.specs.Choice.{pick}
 use Rattle.ground.specs.Rows.{Row, applies, given}
 use Rattle.answers.specs.declared.Refusal.{Refusal}
-use Rattle.answers.specs.declared.Outcome.{Outcome}
-use Rattle.answers.specs.declared.Outcome.TheVariants.{Refused}
-use Rattle.answers.specs.Answers.{number_of, refused}
+use Rattle.answers.specs.Answers.{number_of, refused, Outcome}
 
 -- row n of the table applies
 abbrev pub applies_at : List (Row Refusal) → ℕ → Bool
@@ -28,5 +26,5 @@ Exactly A B = (A → B) × (B → A)
 -- an outcome is a refusal exactly if its row is the first that applies, and accepted exactly if none does
 abbrev pub ByRows : List ℕ → List (Row Refusal) → Outcome → Type 0
 ByRows order table o =
-    ((r : Refusal) → Exactly (o ≡ Refused r) (FirstRow order table (number_of r)))
+    ((r : Refusal) → Exactly (o ≡ Err r) (FirstRow order table (number_of r)))
     × Exactly (refused o ≡ false) (NoRow order table)

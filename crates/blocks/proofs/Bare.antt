@@ -1,4 +1,5 @@
 -- The data port does the same to a card and to what it has in common with one that moves sectors singly.
+use Rattle.std.proofs.Common.{Ok, Err, None, Some}
 use Prim.Native.Nat.{ℕ, ◌-◌}
 use mathlib.Core.Bool.{Bool, true, false}
 use mathlib.Core.Path.{◌≡◌, refl, sym, ap}
@@ -22,14 +23,11 @@ use Rattle.transfers.specs.declared.Order.TheVariants.{Later}
 use Rattle.transfers.specs.declared.End.TheVariants.{Good}
 use Rattle.transfers.specs.Ends.{ended, reading_ended}
 use Rattle.transfers.specs.declared.Order.{Order}
-use Rattle.transfers.specs.declared.Tested.{Tested}
-use Rattle.transfers.specs.declared.Tested.TheVariants.{Passes, Fails}
 use Rattle.transfers.specs.declared.Way.TheVariants.{In}
-use Rattle.transfers.specs.Before.{address_test, sector_test, sector_stored}
+use Rattle.transfers.specs.Before.{address_test, sector_test, sector_stored, Tested}
 use Rattle.transfers.specs.Steps.{sector_done, read_tested, read_sector, next_read, load_read, ask_tested, ask_sector, next_asked, core_written, load_written, all_moved}
-use Rattle.port.specs.Halves.{take_of, with_part, part_value, next_word}
+use Rattle.port.specs.Halves.{take_of, with_part, part_value, next_word, Take}
 use Rattle.port.specs.declared.Fill.TheVariants.{Begun, Full}
-use Rattle.port.specs.declared.Take.{Take}
 use Rattle.port.specs.Data.{Effect, word_read, taken_read, word_written, taken_written, phase_written, phase_read, accepted, refused_with, with_phase}
 use Rattle.blocks.specs.Alike.{singly, phase_singly, bare, bare_effect, transfer_singly}
 use Rattle.answers.specs.declared.Refusal.TheVariants.{HalfMoved}
@@ -62,8 +60,8 @@ module _ (b t k : List ℕ) where
   at s = machine (core Idle s) b t k
 
   read_tested_bare : (x : Tested) (n : ℕ) (p q : Pace) (s : State) → bare (read_tested x n p (at (quiet s))) ≡ bare (read_tested x n q (at s))
-  read_tested_bare (Passes spot) n p q s = refl
-  read_tested_bare (Fails e) n p q s = refl
+  read_tested_bare (Ok spot) n p q s = refl
+  read_tested_bare (Err e) n p q s = refl
 
   pub read_bare : (n : ℕ) (p q : Pace) (s : State) → bare (read_sector n p (at (quiet s))) ≡ bare (read_sector n q (at s))
   unfolding read_sector sector_test address_test
@@ -82,8 +80,8 @@ module _ (b t k : List ℕ) where
   load_read_bare (Sectors left p) s = next_read_bare (left - 1) (pace_after single) (pace_after p) s
 
   ask_tested_bare : (x : Tested) (n : ℕ) (p q : Pace) (order : Order) (s : State) → bare (machine (ask_tested x n p order (quiet s)) b t k) ≡ bare (machine (ask_tested x n q order s) b t k)
-  ask_tested_bare (Passes spot) n p q order s = refl
-  ask_tested_bare (Fails e) n p q order s = refl
+  ask_tested_bare (Ok spot) n p q order s = refl
+  ask_tested_bare (Err e) n p q order s = refl
 
   pub ask_bare : (n : ℕ) (p q : Pace) (order : Order) (s : State) → bare (machine (ask_sector n p order (quiet s)) b t k) ≡ bare (machine (ask_sector n q order s) b t k)
   unfolding ask_sector address_test
@@ -98,8 +96,8 @@ module _ (b t k : List ℕ) where
       (λ e. refl) (λ e. ask_bare n p q Later d))
 
   core_written_bare : (x : Tested) (n : ℕ) (p q : Pace) (s : State) → bare (machine (core_written x n p (quiet s)) b t k) ≡ bare (machine (core_written x n q s) b t k)
-  core_written_bare (Passes spot) n p q s = next_asked_bare n p q s
-  core_written_bare (Fails e) n p q s = refl
+  core_written_bare (Ok spot) n p q s = next_asked_bare n p q s
+  core_written_bare (Err e) n p q s = refl
 
 load_written_bare : (l : Load) (b t k : List ℕ) (s : State) → bare (load_written (singly l) (at b t k (quiet s))) ≡ bare (load_written l (at b t k s))
 unfolding sector_stored sector_test address_test
@@ -112,9 +110,9 @@ load_written_bare (Sectors left p) b t k s =
 
 taken_read_bare : (x : Take) (t : Transfer) (m : Machine) → bare_effect (taken_read x (transfer_singly t) (bare m)) ≡ bare_effect (taken_read x t m)
 unfolding word_read
-taken_read_bare Take.Refused t m = ap (refused_with HalfMoved) (bare_twice m)
-taken_read_bare (Take.Moves part Begun) t m = rw (load_twice t.load)
-taken_read_bare (Take.Moves part Full) t m =
+taken_read_bare None t m = ap (refused_with HalfMoved) (bare_twice m)
+taken_read_bare (Some (part, Begun)) t m = rw (load_twice t.load)
+taken_read_bare (Some (part, Full)) t m =
     let v = part_value part t.words m.buffer in
     ap (accepted v)
     (test_elim (λ (c : Bool). bare (pick c (with_phase (DataIn (next_word (transfer_singly t))) (bare m)) (load_read (singly t.load) (all_moved (bare m)))) ≡ bare (pick c (with_phase (DataIn (next_word t)) m) (load_read t.load (all_moved m))))
@@ -127,9 +125,9 @@ phase_read_bare (DataOut t) port m = ap (accepted _) (bare_twice m)
 
 taken_written_bare : (x : Take) (v : ℕ) (t : Transfer) (m : Machine) → bare_effect (taken_written x v (transfer_singly t) (bare m)) ≡ bare_effect (taken_written x v t m)
 unfolding word_written
-taken_written_bare Take.Refused v t m = ap (refused_with HalfMoved) (bare_twice m)
-taken_written_bare (Take.Moves part Begun) v t m = rw (load_twice t.load)
-taken_written_bare (Take.Moves part Full) v t m =
+taken_written_bare None v t m = ap (refused_with HalfMoved) (bare_twice m)
+taken_written_bare (Some (part, Begun)) v t m = rw (load_twice t.load)
+taken_written_bare (Some (part, Full)) v t m =
     let b = with_part part t.words v m.buffer in
     let n = with_buffer b m in
     ap (accepted 0)

@@ -1,4 +1,5 @@
 -- How often the interrupt mark is set by a command that moves sectors by a stride, at every moment and in all.
+use Rattle.std.proofs.Common.{Ok, Err}
 use Prim.Native.Nat.{ℕ, suc, ◌+◌, ◌-◌, ◌*◌, ◌/◌, ◌%◌, ◌<◌, ◌≤◌}
 use mathlib.Core.Bool.{Bool, true, false, true≢false}
 use mathlib.Core.Path.{◌≡◌, refl, sym, ap, ◌∙◌, subst}
@@ -17,8 +18,6 @@ use Rattle.registers.specs.State.{sreset_in}
 use Rattle.registers.specs.Machine.{Machine, core_of, machine}
 use Rattle.registers.specs.WellMade.{in_reset}
 use Rattle.transfers.specs.declared.Order.TheVariants.{First}
-use Rattle.transfers.specs.declared.Tested.{Tested}
-use Rattle.transfers.specs.declared.Tested.TheVariants.{Passes, Fails}
 use Rattle.transfers.specs.declared.Way.{Way}
 use Rattle.transfers.specs.declared.Way.TheVariants.{In, Out}
 use Rattle.transfers.specs.Steps.{read_tested, ask_tested}
@@ -40,6 +39,7 @@ use Rattle.blocks.proofs.Seen.{seen}
 use Rattle.blocks.proofs.Turns.{Runs, FailsSo, end_sets}
 use Rattle.blocks.proofs.Marks.{facts, one, ended, counted}
 use Rattle.blocks.proofs.SoFar.{moved_on, not-ended}
+use Rattle.transfers.specs.Before.{Tested}
 
 -- a read sets the mark when its first sector is ready, a write not when its first one is asked for
 abbrev pub begin_sets : Way → Bool
@@ -74,12 +74,12 @@ abbrev pub Begins : Way → ℕ → Pace → Machine → Type 0
 Begins way c k n = (Runs way c k n.phase × (drq_set n.state ≡ true)) ⊎ FailsSo n.phase n.state
 
 pub read_begins : (x : Tested) (c : ℕ) (k : Pace) (m : Machine) → proper x ≡ true → Begins In c k (read_tested x c k m)
-read_begins (Passes spot) c k m p = inl ((_, refl, refl), refl)
-read_begins (Fails e) c k m p = inr (refl, un_not _ _ p)
+read_begins (Ok spot) c k m p = inl ((_, refl, refl), refl)
+read_begins (Err e) c k m p = inr (refl, un_not _ _ p)
 
 pub ask_begins : (x : Tested) (c : ℕ) (k : Pace) (s : State) (b t m : List ℕ) → proper x ≡ true → Begins Out c k (machine (ask_tested x c k First s) b t m)
-ask_begins (Passes spot) c k s b t m p = inl ((_, refl, refl), refl)
-ask_begins (Fails e) c k s b t m p = inr (refl, un_not _ _ p)
+ask_begins (Ok spot) c k s b t m p = inl ((_, refl, refl), refl)
+ask_begins (Err e) c k s b t m p = inr (refl, un_not _ _ p)
 
 -- at a moment of it that still asks for data, after the Command write a and accesses l: `left` sectors are left, the one at hand among them, and c - left have
 -- moved; these are full blocks, each begun with its mark but the first of a write, and a part of one

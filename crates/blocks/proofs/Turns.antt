@@ -1,4 +1,5 @@
 -- What the last byte of a sector does to the blocks of a running transfer: a sector more, or the end.
+use Rattle.std.proofs.Common.{Ok, Err}
 use Prim.Native.Nat.{ℕ, ◌+◌, ◌-◌}
 use mathlib.Core.Bool.{Bool, true, false}
 use mathlib.Core.Path.{◌≡◌, refl}
@@ -19,11 +20,9 @@ use Rattle.registers.specs.Machine.{Machine, machine}
 use Rattle.registers.specs.WellMade.{load_fits, sectors_fit}
 use Rattle.transfers.specs.declared.Order.TheVariants.{Later}
 use Rattle.transfers.specs.declared.End.{End}
-use Rattle.transfers.specs.declared.Tested.{Tested}
-use Rattle.transfers.specs.declared.Tested.TheVariants.{Passes, Fails}
 use Rattle.transfers.specs.declared.Way.{Way}
 use Rattle.transfers.specs.declared.Way.TheVariants.{In, Out}
-use Rattle.transfers.specs.Before.{address_test, sector_test, sector_stored, stored_by}
+use Rattle.transfers.specs.Before.{address_test, sector_test, sector_stored, stored_by, Tested}
 use Rattle.transfers.specs.Steps.{sector_done, read_tested, read_sector, next_read, load_read, ask_tested, ask_sector, next_asked, core_written, load_written, all_moved, idle_with}
 use Rattle.kept.proofs.Ends.{LoadFits, address_elim, mark_elim}
 use Rattle.kept.proofs.Data.{phase_of}
@@ -63,8 +62,8 @@ Comes way left k n b = (Stays way left k n.phase b ⊎ GoesOn way left k n.phase
 
 read_comes : (x : Tested) (left : ℕ) (k : Pace) (s : State) (m : Machine) → proper x ≡ true → drq_set s ≡ true → another s m.state ≡ true → eqb (left - 1) 0 ≡ false →
     let n = read_tested x (left - 1) (pace_after k) m in Comes In left k n (sets (DataRead (last_of_load (Sectors left k))) s n.state)
-read_comes (Passes spot) left k s m p d c e = inl (inr ((_, refl, refl), e, turn_sets In (last_of_load (Sectors left k)) s _ d refl c))
-read_comes (Fails f) left k s m p d c e = inr (inr (refl, un_not _ _ p))
+read_comes (Ok spot) left k s m p d c e = inl (inr ((_, refl, refl), e, turn_sets In (last_of_load (Sectors left k)) s _ d refl c))
+read_comes (Err f) left k s m p d c e = inr (inr (refl, un_not _ _ p))
 
 pub load_read_lem : (left : ℕ) (k : Pace) (m : Machine) → drq_set m.state ≡ true → LoadFits (Sectors left k) m.state →
     let n = load_read (Sectors left k) (all_moved m) in Comes In left k n (sets (DataRead (last_of_load (Sectors left k))) m.state n.state)
@@ -76,8 +75,8 @@ load_read_lem left k m d f =
 
 ask_comes : (x : Tested) (left : ℕ) (k : Pace) (s n : State) (b t m : List ℕ) → proper x ≡ true → drq_set s ≡ true → another s n ≡ true → eqb (left - 1) 0 ≡ false →
     let c = ask_tested x (left - 1) (pace_after k) Later n in Comes Out left k (machine c b t m) (sets (DataWrite (last_of_load (Sectors left k))) s c.state)
-ask_comes (Passes spot) left k s n b t m p d c e = inl (inr ((_, refl, refl), e, turn_sets Out (last_of_load (Sectors left k)) s _ d refl c))
-ask_comes (Fails f) left k s n b t m p d c e = inr (inr (refl, un_not _ _ p))
+ask_comes (Ok spot) left k s n b t m p d c e = inl (inr ((_, refl, refl), e, turn_sets Out (last_of_load (Sectors left k)) s _ d refl c))
+ask_comes (Err f) left k s n b t m p d c e = inr (inr (refl, un_not _ _ p))
 
 pub ask_proper : (s : State) → proper (address_test s) ≡ true
 unfolding address_test
@@ -91,12 +90,12 @@ write_proper s bytes store marks =
 written_comes : (x : Tested) (left : ℕ) (k : Pace) (b : ℕ) (s : State) (u t m : List ℕ) → proper x ≡ true → drq_set s ≡ true → LoadFits (Sectors left k) s →
     let c = core_written x (left - 1) (pace_after k) (with_bad b s) in Comes Out left k (machine c u t m) (sets (DataWrite (last_of_load (Sectors left k))) s c.state)
 unfolding next_asked ask_sector load_fits sectors_fit
-written_comes (Passes spot) left k b s u t m p d f =
+written_comes (Ok spot) left k b s u t m p d f =
     let n = with_bad b s in
     pick-elim (λ (c : Core). Comes Out left k (machine c u t m) (sets (DataWrite (last_of_load (Sectors left k))) s c.state)) (eqb (left - 1) 0) _ _
     (λ e. inr (inl (refl, e, end_sets_lem (last_of_load (Sectors left k)) s _ d refl)))
     (λ e. ask_comes (address_test (sector_done (left - 1) n)) left k s (sector_done (left - 1) n) u t m (ask_proper _) d (left_facts left k n f.0 e) e)
-written_comes (Fails f) left k b s u t m p d g = inr (inr (refl, un_not _ _ p))
+written_comes (Err f) left k b s u t m p d g = inr (inr (refl, un_not _ _ p))
 
 pub load_written_lem : (left : ℕ) (k : Pace) (s : State) (m : Machine) → drq_set s ≡ true → LoadFits (Sectors left k) s →
     let n = load_written (Sectors left k) (idle_with s m) in Comes Out left k n (sets (DataWrite (last_of_load (Sectors left k))) s n.state)

@@ -1,4 +1,5 @@
 -- Row 11: an access to the data port is refused where the half, or one half of the word, is already moved.
+use Rattle.std.proofs.Common.{None, Some}
 use Prim.Native.Nat.{ℕ}
 use mathlib.Core.Path.{◌≡◌, refl, sym, ◌∙◌}
 use mathlib.Core.Bool.{Bool, true, false}
@@ -11,8 +12,7 @@ use Rattle.registers.specs.declared.Transfer.{Transfer}
 use Rattle.registers.specs.declared.Phase.{Phase}
 use Rattle.registers.specs.declared.Phase.TheVariants.{Idle, DataIn, DataOut}
 use Rattle.registers.specs.Machine.{Machine}
-use Rattle.port.specs.declared.Take.{Take}
-use Rattle.port.specs.Halves.{take_of}
+use Rattle.port.specs.Halves.{take_of, Take}
 use Rattle.port.specs.Data.{accepted, held_value, taken_read, phase_read, data_read, taken_written, phase_written, data_written}
 use Rattle.card.specs.declared.Meaning.{Meaning}
 use Rattle.card.specs.declared.Meaning.TheVariants.{ReadData, WriteData}
@@ -40,8 +40,8 @@ none_gone Port.Word = refl
 
 -- what a taking of halves comes to
 abbrev take_number : Take → ℕ
-take_number Take.Refused = 11
-take_number (Take.Moves part whole) = 0
+take_number None = 11
+take_number (Some (part, whole)) = 0
 
 take_gone : (h : Half) (p : Port) → take_number (take_of h p) ≡ eleven_if (gone p h)
 unfolding take_of
@@ -56,12 +56,12 @@ take_gone Half.High Port.Odd = refl
 take_gone Half.High Port.Word = refl
 
 taken_read_lem : (k : Take) (t : Transfer) (m : Machine) → outcome_number (taken_read k t m).outcome ≡ take_number k
-taken_read_lem Take.Refused t m = refl
-taken_read_lem (Take.Moves part whole) t m = refl
+taken_read_lem None t m = refl
+taken_read_lem (Some (part, whole)) t m = refl
 
 taken-written : (k : Take) (v : ℕ) (t : Transfer) (m : Machine) → outcome_number (taken_written k v t m).outcome ≡ take_number k
-taken-written Take.Refused v t m = refl
-taken-written (Take.Moves part whole) v t m = refl
+taken-written None v t m = refl
+taken-written (Some (part, whole)) v t m = refl
 
 -- "With no transfer that way, a read gives FFH or FFFFH and a write has no effect"
 phase_read_lem : (f : Phase) (p : Port) (m : Machine) → outcome_number (phase_read f p m).outcome ≡ eleven_if (gone p (half_in f false))

@@ -1,4 +1,5 @@
 -- Rows 7, 6, 9, 10 and 11: what stands at an address answers by the first of them that applies, by 01's tests.
+use Rattle.std.proofs.Common.{Ok, Some, None}
 use Prim.Native.Nat.{ℕ, ◌%◌, ◌/◌}
 use mathlib.Core.Path.{◌≡◌, refl, sym, subst, ap, ◌∙◌}
 use mathlib.Core.Bool.{Bool, true, false, not, ◌&&◌, ◌||◌}
@@ -19,11 +20,10 @@ use Rattle.maps.specs.declared.Target.TheVariants.{Tuple, Option, Data}
 use Rattle.maps.specs.declared.Place.{Place}
 use Rattle.maps.specs.declared.Place.TheVariants.{Silent, Nothing, Bytes, EvenData}
 use Rattle.maps.specs.Spaces.{answers_at}
-use Rattle.maps.specs.Offsets.{Offset, At, Nowhere, offset_at}
+use Rattle.maps.specs.Offsets.{Offset, offset_at}
 use Rattle.maps.specs.Places.{register_place, offset_place, attribute_place, map_place, place_at}
 use Rattle.maps.specs.Rows.{misfits, above_three, place_table, moved}
 use Rattle.registers.specs.Machine.{Machine}
-use Rattle.maps.specs.declared.Standing.TheVariants.{There}
 use Rattle.card.specs.declared.Meaning.TheVariants.{ReadOption, WriteOption, ReadRegister, WriteRegister}
 use Rattle.card.specs.Access.{Asked, standing}
 use Rattle.card.specs.Perform.{perform}
@@ -78,7 +78,7 @@ module _ (a : Asked) (m : Machine) where
   or-none true = refl
   or-none false = refl
 
-  even_number : (word : Bool) → number_after (standing (There (Data (pick word Port.Word Port.Even))) a) m ≡ eleven_if (word && one)
+  even_number : (word : Bool) → number_after (standing (Ok (Data (pick word Port.Word Port.Even))) a) m ≡ eleven_if (word && one)
   even_number true = data_number Port.Word a m
   even_number false = data_number Port.Even a m
 
@@ -113,12 +113,12 @@ module _ (a : Asked) (m : Machine) where
   offset_told : (o : Offset) →
       Told (not (offset_in register_offsets o) || false) (nine (at_even_data o)) false (half_gone o a.access.width (moved_so_far m a.access.write)) (offset_place o)
   unfolding register_place
-  offset_told (At o) =
+  offset_told (Some o) =
       offset_by (eqb o 0) (eqb o 8) (eqb o 9) (among o register_numbers) (lookup registers o Nothing)
       (λ p q. omega (arith, eqb-true o 0 p, eqb-true o 9 q))
       (λ p q. omega (arith, eqb-true o 8 p, eqb-true o 9 q))
       (registers_told o)
-  offset_told Nowhere = refl
+  offset_told None = refl
 
   -- ---- by the space
   abbrev rows_in : ℕ → ℕ → ℕ → List (Row Refusal)

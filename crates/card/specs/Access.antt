@@ -1,5 +1,5 @@
 -- What an access means: 01, "Answers", the rows 12, 2, 3, 5, 8, 7, 6, 9, 10 in this order, then what stands there.
-use Rattle.std.specs.Prelude.{ℕ, ◌*◌, ◌%◌, Bool, true, false, not, List, [], ◌∷◌, ◌++◌, eqb, length, get_or}
+use Rattle.std.specs.Prelude.{ℕ, ◌*◌, ◌%◌, Bool, true, false, not, List, [], ◌∷◌, ◌++◌, eqb, length, get_or, Ok, Err, Result}
 use Rattle.ground.specs.Choice.{pick}
 use Rattle.ground.specs.Sizes.{sector_bytes, tuple_buffer_bytes}
 use Rattle.answers.specs.declared.Refusal.TheVariants.{NotWellMade, StoreLength, MarksLength, TupleBufferLength, HeldBySreset}
@@ -9,9 +9,8 @@ use Rattle.maps.specs.declared.Access.{Access}
 use Rattle.maps.specs.declared.Place.{Place}
 use Rattle.maps.specs.declared.Target.{Target}
 use Rattle.maps.specs.declared.Target.TheVariants.{Tuple, Option, Named, Data}
-use Rattle.maps.specs.declared.Standing.{Standing}
 use Rattle.maps.specs.Places.{option_address, place_at}
-use Rattle.maps.specs.Rows.{place_table, moved}
+use Rattle.maps.specs.Rows.{place_table, moved, Standing}
 use Rattle.registers.specs.declared.Phase.{Phase}
 use Rattle.registers.specs.declared.State.{State}
 use Rattle.registers.specs.State.{sreset_in, index_in, total_in}
@@ -19,7 +18,6 @@ use Rattle.registers.specs.Machine.{Machine}
 use Rattle.registers.specs.WellMade.{well_made}
 use Rattle.card.specs.declared.Meaning.{Meaning}
 use Rattle.card.specs.declared.Meaning.TheVariants.{TupleByte, ReadOption, WriteOption, ReadRegister, WriteRegister, ReadData, WriteData}
-use Rattle.card.specs.declared.Verdict.{Verdict}
 
 -- what is asked of a card: an access, and the tuple buffer that is lent with it
 pub record Asked : Type 0 where
@@ -53,9 +51,15 @@ fit_table w s k t =
 abbrev pub lent_table : Phase → State → List ℕ → List ℕ → List ℕ → List (Row Refusal)
 lent_table phase state store marks tuples = fit_table (well_made phase state) (store_sized state store) (marks_sized state marks) (tuples_sized tuples)
 
--- what they say of every access to the card
+-- what they say of every access to the card: nothing, or a refusal
+abbrev pub Verdict : Type 0
+Verdict = Result (Unit {0}) Refusal
+
+abbrev pub fit : Verdict
+fit = Ok tt
+
 unfoldable pub verdict_of : Phase → State → List ℕ → List ℕ → List ℕ → Verdict
-verdict_of phase state store marks tuples = first_of (lent_table phase state store marks tuples) Verdict.Refused Verdict.Fit
+verdict_of phase state store marks tuples = first_of (lent_table phase state store marks tuples) Err fit
 
 -- ---- rows 8, 7, 6, 9, 10: where the access goes
 
@@ -80,8 +84,8 @@ targeted (Named r) a = pick a.access.write (WriteRegister r (a.access.value % 25
 targeted (Data port) a = pick a.access.write (WriteData port a.access.value) (ReadData port)
 
 abbrev pub standing : Standing → Asked → Meaning
-standing (Standing.There t) a = targeted t a
-standing (Standing.Refused r) a = Meaning.Refused r
+standing (Ok t) a = targeted t a
+standing (Err r) a = Meaning.Refused r
 
 abbrev pub meant_there : State → Asked → Meaning
 meant_there s a = standing (moved (place_in s a) a.access.width) a

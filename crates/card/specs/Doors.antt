@@ -1,8 +1,7 @@
 -- The doors by value: a card goes in and comes back in the answer.
-use Rattle.std.specs.Prelude.{ℕ, List, [], ◌∷◌}
+use Rattle.std.specs.Prelude.{ℕ, List, [], ◌∷◌, Ok, Err}
 use Rattle.ground.specs.Left.{leaving}
 use Rattle.ground.specs.Rows.{Row, When, Unless, first_of}
-use Rattle.answers.specs.declared.Outcome.{Outcome}
 use Rattle.answers.specs.declared.Refusal.{Refusal}
 use Rattle.answers.specs.declared.Refusal.TheVariants.{NotWellMade, SpaceSilent, IndexAboveThree, HeldBySreset}
 use Rattle.maps.specs.Spaces.{answers_at}
@@ -14,6 +13,7 @@ use Rattle.registers.specs.Resets.{control_written, option_core, option_buffer}
 use Rattle.port.specs.Data.{Effect}
 use Rattle.card.specs.declared.Card.{Card}
 use Rattle.card.specs.declared.Answer.{Answer}
+use Rattle.answers.specs.Answers.{Outcome}
 
 -- a card with the store and the marks that are lent to it
 abbrev pub machine_of : Card → List ℕ → List ℕ → Machine
@@ -35,7 +35,7 @@ abbrev pub answer : Outcome → Card → Answer
 answer o c = record { outcome = o; line = line_of c.state; card = c }
 
 abbrev pub refused_by : Card → Refusal → Answer
-refused_by c r = answer (Outcome.Refused r) c
+refused_by c r = answer (Err r) c
 
 -- the option as a method: 12; 7 in True IDE mode, where attribute memory does not answer; 10; else the write
 abbrev pub option_table : ℕ → Card → List (Row Refusal)
@@ -48,7 +48,7 @@ option_table v c =
 unfoldable pub option_answered : ℕ → Card → Answer
 option_answered v c =
     first_of (option_table v c) (refused_by c)
-    (answer (Outcome.Accepted 0) (card_of (option_core v c.phase c.state) (option_buffer v c.state c.buffer)))
+    (answer (Ok 0) (card_of (option_core v c.phase c.state) (option_buffer v c.state c.buffer)))
 
 -- Device Control as a method: 12; 8 while SRESET holds; else the write
 abbrev pub control_table : Card → List (Row Refusal)
@@ -58,4 +58,4 @@ control_table c =
     ∷ []
 
 unfoldable pub control_answered : ℕ → Card → Answer
-control_answered v c = first_of (control_table c) (refused_by c) (answer (Outcome.Accepted 0) (card_of (control_written v c.phase c.state) c.buffer))
+control_answered v c = first_of (control_table c) (refused_by c) (answer (Ok 0) (card_of (control_written v c.phase c.state) c.buffer))

@@ -1,8 +1,7 @@
 -- The opening: refusals 1, 2, 3, 5, 4 in this order; else power-on, with the marks counted.
-use Rattle.std.specs.Prelude.{ℕ, ◌*◌, false, ◌&&◌, List, [], ◌∷◌, eqb, leb, length}
+use Rattle.std.specs.Prelude.{ℕ, ◌*◌, false, ◌&&◌, List, [], ◌∷◌, eqb, leb, length, Ok}
 use Rattle.ground.specs.Choice.{pick}
 use Rattle.ground.specs.Sizes.{sector_bytes, tuple_buffer_bytes}
-use Rattle.answers.specs.declared.Outcome.{Outcome}
 use Rattle.answers.specs.declared.Refusal.{Refusal}
 use Rattle.answers.specs.declared.Refusal.TheVariants.{GeometryOrMode, StoreLength, MarksLength, TupleBufferLength, MarkAboveTwo}
 use Rattle.ground.specs.Rows.{Row, Unless, first_of}
@@ -62,4 +61,4 @@ opening_table g mode store marks tuples =
 unfoldable pub opened : Geometry → ℕ → List ℕ → List ℕ → List ℕ → Answer
 opened g mode store marks tuples =
     first_of (opening_table g mode store marks tuples) open_refused
-    (answer (Outcome.Accepted 0) (powered g (mode_of mode) (bad_in marks)))
+    (answer (Ok 0) (powered g (mode_of mode) (bad_in marks)))

@@ -1,7 +1,6 @@
 -- What an access does, once it is known what it means.
-use Rattle.std.specs.Prelude.{ℕ, Bool, true, false}
+use Rattle.std.specs.Prelude.{ℕ, Bool, true, false, Ok}
 use Rattle.ground.specs.Choice.{pick}
-use Rattle.answers.specs.declared.Outcome.{Outcome}
 use Rattle.maps.specs.declared.Register.{Register}
 use Rattle.maps.specs.declared.Register.TheVariants.{ErrorFeature, SectorCount, SectorNumber, CylinderLow, CylinderHigh, DriveHead, StatusCommand, AlternateControl, DriveAddress}
 use Rattle.registers.specs.declared.Core.{Core}
@@ -66,7 +65,7 @@ register_written DriveAddress v m = plain_written DriveAddress v m
 
 -- a register's value, and the interrupt mark that reading Status clears
 abbrev pub register_read : Register → Core → Done
-register_read r k = record { outcome = Outcome.Accepted (value_read r k.phase k.state); core = core k.phase (after_read r k.state) }
+register_read r k = record { outcome = Ok (value_read r k.phase k.state); core = core k.phase (after_read r k.state) }
 
 -- "Every refusal gives value 0 and changes nothing"; "An accepted access is 0 with its value (0 for a write)"
 unfoldable pub perform : Meaning → Machine → Effect

@@ -1,7 +1,7 @@
 -- 01, "Answers": the rows of an access and of the two resets' methods, each with its test in 01's words.
 -- They share with the card's own definitions what is well made, N, the bits of the option, the offset that a map gives to an address, and `ground`'s
 -- tables and ranges; the numbers stand here anew.
-use Rattle.std.specs.Prelude.{ℕ, ◌*◌, ◌%◌, Bool, true, false, not, ◌&&◌, ◌||◌, List, [], ◌∷◌, eqb, leb, ltb, length}
+use Rattle.std.specs.Prelude.{ℕ, ◌*◌, ◌%◌, Bool, true, false, not, ◌&&◌, ◌||◌, List, [], ◌∷◌, eqb, leb, ltb, length, Some, None}
 use Rattle.ground.specs.Choice.{pick, within}
 use Rattle.ground.specs.Tables.{Numbered, lookup}
 use Rattle.answers.specs.declared.Refusal.TheVariants.{NotWellMade, StoreLength, MarksLength, TupleBufferLength, HeldBySreset, SpaceSilent, NoRegister, WidthOrValue, IndexAboveThree, HalfMoved}
@@ -9,7 +9,7 @@ use Rattle.ground.specs.Rows.{Row, When, Unless}
 use Rattle.answers.specs.declared.Refusal.{Refusal}
 use Rattle.maps.specs.declared.Mode.{Mode}
 use Rattle.maps.specs.declared.Mode.TheVariants.{PcCard, TrueIde}
-use Rattle.maps.specs.Offsets.{Offset, At, Nowhere, offset_at}
+use Rattle.maps.specs.Offsets.{Offset, offset_at}
 use Rattle.registers.specs.declared.Half.{Half}
 use Rattle.registers.specs.declared.Phase.{Phase}
 use Rattle.registers.specs.declared.Phase.TheVariants.{Idle, DataIn, DataOut}
@@ -34,8 +34,8 @@ among n [] = false
 among n (x ∷ l) = pick (eqb n x) true (among n l)
 
 abbrev pub offset_in : List ℕ → Offset → Bool
-offset_in l (At offset) = among offset l
-offset_in l Nowhere = false
+offset_in l (Some offset) = among offset l
+offset_in l None = false
 
 -- "Offsets: 0, 8, 9 data; 1 and D Error/Feature; 2 Sector Count; 3 Sector Number; 4, 5 Cylinder; 6 Drive/Head; 7 Status/Command; E …; F …"
 abbrev pub register_offsets : List ℕ

@@ -17,18 +17,14 @@ use registers::Core;
 pub(crate) fn answer(done: Done, buffer: Sector) -> Answer
     ensures { result ≡ answer done.outcome (card_of done.core buffer) }
 {
-    let outcome = done.outcome;
-    let core = done.core;
-    let phase = core.phase;
-    let state = core.state;
-    let line = state.line();
+    let Done { outcome, core } = done;
     Answer {
-        outcome: outcome,
-        line: line,
+        outcome,
+        line: core.state.line(),
         card: Card {
-            phase: phase,
-            state: state,
-            buffer: buffer,
+            phase: core.phase,
+            state: core.state,
+            buffer,
         },
     }
 }
@@ -38,11 +34,9 @@ impl Card {
     fn core(self) -> Core
         ensures { result ≡ core_in self }
     {
-        let phase = self.phase;
-        let state = self.state;
         Core {
-            phase: phase,
-            state: state,
+            phase: self.phase,
+            state: self.state,
         }
     }
 
@@ -53,25 +47,22 @@ impl Card {
         ensures says { Says result.outcome (step (machine_of self store.old marks.old) (asked_with access tuples.now)).outcome }
     {
         let mut buffer = self.buffer;
-        let core = self.core();
-        let done = super::step::step(core, access, &mut buffer, store, marks, tuples);
+        let done = super::step::step(self.core(), access, &mut buffer, store, marks, tuples);
         answer(done, buffer)
     }
 
     // The write of the Configuration Option Register, with SRESET in it: rows 12, 7, 10, and the write.
+    #[tactic(auto, using(crate::proofs::Said::said), unfolding(crate::specs::Doors::option_answered, maps::specs::Spaces::answers_at, maps::specs::Spaces::card_answers))]
     pub fn write_option(self, value: u8) -> Answer
         ensures value { result ≡ option_answered value self }
         ensures says { Says result.outcome (option_answered value self).outcome }
     {
         let mut buffer = self.buffer;
         let core = self.core();
-        let state = self.state;
-        let made = state.made;
-        let mode = made.mode;
         if !core.well_made() {
             return answer(port::refused(core, Refusal::NotWellMade), buffer);
         }
-        match mode {
+        match self.state.made.mode {
             Mode::TrueIde => answer(port::refused(core, Refusal::SpaceSilent), buffer),
             Mode::PcCard => {
                 if !registers::well_made::index_fits(value) {
@@ -84,17 +75,17 @@ impl Card {
     }
 
     // The write of Device Control, with its reset bit: rows 12, 8, and the write; the buffer is kept.
+    #[tactic(auto, using(crate::proofs::Said::said), unfolding(crate::specs::Doors::control_answered))]
     pub fn write_control(self, value: u8) -> Answer
         ensures value { result ≡ control_answered value self }
         ensures says { Says result.outcome (control_answered value self).outcome }
     {
         let buffer = self.buffer;
         let core = self.core();
-        let state = self.state;
         if !core.well_made() {
             return answer(port::refused(core, Refusal::NotWellMade), buffer);
         }
-        if registers::states::sreset_in(state.option) {
+        if registers::states::sreset_in(self.state.option) {
             return answer(port::refused(core, Refusal::HeldBySreset), buffer);
         }
         answer(port::accepted(core.write_control(value), 0), buffer)

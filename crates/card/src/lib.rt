@@ -20,7 +20,7 @@ pub struct Card {
     pub buffer: Sector,
 }
 
-// What an access means.
+// What an access means. A refusal is one of the meanings, and no Err beside them: the theorems go over lists of meanings, of which each is one step.
 #[derive(Clone, Copy)]
 pub enum Meaning {
     Refused(Refusal),
@@ -34,11 +34,7 @@ pub enum Meaning {
 }
 
 // What rows 12, 2, 3 and 5 say of every access to a card with what is lent to it: no access changes it.
-#[derive(Clone, Copy)]
-pub enum Verdict {
-    Fit,
-    Refused(Refusal),
-}
+pub type Verdict = Result<(), Refusal>;
 
 // The answer of the doors: the next card is in it.
 #[derive(Clone, Copy)]

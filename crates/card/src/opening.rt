@@ -12,16 +12,17 @@ use ground::{SECTOR_BYTES, TUPLE_BUFFER_BYTES};
 use maps::Mode;
 use registers::{Control, Core, Made, Phase, Registers, State};
 
-// 01: "Mode: 0 PC Card, 1 True IDE."
+// 01: "Mode: 0 PC Card, 1 True IDE." No TryFrom: what it gives of a number above 1 stands in its promise.
 pub fn mode_of(mode: u16) -> Mode
     ensures { result ≡ mode_of mode }
 {
-    if mode == 0 {
-        return Mode::PcCard;
+    match mode {
+        0 => Mode::PcCard,
+        _ => Mode::TrueIde,
     }
-    Mode::TrueIde
 }
 
+// Written out, and no Default: that would be derived on seven types of three crates, for this one value.
 fn zero_state() -> State
     ensures { result ≡ zero_state }
 {
@@ -63,10 +64,9 @@ fn zero_state() -> State
 fn open_refused(refusal: Refusal) -> Answer
     ensures { result ≡ open_refused refusal }
 {
-    let state = zero_state();
     let core = Core {
         phase: Phase::Idle,
-        state: state,
+        state: zero_state(),
     };
     super::doors::answer(port::refused(core, refusal), [0u8; SECTOR_BYTES])
 }
@@ -75,13 +75,12 @@ fn powered(geometry: Geometry, mode: Mode, bad: u16) -> Core
     ensures { card_of result zeros ≡ powered geometry mode bad }
 {
     let made = Made {
-        mode: mode,
+        mode,
         default: geometry,
     };
-    let state = made.power_on(bad, 0);
     Core {
         phase: Phase::Idle,
-        state: state,
+        state: made.power_on(bad, 0),
     }
 }
 
@@ -89,6 +88,7 @@ impl Card {
     // Any C, H, S and mode, with any store, marks and tuple buffer: rows 1, 2, 3, 5, 4, and power-on.
     // Once a session: kept out of the loop over its accesses, which is the faster for it.
     #[inline(never)]
+    #[tactic(auto, using(crate::proofs::Said::said), unfolding(crate::specs::Opening::opened, registers::specs::PowerOn::zeros))]
     pub fn open(
         cylinders: u16,
         heads: u16,
@@ -102,17 +102,14 @@ impl Card {
         ensures says { Says result.outcome (opened (record { cylinders = cylinders; heads = heads; sectors = sectors }) mode store.now marks.now tuples.now).outcome }
     {
         let geometry = Geometry {
-            cylinders: cylinders,
-            heads: heads,
-            sectors: sectors,
+            cylinders,
+            heads,
+            sectors,
         };
-        if !geometry.fits() {
+        if !geometry.fits() || 1 < mode {
             return open_refused(Refusal::GeometryOrMode);
         }
-        if 1 < mode {
-            return open_refused(Refusal::GeometryOrMode);
-        }
-        let total = geometry.total() as usize;
+        let total = usize::from(geometry.total());
         if store.len() != SECTOR_BYTES * total {
             return open_refused(Refusal::StoreLength);
         }

@@ -1,6 +1,6 @@
 -- 40H 41H "as read, no data"; C0H "as write, storing FFH (H), no data": where the run is not past the end, sector after sector until none is left or a
 -- test fails.
-use Rattle.std.specs.Prelude.{ℕ, zero, suc, List, replicate}
+use Rattle.std.specs.Prelude.{ℕ, zero, suc, List, replicate, Ok, Err}
 use Rattle.ground.specs.Choice.{pick}
 use Rattle.ground.specs.Left.{Left, leaving}
 use Rattle.ground.specs.Sizes.{sector_bytes}
@@ -9,17 +9,15 @@ use Rattle.registers.specs.declared.State.{State}
 use Rattle.registers.specs.declared.Core.{Core}
 use Rattle.registers.specs.State.{with_bad}
 use Rattle.transfers.specs.declared.End.TheVariants.{Good, PastEnd}
-use Rattle.transfers.specs.declared.Tested.{Tested}
-use Rattle.transfers.specs.declared.Tested.TheVariants.{Passes, Fails}
 use Rattle.transfers.specs.Ends.{ended}
 use Rattle.transfers.specs.declared.Way.TheVariants.{In}
-use Rattle.transfers.specs.Before.{past_end, sector_test, sector_stored}
+use Rattle.transfers.specs.Before.{past_end, sector_test, sector_stored, Tested}
 use Rattle.transfers.specs.Steps.{sector_done}
 
 -- the rest where the sector's tests hold, else the end
 abbrev pub unless_failed {ℓ} : {A : Type ℓ} → Tested → (Core → A) → State → A → A
-unless_failed (Passes spot) end s rest = rest
-unless_failed (Fails e) end s rest = end (ended e s)
+unless_failed (Ok spot) end s rest = rest
+unless_failed (Err e) end s rest = end (ended e s)
 
 unfoldable pub verify_from : ℕ → State → List ℕ → Core
 verify_from zero s marks = ended Good s

@@ -1,13 +1,11 @@
 -- 01, "Commands": the table.
-use Rattle.std.specs.Prelude.{ℕ, false, List, [], ◌∷◌, eqb}
+use Rattle.std.specs.Prelude.{ℕ, false, List, [], ◌∷◌, eqb, Ok, Err, Some, None}
 use Rattle.ground.specs.Choice.{pick}
 use Rattle.ground.specs.Left.{Left}
 use Rattle.ground.specs.Sizes.{most_count}
 use Rattle.ground.specs.Tables.{Numbered, At, Digit, lookup}
-use Rattle.geometry.specs.declared.Sought.{Sought}
-use Rattle.geometry.specs.declared.Reshaped.{Reshaped}
-use Rattle.geometry.specs.Address.{seek}
-use Rattle.geometry.specs.Shape.{reshaped}
+use Rattle.geometry.specs.Address.{seek, Sought}
+use Rattle.geometry.specs.Shape.{reshaped, Reshaped}
 use Rattle.identify.specs.declared.Facts.{Facts}
 use Rattle.identify.specs.Words.{identify_bytes}
 use Rattle.sectors.specs.Sectors.{StoreMarks}
@@ -19,6 +17,7 @@ use Rattle.registers.specs.Blocks.{single}
 use Rattle.registers.specs.State.{with_interrupt, with_error, with_code, with_count, with_address, with_current, total_in}
 use Rattle.registers.specs.Machine.{Machine, machine, with_core}
 use Rattle.transfers.specs.declared.End.{End}
+use Rattle.transfers.specs.Before.{address_end}
 use Rattle.transfers.specs.declared.Order.TheVariants.{First}
 use Rattle.commands.specs.declared.Command.{Command}
 use Rattle.commands.specs.declared.Command.TheVariants.{Read, Write, Verify, Erase, Identify, ReadBuffer, WriteBuffer, SetGeometry, Diagnose, Recalibrate, Seek, Sense, SetMultiple, ReadMultiple, WriteMultiple, Other}
@@ -68,8 +67,8 @@ facts_of s = record { default = s.made.default; current = s.current; bad = s.bad
 
 -- 91H: "S := Count, H := low nibble+1; if S is 0 or H·S>N: ABRT, 21H, old geometry stays"
 abbrev pub reshaped_ended : Reshaped → State → Core
-reshaped_ended (Reshaped.Taken g) s = ended End.Good (with_current g s)
-reshaped_ended Reshaped.Refused s = ended End.BadGeometry s
+reshaped_ended (Some g) s = ended End.Good (with_current g s)
+reshaped_ended None s = ended End.BadGeometry s
 
 abbrev pub geometry_ended : State → Core
 geometry_ended s = reshaped_ended (reshaped s.registers.count s.registers.address.head (total_in s)) s
@@ -80,10 +79,8 @@ diagnosed s = with_address (record { sector = 1; low = 0; high = 0; head = 0 }) 
 
 -- 7XH: "address test; in CHS head and cylinder only"
 abbrev pub sought_end : Sought → End
-sought_end Sought.Good = End.Good
-sought_end Sought.BadHead = End.BadHeadOrSector
-sought_end Sought.BadCylinder = End.BadCylinder
-sought_end Sought.BadLba = End.BadLba
+sought_end (Ok tt) = End.Good
+sought_end (Err bad) = address_end bad
 
 abbrev pub seek_ended : State → Core
 seek_ended s = ended (sought_end (seek s.registers.address s.current (total_in s))) s

@@ -9,20 +9,21 @@ use registers::{Core, State};
 use transfers::{End, Order};
 
 // C6H: Count is the block, or refused as a command that the card does not have.
-pub(crate) fn set_block(state: State) -> Core
+#[tactic(auto, unfolding(crate::specs::Blocks::block_set))]
+pub(crate) fn set_block(mut state: State) -> Core
     ensures { result ≡ block_set state }
 {
-    let registers = state.registers;
-    let count = ground::wide(registers.count);
+    let count = u16::from(state.registers.count);
     if registers::blocks::block_size(count) {
-        let mut s = state;
-        s.block = count;
-        return transfers::ends::ended(s, End::Good);
+        state.block = count;
+        transfers::ends::ended(state, End::Good)
+    } else {
+        transfers::ends::ended(state, End::NoSuchCommand)
     }
-    transfers::ends::ended(state, End::NoSuchCommand)
 }
 
 // C4H: as 20H, where there is a block.
+#[tactic(auto, unfolding(crate::specs::Blocks::blocks_read))]
 pub(crate) fn read_blocks(
     state: State,
     count: u16,
@@ -40,6 +41,7 @@ pub(crate) fn read_blocks(
 }
 
 // C5H: as 30H, where there is a block.
+#[tactic(auto, unfolding(crate::specs::Blocks::blocks_asked))]
 pub(crate) fn ask_blocks(state: State, count: u16) -> Core
     ensures { result ≡ blocks_asked count state }
 {

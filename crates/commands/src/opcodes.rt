@@ -6,6 +6,7 @@ ghost use Rattle.commands.specs.Opcodes.{command_of_class, TableAgrees};
 use super::Command;
 
 // The classes: a number each, named by the letter that stands for it in the table; that of "others" is lower case, so that the rest stands out.
+// Numbers, and no kinds, by 01, "What form each place takes": "Opcode classes as numbers".
 // The words above a class, up to a colon, are the command's name as tools/opcodes and tools/session print it; after the colon stands where the letter is from.
 
 // others

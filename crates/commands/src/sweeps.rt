@@ -6,53 +6,44 @@ ghost use Rattle.commands.specs.Sweeps.{verify_from, verify_run, erase_from, era
 
 use ground::SECTOR_BYTES;
 use registers::{Core, State};
-use transfers::{End, Tested, Way};
+use transfers::{End, Way};
+
+// Two loops: Verify is lent the marks to read and no store. One loop for both would take a trait with two impls, and a proof that `verify_from` and
+// `erase_from`, which the theorems go by, are its instances.
 
 // 40H 41H, sector after sector.
-fn verify(state: State, count: u16, marks: &[u8]) -> Core
+#[tactic(auto, using(crate::proofs::Loops::verify_end, crate::proofs::Loops::verify_fails, crate::proofs::Loops::verify_step))]
+fn verify(mut state: State, count: u16, marks: &[u8]) -> Core
     ensures { result ≡ verify_from count state marks.now }
 {
-    let mut s = state;
-    let mut n = count;
-    while 0 < n {
-        match transfers::before::sector_test(s, Way::In, marks) {
-            Tested::Passes(_) => {
-                n -= 1;
-                s = transfers::steps::sector_done(s, n);
-            }
-            Tested::Fails(end) => {
-                return transfers::ends::ended(s, end);
-            }
+    for left in (0..count).rev() {
+        if let Err(end) = transfers::before::sector_test(state, Way::In, marks) {
+            return transfers::ends::ended(state, end);
         }
+        state = transfers::steps::sector_done(state, left);
     }
-    transfers::ends::ended(s, End::Good)
+    transfers::ends::ended(state, End::Good)
 }
 
 // C0H, sector after sector.
-fn erase(state: State, count: u16, store: &mut [u8], marks: &mut [u8]) -> Core
+#[tactic(auto, using(crate::proofs::Loops::erase_end))]
+fn erase(mut state: State, count: u16, store: &mut [u8], marks: &mut [u8]) -> Core
     ensures { leaving result (store_marks store.new marks.new result.state.bad) ≡ erase_from count state store.old marks.old }
 {
     let bytes = [0xFFu8; SECTOR_BYTES];
-    let mut s = state;
-    let mut n = count;
-    while 0 < n {
-        let stored = transfers::before::sector_stored(s, &bytes, store, marks);
-        let tested = stored.tested;
-        s.bad = stored.bad;
-        match tested {
-            Tested::Passes(_) => {
-                n -= 1;
-                s = transfers::steps::sector_done(s, n);
-            }
-            Tested::Fails(end) => {
-                return transfers::ends::ended(s, end);
-            }
+    for left in (0..count).rev() {
+        let stored = transfers::before::sector_stored(state, &bytes, store, marks);
+        state.bad = stored.bad;
+        if let Err(end) = stored.tested {
+            return transfers::ends::ended(state, end);
         }
+        state = transfers::steps::sector_done(state, left);
     }
-    transfers::ends::ended(s, End::Good)
+    transfers::ends::ended(state, End::Good)
 }
 
 // 40H 41H: a run past the end ends before its first sector.
+#[tactic(auto, unfolding(crate::specs::Sweeps::verify_run))]
 pub(crate) fn verify_run(state: State, count: u16, marks: &[u8]) -> Core
     ensures { result ≡ verify_run count state marks.now }
 {
@@ -63,6 +54,7 @@ pub(crate) fn verify_run(state: State, count: u16, marks: &[u8]) -> Core
 }
 
 // C0H: likewise.
+#[tactic(auto, unfolding(crate::specs::Sweeps::erase_run))]
 pub(crate) fn erase_run(state: State, count: u16, store: &mut [u8], marks: &mut [u8]) -> Core
     ensures { leaving result (store_marks store.new marks.new result.state.bad) ≡ erase_run count state store.old marks.old }
 {

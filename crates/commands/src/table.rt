@@ -8,91 +8,80 @@ ghost use Rattle.transfers.specs.Steps.{idle, read_sector, ask_sector};
 ghost use Rattle.commands.specs.Table.{started, count_of, facts_of, geometry_ended, diagnosed, sought_end, seek_ended, sense_ended, obeyed, command_given};
 
 use super::Command;
-use geometry::{Address, Reshaped, Sought};
+use geometry::{Address, BadAddress};
 use ground::Sector;
 use identify::Facts;
 use registers::{Core, Load, State};
 use transfers::{End, Order};
 
 // 01: every command but 03H starts with Error and code 0.
-fn started(state: State) -> State
+fn started(mut state: State) -> State
     ensures { result ≡ started state }
 {
-    let mut s = state;
-    s.registers.error = 0;
-    s.code = 0;
-    s
+    state.registers.error = 0;
+    state.code = 0;
+    state
 }
 
 // 01: Count 0 means 256.
+#[tactic(auto, unfolding(crate::specs::Table::count_of))]
 fn count_of(state: State) -> u16
     ensures { result ≡ count_of state }
 {
-    let registers = state.registers;
-    let count = registers.count;
-    if count == 0 {
-        return ground::MOST_COUNT;
+    match state.registers.count {
+        0 => ground::MOST_COUNT,
+        count => u16::from(count),
     }
-    ground::wide(count)
 }
 
+// Once a command: kept out of the loop over the accesses, which is the faster for it.
+#[inline(never)]
 fn identify(state: State, buffer: &mut Sector)
     ensures { buffer.new ≡ identify_bytes (facts_of state) }
 {
-    let made = state.made;
-    let default = made.default;
-    let current = state.current;
     let facts = Facts {
-        default: default,
-        current: current,
+        default: state.made.default,
+        current: state.current,
         bad: state.bad,
     };
     facts.identify(buffer);
 }
 
 // 91H.
-fn set_geometry(state: State) -> Core
+fn set_geometry(mut state: State) -> Core
     ensures { result ≡ geometry_ended state }
 {
     let registers = state.registers;
-    let address = registers.address;
-    match geometry::shape::reshape(registers.count, address.head, state.total()) {
-        Reshaped::Taken(geometry) => {
-            let mut s = state;
-            s.current = geometry;
-            transfers::ends::ended(s, End::Good)
+    match geometry::shape::reshape(registers.count, registers.address.head, state.total()) {
+        Some(geometry) => {
+            state.current = geometry;
+            transfers::ends::ended(state, End::Good)
         }
-        Reshaped::Refused => transfers::ends::ended(state, End::BadGeometry),
+        None => transfers::ends::ended(state, End::BadGeometry),
     }
 }
 
 // 90H.
-fn diagnosed(state: State) -> State
+fn diagnosed(mut state: State) -> State
     ensures { result ≡ diagnosed state }
 {
-    let address = Address {
+    state.registers.error = registers::POWER_ON_ERROR;
+    state.registers.count = 1;
+    state.registers.address = Address {
         sector: 1,
         low: 0,
         high: 0,
         head: 0,
     };
-    let mut registers = state.registers;
-    registers.error = registers::POWER_ON_ERROR;
-    registers.count = 1;
-    registers.address = address;
-    let mut s = state;
-    s.registers = registers;
-    s
+    state
 }
 
-fn sought_end(sought: Sought) -> End
+fn sought_end(sought: Result<(), BadAddress>) -> End
     ensures { result ≡ sought_end sought }
 {
     match sought {
-        Sought::Good => End::Good,
-        Sought::BadHead => End::BadHeadOrSector,
-        Sought::BadCylinder => End::BadCylinder,
-        Sought::BadLba => End::BadLba,
+        Ok(()) => End::Good,
+        Err(bad) => End::from(bad),
     }
 }
 
@@ -100,20 +89,16 @@ fn sought_end(sought: Sought) -> End
 fn seek(state: State) -> Core
     ensures { result ≡ seek_ended state }
 {
-    let registers = state.registers;
-    let address = registers.address;
-    let sought = address.seek(state.current, state.total());
+    let sought = state.registers.address.seek(state.current, state.total());
     transfers::ends::ended(state, sought_end(sought))
 }
 
 // 03H: Error is the last code, which stays.
-fn sense(state: State) -> Core
+fn sense(mut state: State) -> Core
     ensures { result ≡ sense_ended state }
 {
-    let mut s = state;
-    let code = state.code;
-    s.registers.error = code;
-    transfers::ends::ended(s, End::Good)
+    state.registers.error = state.code;
+    transfers::ends::ended(state, End::Good)
 }
 
 // 20H 21H: read sectors.
@@ -173,8 +158,9 @@ fn obey(
 }
 
 // A Command write: the transfer is dropped and the interrupt mark cleared, then the command's own effect.
+#[tactic(auto, unfolding(crate::specs::Table::command_given))]
 pub fn command_given(
-    state: State,
+    mut state: State,
     opcode: u8,
     buffer: &mut Sector,
     store: &mut [u8],
@@ -182,8 +168,12 @@ pub fn command_given(
 ) -> Core
     ensures { machine result buffer.new store.new marks.new ≡ command_given opcode (idle state buffer.old store.old marks.old) }
 {
-    let mut s = state;
-    s.interrupt = false;
-    let command = super::opcodes::command_of(opcode);
-    obey(s, command, buffer, store, marks)
+    state.interrupt = false;
+    obey(
+        state,
+        super::opcodes::command_of(opcode),
+        buffer,
+        store,
+        marks,
+    )
 }

@@ -1,4 +1,5 @@
 -- Which geometries are good current geometries: that of a new card, and what 91H takes.
+use Rattle.std.proofs.Common.{Some, None}
 use Prim.Native.Nat.{ℕ, ◌+◌, ◌*◌, ◌/◌, ◌%◌, ◌≤◌, ◌<◌}
 use mathlib.Core.Bool.{Bool, true, false}
 use mathlib.Core.Path.{◌≡◌, refl, sym, ap}
@@ -8,9 +9,8 @@ use lib.Dec.{ltb, eqb}
 use borrow.Author.Tests.{le-leb, eq-eqb, ltb-false, eqb-false}
 use Rattle.ground.specs.Choice.{pick, every}
 use Rattle.geometry.specs.declared.Geometry.{Geometry}
-use Rattle.geometry.specs.declared.Reshaped.{Reshaped}
 use Rattle.geometry.specs.Limits.{fits, total_of, current_for, cylinders_for}
-use Rattle.geometry.specs.Shape.{geometry_by, reshaped, current_after}
+use Rattle.geometry.specs.Shape.{geometry_by, reshaped, current_after, Reshaped}
 use Rattle.geometry.specs.Codes.{reshaped_code}
 use Rattle.geometry.proofs.Bounds.{product_positive}
 use Rattle.geometry.proofs.LimitFacts.{Current, fits_facts, total-fits}
@@ -28,13 +28,13 @@ fits_current g e =
     rw ((total-fits g e).0, mul_assoc) (sym (mul-div_cancel g.cylinders p)) in
     current_of g (total_of g) (f.2, f.3, f.4, f.5, f.0, q)
 
-taken : (t u : Bool) (x g : Geometry) → pick t Reshaped.Refused (pick u Reshaped.Refused (Reshaped.Taken x)) ≡ Reshaped.Taken g → (t ≡ false) × (u ≡ false) × (x ≡ g)
+taken : (t u : Bool) (x g : Geometry) → pick t None (pick u None (Some x)) ≡ Some g → (t ≡ false) × (u ≡ false) × (x ≡ g)
 taken true u x g e = let z : ◌≡◌ {A = ℕ} 0x21 0 = ap reshaped_code e in absurd (omega arith)
 taken false true x g e = let z : ◌≡◌ {A = ℕ} 0x21 0 = ap reshaped_code e in absurd (omega arith)
 taken false false x g e = (refl, refl, ap (λ (r : Reshaped). current_after r x) e)
 
 -- what 91H takes from the Count register is a good current geometry: its C is at least 1.
-pub reshaped_current : (count head n : ℕ) (g : Geometry) → count < 256 → reshaped count head n ≡ Reshaped.Taken g → current_for g n ≡ true
+pub reshaped_current : (count head n : ℕ) (g : Geometry) → count < 256 → reshaped count head n ≡ Some g → current_for g n ≡ true
 unfolding reshaped
 reshaped_current count head n g b e =
     let t = taken (eqb count 0) (ltb n ((head % 16 + 1) * count)) (geometry_by (head % 16 + 1) count n) g e in
@@ -46,5 +46,5 @@ reshaped_current count head n g b e =
 
 -- so 91H, taken or refused, leaves a good current geometry.
 pub after_current : (count head n : ℕ) (r : Reshaped) (old : Geometry) → count < 256 → reshaped count head n ≡ r → current_for old n ≡ true → current_for (current_after r old) n ≡ true
-after_current count head n (Reshaped.Taken g) old b e h = reshaped_current count head n g b e
-after_current count head n Reshaped.Refused old b e h = h
+after_current count head n (Some g) old b e h = reshaped_current count head n g b e
+after_current count head n None old b e h = h

@@ -36,24 +36,10 @@ pub struct Spot {
     pub remain: usize,
 }
 
-#[derive(Clone, Copy)]
-pub enum Located {
-    Good(Spot),
-    BadHeadOrSector,
-    BadCylinder,
-    BadLba,
-}
-
-#[derive(Clone, Copy)]
-pub enum Sought {
-    Good,
-    BadHead,
-    BadCylinder,
-    BadLba,
-}
-
-#[derive(Clone, Copy)]
-pub enum Reshaped {
-    Taken(Geometry),
-    Refused,
+// The test of an address that failed.
+#[derive(Clone, Copy, Debug, PartialEq, Eq)]
+pub enum BadAddress {
+    HeadOrSector,
+    Cylinder,
+    Lba,
 }

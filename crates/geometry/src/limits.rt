@@ -13,63 +13,39 @@ impl Geometry {
     }
 
     // H 1..16 and S 1..255.
+    #[tactic(auto, unfolding(ground::specs::Choice::every))]
     fn shape_fits(self) -> bool
         ensures { result ≡ shape_fits self }
     {
-        if self.heads < 1 {
-            return false;
-        }
-        if 16 < self.heads {
-            return false;
-        }
-        if self.sectors < 1 {
-            return false;
-        }
-        if 255 < self.sectors {
-            return false;
-        }
-        true
+        (1..=16).contains(&self.heads) && (1..=255).contains(&self.sectors)
     }
 
+    #[tactic(auto, unfolding(crate::specs::Limits::fits, ground::specs::Choice::every))]
     pub fn fits(self) -> bool
         ensures { result ≡ fits self }
     {
-        if self.cylinders < 1 {
-            return false;
-        }
-        if !self.shape_fits() {
-            return false;
-        }
-        let capacity = self.capacity();
-        if 65535 < capacity {
-            return false;
-        }
-        true
+        1 <= self.cylinders && self.shape_fits() && self.capacity() <= 65535
     }
 
+    // Once a sector at most: kept out of the loop over the accesses, which is the faster for it.
+    #[inline(never)]
+    #[tactic(auto, unfolding(crate::specs::Limits::total_of), using(crate::proofs::LimitFacts::fits_facts))]
     pub fn total(self) -> u16
         ensures { result ≡ total_of self }
     {
         if self.fits() {
-            let capacity = self.capacity();
-            return capacity as u16;
+            self.capacity() as u16
+        } else {
+            0
         }
-        0
     }
 
+    #[tactic(auto, unfolding(crate::specs::Limits::current_for, ground::specs::Choice::every), using(crate::proofs::Bounds::product_most, crate::proofs::Bounds::product_positive))]
     pub fn current_for(self, total: u16) -> bool
         ensures { result ≡ current_for self total }
     {
-        if !self.shape_fits() {
-            return false;
-        }
-        if self.cylinders < 1 {
-            return false;
-        }
-        let cylinders = total / (self.heads * self.sectors);
-        if self.cylinders == cylinders {
-            return true;
-        }
-        false
+        self.shape_fits()
+            && 1 <= self.cylinders
+            && self.cylinders == total / (self.heads * self.sectors)
     }
 }

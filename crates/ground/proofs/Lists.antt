@@ -1,7 +1,7 @@
 -- Lists: a copy, one element a turn; a part of a list of equal elements; a list made by a function; the first two of a rest.
 use mathlib.Core.Path.{◌≡◌, refl, sym, ap, ◌∙◌}
 use mathlib.Core.List.{List, [], ◌∷◌, ◌++◌}
-use Prim.Native.Nat.{ℕ, zero, suc, ◌+◌, ◌-◌, ◌<◌, ◌≤◌}
+use Prim.Native.Nat.{ℕ, zero, suc, ◌+◌, ◌<◌, ◌≤◌}
 use native.Mathlib.Omega.{arith}
 use native.Mathlib.Nat.{not-suc-le-zero, le_of_suc-le-suc, add-zero}
 use native.Mathlib.Numerals.{add-one}
@@ -18,16 +18,6 @@ copy_more n s d ls ld e =
 -- the end: a whole copy
 pub copy_all : (n : ℕ) (s d : List ℕ) → length s ≤ n → length d ≤ n → take n d ≡ take n s → d ≡ s
 copy_all n s d ls ld e = sym (take_all n d ld) ∙ e ∙ take_all n s ls
-
-pub take-replicate : {A : Type 0} (j m : ℕ) (x : A) → j ≤ m → take j (replicate m x) ≡ replicate j x
-take-replicate zero m x h = refl
-take-replicate (suc j) zero x h = let z : ⊥ = omega arith in absurd z
-take-replicate (suc j) (suc m) x h = ap (λ l. x ∷ l) (take-replicate j m x (omega arith))
-
-pub drop-replicate : {A : Type 0} (n k : ℕ) (x : A) → drop n (replicate k x) ≡ replicate (k - n) x
-drop-replicate zero k x = let e : k ≡ k - 0 = omega arith in ap (λ (j : ℕ). replicate j x) e
-drop-replicate (suc n) zero x = let e : 0 ≡ 0 - suc n = omega arith in ap (λ (j : ℕ). replicate j x) e
-drop-replicate (suc n) (suc k) x = let e : k - n ≡ suc k - suc n = omega arith in drop-replicate n k x ∙ ap (λ (j : ℕ). replicate j x) e
 
 pub get_or-replicate : {A : Type 0} (m j : ℕ) (x : A) → get_or (replicate m x) j x ≡ x
 get_or-replicate zero j x = refl

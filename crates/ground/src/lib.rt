@@ -2,8 +2,7 @@
 // laws about tests and lists that the proofs cite.
 #![tactic(auto)]
 
-ghost use Rattle.std.specs.Prelude.{◌≡◌, ◌<◌, ◌≤◌, min, length, get_or};
-ghost use Rattle.ground.specs.Sizes.{sector_bytes};
+ghost use Rattle.std.specs.Prelude.{◌≡◌, get_or};
 
 // 01: the bytes of a sector, and of the buffer that each passes through.
 pub const SECTOR_BYTES: usize = 512;
@@ -13,46 +12,17 @@ pub type Sector = [u8; SECTOR_BYTES];
 // 01: the bytes of the tuple buffer.
 pub const TUPLE_BUFFER_BYTES: usize = 256;
 
+pub type TupleBuffer = [u8; TUPLE_BUFFER_BYTES];
+
 // 01: a sector moves as 256 words; the number of the last.
 pub const LAST_WORD: u16 = 255;
 
 // 01: "Count 0 means 256": the most sectors of a command.
 pub const MOST_COUNT: u16 = 256;
 
-// A byte as a wider number, with its bound.
-pub fn wide(x: u8) -> u16
-    ensures { (result ≡ x) × (result < 256) }
-{
-    x as u16
-}
-
-// An array that is passed by value is known to be so long; `length_known` says so of one that is lent.
-fn array_length(bytes: Sector)
-    ensures { length bytes ≡ sector_bytes }
-{}
-
-pub fn length_known(bytes: &Sector)
-    ensures { length bytes.now ≡ sector_bytes }
-{
-    array_length(*bytes);
-}
-
 // A byte of a slice, 0 past its end.
 pub fn byte_or_zero(bytes: &[u8], i: usize) -> u8
     ensures { result ≡ get_or bytes.now i 0 }
 {
-    if i < bytes.len() {
-        return bytes[i];
-    }
-    0
-}
-
-// The smaller of two numbers.
-pub fn at_most(n: usize, most: usize) -> usize
-    ensures { (result ≡ min n most) × (result ≤ most) }
-{
-    if n < most {
-        return n;
-    }
-    most
+    bytes.get(i).copied().unwrap_or(0)
 }

@@ -1,10 +1,10 @@
 -- When the card asks no more, no access but a command or a reset changes anything of it, and the notes only grow.
+use Rattle.std.proofs.Common.{Ok, Err}
 use Prim.Native.Nat.{ℕ}
 use mathlib.Core.Bool.{Bool, true, false, true≢false}
 use mathlib.Core.Path.{◌≡◌, refl, sym, ap}
 use mathlib.Core.List.{List, [], ◌++◌, append-nil}
 use Rattle.ground.specs.Choice.{pick}
-use Rattle.answers.specs.declared.Outcome.{Outcome}
 use Rattle.maps.specs.declared.Port.{Port}
 use Rattle.registers.specs.declared.Phase.{Phase}
 use Rattle.registers.specs.declared.Phase.TheVariants.{Idle, DataIn, DataOut}
@@ -24,6 +24,7 @@ use Rattle.account.specs.Notes.{Waiting, None, LowByte, HighByte, Notes, note, n
 use Rattle.sectors.specs.Sectors.{StoreMarks}
 use Rattle.account.proofs.Aside.{state_in, option_aside, register_aside}
 use Rattle.account.proofs.Rest.{notes}
+use Rattle.answers.specs.Answers.{Outcome}
 
 abbrev pub Rests : StoreMarks → Machine → Type 0
 Rests k m = (m.phase ≡ Idle) × (m.state.control.held ≡ false) × (sreset_in m.state.option ≡ false) × (store_marks_in m ≡ k)
@@ -74,12 +75,12 @@ data_more Port.Odd (LowByte b) v l = (_, refl)
 data_more Port.Odd (HighByte b) v l = same l
 
 read_more : (o : Outcome) (port : Port) (q : Notes) → More q.done (note_read o port q).done
-read_more (Outcome.Accepted v) port q = data_more port q.waiting v q.done
-read_more (Outcome.Refused r) port q = same q.done
+read_more (Ok v) port q = data_more port q.waiting v q.done
+read_more (Err r) port q = same q.done
 
 written_more : (o : Outcome) (port : Port) (v : ℕ) (q : Notes) → More q.done (note_written o port v q).done
-written_more (Outcome.Accepted n) port v q = data_more port q.waiting (sent port v) q.done
-written_more (Outcome.Refused r) port v q = same q.done
+written_more (Ok n) port v q = data_more port q.waiting (sent port v) q.done
+written_more (Err r) port v q = same q.done
 
 pub note_more : (way : Way) (x : Meaning) (o : Outcome) (q : Notes) → More q.done (note way x o q).done
 unfolding note

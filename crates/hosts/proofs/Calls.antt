@@ -1,11 +1,11 @@
 -- Calls of `Card::access`, each as the code promises: what they are to the machine, those with the wrong store or marks lent among them.
+use Rattle.std.proofs.Common.{Err}
 use Prim.Native.Nat.{ℕ}
 use mathlib.Core.Bool.{Bool, true, false, ◌&&◌, true≢false}
 use mathlib.Core.Path.{◌≡◌, refl, sym, ap, ◌∙◌, subst}
 use mathlib.Core.List.{List, [], ◌∷◌}
 use Rattle.ground.specs.Choice.{pick}
 use Rattle.ground.specs.Rows.{first_of}
-use Rattle.answers.specs.declared.Outcome.{Outcome}
 use Rattle.answers.specs.declared.Refusal.TheVariants.{NotWellMade, StoreLength, MarksLength}
 use Rattle.registers.specs.Machine.{Machine, core_of}
 use Rattle.registers.specs.WellMade.{well_made}
@@ -45,7 +45,7 @@ module _ (c : Card) (store marks : List ℕ) (a : Asked) (r : Answer) (store' ma
   wrong_answered = p ∙ ap (λ (x : Meaning). perform x (machine_of c store marks)) (wrong_means (machine_of c store marks) store marks a e)
 
   -- such a call is refused, with 2 or 3 if the card is well made, and nothing changes: neither the card nor what was lent
-  pub wrong_refused : (r.outcome ≡ Outcome.Refused (wrong_row (machine_of c store marks) store)) × (r.card ≡ c) × (store' ≡ store) × (marks' ≡ marks)
+  pub wrong_refused : (r.outcome ≡ Err (wrong_row (machine_of c store marks) store)) × (r.card ≡ c) × (store' ≡ store) × (marks' ≡ marks)
   unfolding perform
   wrong_refused =
       let n = ap (λ (s : Effect). s.next) wrong_answered in

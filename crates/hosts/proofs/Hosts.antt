@@ -8,7 +8,6 @@ use lib.ListN.{length, replicate, length-replicate}
 use borrow.Author.Tests.{leb-true, ne_eqb, lt-leb}
 use Rattle.ground.specs.Choice.{pick}
 use Rattle.ground.proofs.Every.{and_left, and_right}
-use Rattle.answers.specs.declared.Outcome.{Outcome}
 use Rattle.maps.specs.declared.Mode.{Mode}
 use Rattle.maps.specs.declared.Mode.TheVariants.{PcCard, TrueIde}
 use Rattle.maps.specs.declared.Port.{Port}
@@ -32,6 +31,7 @@ use Rattle.hosts.specs.Sends.{next, Sends, still}
 use Rattle.hosts.specs.Likes.{odd_there, liked, space_of, even_place, address_of, choice_in, liked_rounds}
 use Rattle.hosts.proofs.Live.{every_host_ends}
 use Rattle.hosts.proofs.Sent.{sends_ready_too}
+use Rattle.answers.specs.Answers.{Outcome}
 
 -- ---- a place for every choice
 

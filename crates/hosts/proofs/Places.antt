@@ -1,4 +1,5 @@
 -- A choice at a data place of the map that is set means data.
+use Rattle.std.proofs.Common.{Some}
 use Prim.Native.Nat.{ℕ, zero, suc, ◌+◌, ◌%◌, ◌≤◌}
 use mathlib.Core.Bool.{Bool, true, false, ◌&&◌, ◌||◌, false≢true}
 use mathlib.Core.Path.{◌≡◌, refl, sym, ap, ◌∙◌, subst}
@@ -15,7 +16,7 @@ use Rattle.maps.specs.declared.Place.{Place}
 use Rattle.maps.specs.declared.Place.TheVariants.{Bytes, EvenData}
 use Rattle.maps.specs.declared.Target.TheVariants.{Data}
 use Rattle.maps.specs.Spaces.{card_answers, answers_at}
-use Rattle.maps.specs.Offsets.{Offset, memory_at, contiguous_at, window_at, io_at, offset_at}
+use Rattle.maps.specs.Offsets.{memory_at, contiguous_at, window_at, io_at, offset_at}
 use Rattle.maps.specs.Places.{register_place, map_place, place_at}
 use Rattle.maps.specs.Rows.{misfits, place_table, moved}
 use Rattle.registers.specs.declared.State.{State}
@@ -37,7 +38,7 @@ pub record Found (is : ℕ → Bool) (mode : Mode) (index space address : ℕ) :
   pub answers : answers_at space mode index ≡ true
   pub apart : eqb space 0 ≡ false
   pub offset : ℕ
-  pub stands : offset_at space index address ≡ Offset.At offset
+  pub stands : offset_at space index address ≡ Some offset
   pub good : is offset ≡ true
 
 module _ (is : ℕ → Bool) where
@@ -54,7 +55,7 @@ module _ (is : ℕ → Bool) where
       record { answers = refl; apart = refl; offset = address % 16; stands = rw p; good = and_right (leb address 0x7FF) (is (address % 16)) e }
 
   -- the first address of a window is offset 0
-  by_window : (mode : Mode) (index space first address : ℕ) → answers_at space mode index ≡ true → eqb space 0 ≡ false → offset_at space index first ≡ Offset.At 0 →
+  by_window : (mode : Mode) (index space first address : ℕ) → answers_at space mode index ≡ true → eqb space 0 ≡ false → offset_at space index first ≡ Some 0 →
       (eqb address first && is 0) ≡ true → Found is mode index space address
   by_window mode index space first address p q r e =
       let z : address ≡ first = eqb-true address first (and_left (eqb address first) (is 0) e) in

@@ -1,11 +1,11 @@
 -- Wherever a host has got to: its notes have not shrunk, the card is sound, and the account of the rest holds.
+use Rattle.std.proofs.Common.{Ok, Err}
 use Prim.Native.Nat.{ℕ, ◌/◌, ◌%◌, ◌≤◌}
 use mathlib.Core.Path.{◌≡◌, refl, sym, ap, ◌∙◌, subst}
 use mathlib.Core.List.{List, [], ◌∷◌, ◌++◌}
 use native.Mathlib.Omega.{arith}
 use native.Mathlib.Nat.{le_refl, le_trans}
 use lib.ListN.{length-append}
-use Rattle.answers.specs.declared.Outcome.{Outcome}
 use Rattle.maps.specs.declared.Port.{Port}
 use Rattle.registers.specs.Machine.{Machine}
 use Rattle.transfers.specs.declared.Way.{Way}
@@ -25,6 +25,7 @@ use Rattle.hosts.specs.Live.{noted}
 use Rattle.hosts.specs.Hosts.{onward, Going}
 use Rattle.account.proofs.Rest.{Rel, notes}
 use Rattle.account.proofs.Theorem.{goes_on, hosted_plays}
+use Rattle.answers.specs.Answers.{Outcome}
 
 -- ---- notes never shrink
 
@@ -40,12 +41,12 @@ data_grows Port.Word (LowByte b) x l = omega arith
 data_grows Port.Word (HighByte b) x l = omega arith
 
 read_grows : (o : Outcome) (port : Port) (q : Notes) → noted q ≤ noted (note_read o port q)
-read_grows (Outcome.Accepted v) port q = data_grows port q.waiting v q.done
-read_grows (Outcome.Refused r) port q = le_refl _
+read_grows (Ok v) port q = data_grows port q.waiting v q.done
+read_grows (Err r) port q = le_refl _
 
 written_grows : (o : Outcome) (port : Port) (v : ℕ) (q : Notes) → noted q ≤ noted (note_written o port v q)
-written_grows (Outcome.Accepted n) port v q = data_grows port q.waiting _ q.done
-written_grows (Outcome.Refused r) port v q = le_refl _
+written_grows (Ok n) port v q = data_grows port q.waiting _ q.done
+written_grows (Err r) port v q = le_refl _
 
 note_grows : (way : Way) (x : Meaning) (o : Outcome) (q : Notes) → noted q ≤ noted (note way x o q)
 unfolding note

@@ -1,4 +1,5 @@
 -- The theorems are about what runs: a list of calls of `Card::access`, each as the code promises, some of them with the wrong store or marks lent.
+use Rattle.std.proofs.Common.{Ok}
 use Prim.Native.Nat.{ℕ, ◌≤◌}
 use mathlib.Core.Bool.{true}
 use mathlib.Core.Path.{◌≡◌, refl, sym, ap, ◌∙◌, subst}
@@ -6,7 +7,6 @@ use mathlib.Core.List.{List, [], ◌∷◌}
 use native.Mathlib.Omega.{arith}
 use lib.ListN.{length}
 use lib.Dec.{ltb}
-use Rattle.answers.specs.declared.Outcome.{Outcome}
 use Rattle.registers.specs.Machine.{Machine}
 use Rattle.port.specs.Data.{Effect}
 use Rattle.card.specs.declared.Card.{Card}
@@ -39,6 +39,7 @@ use Rattle.hosts.proofs.Rounds.{comes_to_end}
 use Rattle.hosts.proofs.Live.{choice-taken, means_asks_while_due, fitting-chosen, stands_at_start}
 use Rattle.hosts.proofs.Moment.{means_at_every_moment}
 use Rattle.hosts.proofs.Calls.{called_is, sound-called}
+use Rattle.answers.specs.Answers.{Outcome}
 
 -- A card in neither reset, a call that writes a command, and calls after it; d, store' and marks' are what the last one left, q what the host has noted of the answers.
 module _ (c : Card) (store marks : List ℕ) (a : Asked) (v : ℕ) (l : List Call) (d : Card) (store' marks' : List ℕ) (q : Notes) (w : AcceptedCommand (machine_of c store marks) a v)
@@ -74,7 +75,7 @@ module _ (c : Card) (store marks : List ℕ) (a : Asked) (v : ℕ) (l : List Cal
       let way = way_of (row_of v) in
       Fitting way now x →
       (r : Answer) (store'' marks'' : List ℕ) → Promised d store' marks' (access_of way x) r store'' marks'' →
-      (n : ℕ) × (r.outcome ≡ Outcome.Accepted n) × (note way (meaning now.machine (access_of way x)) r.outcome q ≡ note_data x.port q.waiting (moved way n x.value) q)
+      (n : ℕ) × (r.outcome ≡ Ok n) × (note way (meaning now.machine (access_of way x)) r.outcome q ≡ note_data x.port q.waiting (moved way n x.value) q)
   unfolding step
   code_every_choice g e x f r store'' marks'' p =
       let way = way_of (row_of v) in

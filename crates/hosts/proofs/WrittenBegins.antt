@@ -1,10 +1,10 @@
 -- A command begins: what it has stored is nothing.
+use Rattle.std.proofs.Common.{Ok, Err}
 use Prim.Native.Nat.{ℕ, suc, ◌-◌, ◌<◌}
 use mathlib.Core.Bool.{Bool}
 use mathlib.Core.Path.{◌≡◌, refl, ap, ◌∙◌}
 use mathlib.Core.List.{List, []}
 use native.Mathlib.Nat.{zero-add}
-use Rattle.geometry.specs.declared.Located.{Located}
 use Rattle.registers.specs.declared.Pace.{Pace}
 use Rattle.registers.specs.Blocks.{no_block, single, pace_from}
 use Rattle.commands.specs.Blocks.{blocks_asked}
@@ -40,6 +40,8 @@ use Rattle.hosts.proofs.WrittenKeeps.{in_lies}
 use Rattle.ground.specs.Choice.{pick}
 use Rattle.ground.proofs.Picks.{test_elim}
 use lib.Dec.{eqb}
+use Rattle.geometry.specs.Address.{Located}
+use Rattle.geometry.specs.declared.BadAddress.{BadAddress}
 
 abbrev pub target_at : Addressed → Target
 target_at (At i) = From i
@@ -66,7 +68,7 @@ target_of Others p = Nowhere
 write_begins : (n : ℕ) (pace : Pace) (m : Machine) (p : Plain) (l : Located) → p.store ≡ m.store → p.marks ≡ m.marks → p.bad ≡ m.state.bad → Shaped m.state.made m.state.current → located_in m.state ≡ l →
     Lies (target_at (as_addressed l)) p (with_core (ask_sector (suc n) pace First m.state) m) []
 unfolding ask_sector address_test
-write_begins n pace m p (Located.Good spot) s k b h e =
+write_begins n pace m p (Ok spot) s k b h e =
     unfold ask_sector address_test in
     ask_lies spot.index p n pace First (course_in m.state) spot.index m.state m.buffer m.store m.marks []
     (unfold replaced cleared in record {
@@ -77,9 +79,9 @@ write_begins n pace m p (Located.Good spot) s k b h e =
       counted = λ j. simp zero-add (ap (λ (n : ℕ). n - bad_from spot.index j p.marks) b ∙ ap (λ (l : List ℕ). m.state.bad - bad_from spot.index j l) k);
     })
     (where_first m.state spot h e)
-write_begins n pace m p Located.BadHeadOrSector s k b h e = rw e tt
-write_begins n pace m p Located.BadCylinder s k b h e = rw e tt
-write_begins n pace m p Located.BadLba s k b h e = rw e tt
+write_begins n pace m p (Err BadAddress.HeadOrSector) s k b h e = rw e tt
+write_begins n pace m p (Err BadAddress.Cylinder) s k b h e = rw e tt
+write_begins n pace m p (Err BadAddress.Lba) s k b h e = rw e tt
 
 count_is : (c : ℕ) → c < 256 → (m : Machine) → m.state.registers.count ≡ c → (P : ℕ → Type 0) → ((n : ℕ) → P (suc n)) → P (count_of m.state)
 unfolding count_of asked

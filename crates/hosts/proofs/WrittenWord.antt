@@ -1,4 +1,5 @@
 -- A word that is written keeps this, the last one of a sector too.
+use Rattle.std.proofs.Common.{Ok, Err}
 use Prim.Native.Nat.{ℕ, zero, suc, ◌+◌, ◌-◌, ◌*◌, ◌<◌}
 use mathlib.Core.Bool.{Bool, true, false}
 use mathlib.Core.Path.{◌≡◌, refl, sym, subst}
@@ -9,8 +10,7 @@ use lib.Dec.{ltb}
 use lib.ListN.{length, take, set, get_or}
 use borrow.Author.Tests.{ltb-false, ne_eqb}
 use Rattle.ground.specs.Choice.{pick}
-use Rattle.geometry.specs.declared.Located.{Located}
-use Rattle.geometry.specs.Address.{index_of}
+use Rattle.geometry.specs.Address.{index_of, Located}
 use Rattle.geometry.specs.Limits.{total_of}
 use Rattle.sectors.specs.Marks.{writable}
 use Rattle.registers.specs.declared.Pace.{Pace}
@@ -25,7 +25,6 @@ use Rattle.registers.specs.Machine.{Machine, machine, with_buffer}
 use Rattle.transfers.specs.declared.Order.{Order}
 use Rattle.transfers.specs.declared.Order.TheVariants.{Later}
 use Rattle.transfers.specs.declared.End.{End}
-use Rattle.transfers.specs.declared.Tested.TheVariants.{Passes, Fails}
 use Rattle.transfers.specs.Before.{address_test, tested_of, stored_by, sector_stored}
 use Rattle.transfers.specs.Steps.{ask_tested, ask_sector, next_asked, written_by, load_written, all_moved}
 use Rattle.transfers.specs.declared.Way.TheVariants.{Out}
@@ -42,9 +41,10 @@ use Rattle.account.proofs.Stored.{stored_is}
 use Rattle.account.proofs.Rest.{bare, here, Ground, Loaded}
 use Rattle.account.proofs.WordWritten.{sector_test_lem, here_inside}
 use Rattle.hosts.proofs.Written.{Written, Target, Nowhere, From, LoadLies, Lies, word_more, sector_more}
+use Rattle.geometry.specs.declared.BadAddress.{BadAddress}
 
 module _ (i : ℕ) (p : Plain) where
-  past_lies : (l : Bool) (n : ℕ) (pace : Pace) (order : Order) (s : State) (b t k q : List ℕ) → Lies (From i) p (machine (ask_tested (tested_of (pick l Located.BadLba Located.BadCylinder)) n pace order s) b t k) q
+  past_lies : (l : Bool) (n : ℕ) (pace : Pace) (order : Order) (s : State) (b t k q : List ℕ) → Lies (From i) p (machine (ask_tested (tested_of (pick l (Err BadAddress.Lba) (Err BadAddress.Cylinder))) n pace order s) b t k) q
   past_lies true n pace order s b t k q = tt
   past_lies false n pace order s b t k q = tt
 
@@ -71,7 +71,7 @@ module _ (i : ℕ) (p : Plain) where
 
   marked_lies : (u : Bool) (n : ℕ) (pace : Pace) (h : ℕ) (m : Machine) (l : List ℕ) → h < total_of m.state.made.default → length m.buffer ≡ 512 → Ground Out m →
       located_in m.state ≡ good_on (course_in m.state) h → Written i p h 256 m.buffer (store_marks_in m) l →
-      Lies (From i) p (written_by (stored_by (pick u (Passes (spot_on (course_in m.state) h)) (Fails End.WriteFault)) m.buffer (store_marks_in m)) n pace m) l
+      Lies (From i) p (written_by (stored_by (pick u (Ok (spot_on (course_in m.state) h)) (Err End.WriteFault)) m.buffer (store_marks_in m)) n pace m) l
   marked_lies true n pace h m l x f g e z =
       rw (stored_is (total_of m.state.made.default) h m.state.bad m.store m.marks m.buffer x g.1)
       (asked_lies n pace (course_in m.state) h (with_bad (m.state.bad - bad_at h m.marks) m.state) m.buffer (put_sector h m.buffer m.store) (set m.marks h 0) l g.0 refl e

@@ -1,6 +1,5 @@
 -- A part of a command's data, wherever the host stands in it: what may move next, what comes of it, and how much data there is.
-use Rattle.std.specs.Prelude.{ℕ, ◌+◌, ◌*◌, ◌≤◌, Bool, true, false, List, ◌≡◌, length, replicate}
-use Rattle.answers.specs.declared.Outcome.{Outcome}
+use Rattle.std.specs.Prelude.{ℕ, ◌+◌, ◌*◌, ◌≤◌, Bool, true, false, List, ◌≡◌, length, replicate, Ok}
 use Rattle.maps.specs.declared.Port.{Port}
 use Rattle.transfers.specs.declared.Way.{Way}
 use Rattle.transfers.specs.declared.Way.TheVariants.{In, Out}
@@ -69,7 +68,7 @@ pub record Taken (way : Way) (h : Hosted) (port : Port) (value : ℕ) (x : Meani
   pub quiet : calm x ≡ true
   -- it is accepted
   pub answer : ℕ
-  pub accepted : (perform x h.machine).outcome ≡ Outcome.Accepted answer
+  pub accepted : (perform x h.machine).outcome ≡ Ok answer
   -- and counts as the part chosen, one byte or two, and as nothing else
   pub part : note way x (perform x h.machine).outcome h.notes ≡ note_data port h.notes.waiting (moved way answer value) h.notes
   pub bytes : noted (note way x (perform x h.machine).outcome h.notes) ≡ noted h.notes + width port

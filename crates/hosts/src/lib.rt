@@ -29,7 +29,6 @@ fn eight_bits(registers: Registers)
 fn typed(card: Card, store: &[u8], marks: &[u8])
     ensures { Typed (machine_of card store.now marks.now) }
 {
-    let state = card.state;
-    eight_bits(state.registers);
+    eight_bits(card.state.registers);
     let _first = ground::byte_or_zero(store, 0);
 }

@@ -1,13 +1,24 @@
 -- The bytes of Identify, for the code that fills the buffer: how many they are, and which; those of word 129.
-use Rattle.std.proofs.Common.{◌≡◌, ℕ, ◌+◌, ◌/◌, ◌%◌, ◌<◌, List, [], ◌∷◌, ◌++◌, length, get_or, take, drop, set, replicate, sym, refl, ap, ◌∙◌, add_assoc, zero-add, arith, length-append, take-append-drop, take-add, ne_eqb}
+use Rattle.std.proofs.Common.{◌≡◌, ℕ, ◌+◌, ◌/◌, ◌%◌, ◌<◌, List, [], ◌∷◌, ◌++◌, length, get_or, take, drop, replicate, sym, refl, ap, ◌∙◌, add_assoc, zero-add, arith, length-append, take-append-drop, ne_eqb}
+use Rattle.std.proofs.Common.{zero, suc, ◌==◌, take_all, le_refl, append_assoc, subst}
+use Rattle.ground.specs.Choice.{pick}
 use lib.ListN.{get_or-append}
-use lib.Seq.{take-set-le, drop-set-add}
+use lib.Seq.{take-append-add, drop-append-add}
 use Rattle.ground.specs.Lists.{listed}
 use Rattle.ground.specs.Tables.{lookup}
 use Rattle.identify.specs.declared.Facts.{Facts}
 use Rattle.identify.specs.Integrity.{integrity_at, integrity_low, integrity_high, giving_zero, with_integrity}
 use Rattle.identify.specs.Words.{to_word61, byte_of, identify_word, identify_byte, told_bytes, identify_bytes}
 use Rattle.ground.proofs.Lists.{listed-length, listed_at}
+
+-- a word's bytes, low byte first
+half : (k w : ℕ) → k < 2 → w < 65536 → get_or (w % 256 ∷ (w / 256 % 256 ∷ [])) k 0 ≡ pick (k == 0) (w % 256) (w / 256)
+half zero w k h = refl
+half (suc zero) w k h = omega arith
+half (suc (suc n)) w k h = absurd (omega arith)
+
+pub half_of : (i w : ℕ) → w < 65536 → get_or (w % 256 ∷ (w / 256 % 256 ∷ [])) (i % 2) 0 ≡ byte_of i w
+half_of i w h = half (i % 2) w (omega arith) h
 
 pub told_length : (f : Facts) → length (told_bytes f) ≡ integrity_at
 unfolding told_bytes
@@ -18,7 +29,7 @@ unfolding told_bytes
 told_at f k h = listed_at (identify_byte f) 0 integrity_at k 0 h ∙ ap (identify_byte f) (zero-add k)
 
 -- after word 61 only word 129 is told
-told_after : (f : Facts) → drop 124 (told_bytes f) ≡ take 386 (set (set (replicate 388 0) 134 (f.bad % 256)) 135 (f.bad / 256))
+told_after : (f : Facts) → drop 124 (told_bytes f) ≡ replicate 134 0 ++ (f.bad % 256 ∷ (f.bad / 256 ∷ replicate 250 0))
 unfolding listed identify_word identify_byte told_bytes
 told_after f = refl
 
@@ -27,19 +38,27 @@ pub table_byte : (f : Facts) (i : ℕ) → i < 124 → byte_of i (lookup (to_wor
 unfolding identify_byte identify_word
 table_byte f i h = rw (ne_eqb (i / 2) 129 (λ e. omega arith)) refl
 
--- the bytes of words 0 to 61, then 0, with word 129 put in: words 0 to 254
-pub put_in_129 : (f : Facts) (b : List ℕ) → take 124 b ≡ take 124 (told_bytes f) → drop 124 b ≡ replicate 388 0 →
-    take 510 (set (set b 258 (f.bad % 256)) 259 (f.bad / 256)) ≡ told_bytes f
-put_in_129 f b e z =
-    let low = f.bad % 256 in
-    let high = f.bad / 256 in
-    let m : List ℕ = set (set b 258 low) 259 high in
-    let before : take 124 m ≡ take 124 (told_bytes f) = take-set-le 124 (set b 258 low) 259 high (omega arith) ∙ take-set-le 124 b 258 low (omega arith) ∙ e in
-    let after : drop 124 m ≡ set (set (replicate 388 0) 134 low) 135 high =
-    drop-set-add 124 (set b 258 low) 135 high ∙ ap (λ (l : List ℕ). set l 135 high) (drop-set-add 124 b 134 low ∙ ap (λ (l : List ℕ). set l 134 low) z) in
-    take-add 124 386 m
-    ∙ ap (λ (l : List ℕ). l ++ take 386 (drop 124 m)) before
-    ∙ ap (λ (l : List ℕ). take 124 (told_bytes f) ++ take 386 l) after
+take_past : (n : ℕ) (table rest : List ℕ) → length table ≡ 124 → take (124 + n) (table ++ rest) ≡ table ++ take n rest
+take_past n table rest long = subst (λ (k : ℕ). take (k + n) (table ++ rest) ≡ table ++ take n rest) long (take-append-add table rest n)
+
+drop_past : (n : ℕ) (table rest : List ℕ) → length table ≡ 124 → drop (124 + n) (table ++ rest) ≡ drop n rest
+drop_past n table rest long = subst (λ (k : ℕ). drop (k + n) (table ++ rest) ≡ drop n rest) long (drop-append-add table rest n)
+
+-- the bytes of words 0 to 61, then 0, with the bytes of word 129 put in: words 0 to 254
+pub put_in_129 : (f : Facts) (table word : List ℕ) → length table ≡ 124 → take 124 table ≡ take 124 (told_bytes f) → word ≡ f.bad % 256 ∷ (f.bad / 256 % 256 ∷ []) → f.bad < 65536 →
+    take 510 (take 258 (table ++ replicate 388 0) ++ (word ++ drop 2 (drop 258 (table ++ replicate 388 0)))) ≡ told_bytes f
+put_in_129 f table word long e w h =
+    let z : List ℕ = replicate 388 0 in
+    let gap : List ℕ = replicate 134 0 in
+    let q : f.bad / 256 % 256 ≡ f.bad / 256 = omega arith in
+    let v : word ≡ f.bad % 256 ∷ (f.bad / 256 ∷ []) = w ∙ ap (λ (k : ℕ). f.bad % 256 ∷ (k ∷ [])) q in
+    let whole : take 124 table ≡ table = take_all 124 table (rw long (le_refl 124)) in
+    ap (λ (l : List ℕ). take 510 (l ++ (word ++ drop 2 (drop 258 (table ++ z))))) (take_past 134 table z long)
+    ∙ ap (λ (l : List ℕ). take 510 ((table ++ gap) ++ (word ++ drop 2 l))) (drop_past 134 table z long)
+    ∙ ap (λ (l : List ℕ). take 510 ((table ++ gap) ++ (l ++ replicate 252 0))) v
+    ∙ ap (λ (l : List ℕ). take 510 l) (append_assoc table gap (f.bad % 256 ∷ (f.bad / 256 ∷ replicate 252 0)))
+    ∙ take_past 386 table (gap ++ (f.bad % 256 ∷ (f.bad / 256 ∷ replicate 252 0))) long
+    ∙ ap (λ (l : List ℕ). l ++ (gap ++ (f.bad % 256 ∷ (f.bad / 256 ∷ replicate 250 0)))) (sym whole ∙ e)
     ∙ ap (λ (l : List ℕ). take 124 (told_bytes f) ++ l) (sym (told_after f))
     ∙ take-append-drop 124 (told_bytes f)
 

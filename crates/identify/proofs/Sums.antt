@@ -1,5 +1,6 @@
 -- Sums of bytes with wrap-around in eight bits: one byte more, and the byte with which all give 0.
-use Rattle.std.proofs.Common.{◌≡◌, ℕ, suc, ◌+◌, ◌-◌, ◌%◌, ◌<◌, List, [], ◌∷◌, ◌++◌, length, get_or, take, set, sym, ap, ◌∙◌, le_refl, add-zero, add_assoc, zero-add, add-one, arith, length-set, take_all, take-suc, take-suc-set, set-set}
+use Rattle.std.proofs.Common.{◌≡◌, ℕ, suc, ◌+◌, ◌-◌, ◌%◌, ◌<◌, List, [], ◌∷◌, ◌++◌, length, take, set, sym, ap, ◌∙◌, le_refl, add-zero, add_assoc, zero-add, arith, length-set, take_all, take-suc-set, set-set}
+use Rattle.std.specs.List.{fold}
 use Rattle.identify.specs.Integrity.{sum_of, integrity_low, integrity_high, giving_zero, with_integrity}
 
 pub sum-append : (a b : List ℕ) → sum_of (a ++ b) ≡ sum_of a + sum_of b
@@ -11,10 +12,14 @@ pub sum_one_more : (l : List ℕ) (b : ℕ) → sum_of (l ++ (b ∷ [])) ≡ sum
 unfolding sum_of
 sum_one_more l b = sum-append l (b ∷ []) ∙ ap (λ (n : ℕ). sum_of l + n) (add-zero b)
 
--- a turn of the loop that sums
-pub sum_more : (i : ℕ) (l : List ℕ) (s : ℕ) → i < length l → s ≡ sum_of (take i l) % 256 → (s + get_or l i 0) % 256 ≡ sum_of (take (i + 1) l) % 256
-sum_more i l s h e =
-    rw (add-one, take-suc l i 0 h, sum_one_more (take i l) (get_or l i 0)) (omega (arith, e))
+-- the sum as a fold over the bytes
+summed_from : (s : ℕ) (l : List ℕ) → s < 256 → fold (λ a b. (a + b) % 256) s l ≡ (s + sum_of l) % 256
+unfolding sum_of
+summed_from s [] h = omega arith
+summed_from s (x ∷ l) h = let e = summed_from ((s + x) % 256) l (omega arith) in e ∙ omega arith
+
+pub summed : (l : List ℕ) → fold (λ a b. (a + b) % 256) 0 l ≡ sum_of l % 256
+summed l = summed_from 0 l (omega arith) ∙ ap (λ (n : ℕ). n % 256) (zero-add (sum_of l))
 
 -- what brings a sum to 0, and only that
 pub lacking : (s : ℕ) → (s + (256 - s % 256) % 256) % 256 ≡ 0

@@ -1,5 +1,5 @@
 -- 01, "Commands", the last paragraph: Identify's 256 words, low byte first; the last of them is 02's integrity word.
-use Rattle.std.specs.Prelude.{ℕ, ◌/◌, ◌%◌, List, [], ◌∷◌, take, drop, ◌==◌}
+use Rattle.std.specs.Prelude.{ℕ, ◌/◌, ◌%◌, List, [], ◌∷◌, take, ◌==◌}
 use Rattle.ground.specs.Choice.{pick}
 use Rattle.ground.specs.Lists.{listed}
 use Rattle.ground.specs.Tables.{Numbered, At, Through, lookup}
@@ -40,15 +40,9 @@ word_table f =
     ∷ At 129 f.bad
     ∷ []
 
--- the table to word 61, and of it what is from word 10 on and from word 47 on, as the code looks it up; it puts word 129 in by itself
+-- the table to word 61, as the code looks it up; it puts word 129 in by itself
 abbrev pub to_word61 : Facts → List (Numbered ℕ)
 to_word61 f = take 19 (word_table f)
-
-abbrev pub from_word10 : Facts → List (Numbered ℕ)
-from_word10 f = drop 6 (to_word61 f)
-
-abbrev pub from_word47 : Facts → List (Numbered ℕ)
-from_word47 f = drop 9 (to_word61 f)
 
 -- words 0 to 254: "the rest 0"
 unfoldable pub identify_word : Facts → ℕ → ℕ

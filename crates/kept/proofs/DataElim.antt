@@ -1,10 +1,10 @@
 -- What an access to the data port can do: nothing, a refusal, a half moved, a word moved, or the last word moved.
+use Rattle.std.proofs.Common.{Err, None, Some}
 use Prim.Native.Nat.{ℕ}
 use mathlib.Core.Bool.{true}
 use mathlib.Core.Path.{◌≡◌, refl}
 use lib.Dec.{ltb}
 use Rattle.ground.proofs.Picks.{pick-elim}
-use Rattle.answers.specs.declared.Outcome.{Outcome}
 use Rattle.answers.specs.declared.Refusal.TheVariants.{HalfMoved}
 use Rattle.maps.specs.declared.Port.{Port}
 use Rattle.registers.specs.declared.Transfer.{Transfer}
@@ -13,14 +13,13 @@ use Rattle.registers.specs.declared.Phase.TheVariants.{Idle, DataIn, DataOut}
 use Rattle.registers.specs.Machine.{Machine, with_buffer}
 use Rattle.port.specs.declared.Part.{Part}
 use Rattle.port.specs.declared.Fill.TheVariants.{Begun, Full}
-use Rattle.port.specs.declared.Take.{Take}
-use Rattle.port.specs.Halves.{take_of, part_value, with_part, halved, next_word}
+use Rattle.port.specs.Halves.{take_of, part_value, with_part, halved, next_word, Take}
 use Rattle.transfers.specs.Steps.{load_read, load_written, all_moved}
 use Rattle.port.specs.Data.{Effect, accepted, with_phase, word_read, taken_read, phase_read, data_read, word_written, taken_written, phase_written, data_written}
 
 -- refusal 11
 abbrev pub half_moved : Machine → Effect
-half_moved m = record { outcome = Outcome.Refused HalfMoved; next = m }
+half_moved m = record { outcome = Err HalfMoved; next = m }
 
 -- ---- reading
 
@@ -30,9 +29,9 @@ taken_read_lem : (P : Effect → Type 0) (k : Take) (t : Transfer) (m : Machine)
     ((v : ℕ) → P (accepted v (load_read t.load (all_moved m)))) →
     P (taken_read k t m)
 unfolding word_read
-taken_read_lem P Take.Refused t m r h n l = r
-taken_read_lem P (Take.Moves part Begun) t m r h n l = h _ part
-taken_read_lem P (Take.Moves part Full) t m r h n l =
+taken_read_lem P None t m r h n l = r
+taken_read_lem P (Some (part, Begun)) t m r h n l = h _ part
+taken_read_lem P (Some (part, Full)) t m r h n l =
     let v = part_value part t.words m.buffer in
     pick-elim (λ (x : Machine). P (accepted v x)) (ltb t.words 255) _ _ (n v) (λ e. l v)
 
@@ -66,9 +65,9 @@ taken-written : (P : Effect → Type 0) (k : Take) (value : ℕ) (t : Transfer) 
     ((part : Part) → P (accepted 0 (load_written t.load (all_moved (part_come part t value m))))) →
     P (taken_written k value t m)
 unfolding word_written
-taken-written P Take.Refused value t m r h n l = r
-taken-written P (Take.Moves part Begun) value t m r h n l = h part
-taken-written P (Take.Moves part Full) value t m r h n l = pick-elim (λ (x : Machine). P (accepted 0 x)) (ltb t.words 255) _ _ (n part) (λ e. l part)
+taken-written P None value t m r h n l = r
+taken-written P (Some (part, Begun)) value t m r h n l = h part
+taken-written P (Some (part, Full)) value t m r h n l = pick-elim (λ (x : Machine). P (accepted 0 x)) (ltb t.words 255) _ _ (n part) (λ e. l part)
 
 phase_written_elim : (P : Effect → Type 0) (p : Phase) (port : Port) (value : ℕ) (m : Machine) → P (accepted 0 m) → P (half_moved m) →
     ((part : Part) (t : Transfer) → p ≡ DataOut t → P (accepted 0 (with_phase (DataOut (halved part t)) (part_come part t value m)))) →

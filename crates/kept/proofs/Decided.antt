@@ -1,4 +1,5 @@
 -- What the refusals before an access leave: an option that may be written, and no register written while SRESET holds.
+use Rattle.std.proofs.Common.{Ok, Err}
 use Prim.Native.Nat.{ℕ, ◌*◌, ◌%◌, ◌≤◌}
 use mathlib.Core.Bool.{Bool, true, false}
 use mathlib.Core.Path.{◌≡◌, refl, sym, subst, ◌∙◌}
@@ -12,7 +13,6 @@ use Rattle.maps.specs.declared.Access.{Access}
 use Rattle.maps.specs.declared.Mode.{Mode}
 use Rattle.maps.specs.declared.Mode.TheVariants.{PcCard, TrueIde}
 use Rattle.maps.specs.declared.Target.TheVariants.{Tuple, Option, Named, Data}
-use Rattle.maps.specs.declared.Standing.{Standing}
 use Rattle.maps.specs.Spaces.{answers_at}
 use Rattle.maps.proofs.SameOffset.{silent_stands}
 use Rattle.maps.proofs.Standings.{Known, stands_known}
@@ -25,6 +25,7 @@ use Rattle.card.specs.Access.{Asked, standing, held_away, decided, meaning}
 use Rattle.card.proofs.Decided.{stands, decided_as}
 use Rattle.card.proofs.Verdicts.{meaning_as}
 use Rattle.kept.specs.Allowed.{Allowed}
+use Rattle.maps.specs.Rows.{Standing}
 
 -- rows 8 and 7, then what stands there
 pub decided-elim : (P : Meaning → Type 0) (s : State) (a : Asked) → P (Meaning.Refused HeldBySreset) → P (Meaning.Refused SpaceSilent) →
@@ -77,17 +78,17 @@ stands_allowed : (t : Standing) (s : State) (a : Asked) → Known a.access t →
     held_away s.option a.access ≡ false →
     answers_at a.access.space s.made.mode (index_in s.option) ≡ true →
     Allowed (standing t a) s
-stands_allowed (Standing.There (Tuple n)) s a f h e = tt
-stands_allowed (Standing.There Option) s a f h e =
+stands_allowed (Ok (Tuple n)) s a f h e = tt
+stands_allowed (Ok Option) s a f h e =
     pick-elim (λ (k : Meaning). Allowed k s) a.access.write _ _
     (λ w. (index_fits_lem a.access.value (f.1 w), sreset_fits_lem s.made.mode a.access.space (index_in s.option) (a.access.value % 256) f.0 e))
     (λ w. tt)
-stands_allowed (Standing.There (Named r)) s a f h e =
+stands_allowed (Ok (Named r)) s a f h e =
     pick-elim (λ (k : Meaning). Allowed k s) a.access.write _ _
     (λ w. (free s.option a.access f.0 h, omega arith))
     (λ w. tt)
-stands_allowed (Standing.There (Data port)) s a f h e = pick-elim (λ (k : Meaning). Allowed k s) a.access.write _ _ (λ w. tt) (λ w. tt)
-stands_allowed (Standing.Refused r) s a f h e = tt
+stands_allowed (Ok (Data port)) s a f h e = pick-elim (λ (k : Meaning). Allowed k s) a.access.write _ _ (λ w. tt) (λ w. tt)
+stands_allowed (Err r) s a f h e = tt
 
 pub decided-allowed : (s : State) (a : Asked) → Allowed (decided s a) s
 decided-allowed s a =

@@ -1,4 +1,5 @@
 -- What the doors by value can answer: the opening, and the two resets as methods.
+use Rattle.std.proofs.Common.{Ok}
 use Prim.Native.Nat.{ℕ, ◌*◌}
 use mathlib.Core.Path.{◌≡◌, refl}
 use mathlib.Core.Bool.{true, ◌&&◌, false≢true}
@@ -8,7 +9,6 @@ use lib.ListN.{length}
 use borrow.Author.Tests.{eqb-true}
 use Rattle.ground.proofs.Picks.{pick-elim}
 use Rattle.ground.proofs.Every.{and_left}
-use Rattle.answers.specs.declared.Outcome.{Outcome}
 use Rattle.answers.specs.declared.Refusal.{Refusal}
 use Rattle.answers.specs.declared.Refusal.TheVariants.{GeometryOrMode, StoreLength, MarksLength, TupleBufferLength, MarkAboveTwo}
 use Rattle.geometry.specs.declared.Geometry.{Geometry}
@@ -28,7 +28,7 @@ use Rattle.card.specs.Doors.{card_of, answer, refused_by, option_answered, contr
 -- refusals 1, 2, 3, 5 and 4, then power-on
 pub opened-elim : (P : Answer → Type 0) (g : Geometry) (mode : ℕ) (store marks tuples : List ℕ) →
     P (open_refused GeometryOrMode) → P (open_refused StoreLength) → P (open_refused MarksLength) → P (open_refused TupleBufferLength) → P (open_refused MarkAboveTwo) →
-    (fits g ≡ true → length store ≡ 512 * total_of g → length marks ≡ total_of g → P (answer (Outcome.Accepted 0) (powered g (mode_of mode) (bad_in marks)))) →
+    (fits g ≡ true → length store ≡ 512 * total_of g → length marks ≡ total_of g → P (answer (Ok 0) (powered g (mode_of mode) (bad_in marks)))) →
     P (opened g mode store marks tuples)
 unfolding opened
 opened-elim P g mode store marks tuples x y z u v a =
@@ -53,7 +53,7 @@ attribute_mode PcCard index e = refl
 attribute_mode TrueIde index e = absurd (false≢true e)
 
 pub option-elim : (P : Answer → Type 0) (v : ℕ) (c : Card) → ((r : Refusal) → P (refused_by c r)) →
-    (PcCard ≡ c.state.made.mode → index_fits v ≡ true → P (answer (Outcome.Accepted 0) (option_card v c))) → P (option_answered v c)
+    (PcCard ≡ c.state.made.mode → index_fits v ≡ true → P (answer (Ok 0) (option_card v c))) → P (option_answered v c)
 unfolding option_answered
 option-elim P v c f a =
     pick-elim P (well_made c.phase c.state) _ _
@@ -63,7 +63,7 @@ option-elim P v c f a =
     (λ e. f _)
 
 pub control_elim : (P : Answer → Type 0) (v : ℕ) (c : Card) → ((r : Refusal) → P (refused_by c r)) →
-    P (answer (Outcome.Accepted 0) (card_of (control_written v c.phase c.state) c.buffer)) → P (control_answered v c)
+    P (answer (Ok 0) (card_of (control_written v c.phase c.state) c.buffer)) → P (control_answered v c)
 unfolding control_answered
 control_elim P v c f a =
     pick-elim P (well_made c.phase c.state) _ _

@@ -1,4 +1,5 @@
 -- How a command ends and a transfer begins, and what the tests before a sector can say.
+use Rattle.std.proofs.Common.{Ok, Err}
 use Prim.Native.Nat.{ℕ, ◌%◌, ◌≤◌}
 use mathlib.Core.Bool.{Bool, true, false, not}
 use mathlib.Core.Path.{◌≡◌, refl, ap, ◌∙◌}
@@ -8,7 +9,6 @@ use lib.Dec.{eqb}
 use lib.ListN.{get_or}
 use borrow.Author.Tests.{eqb-true, eqb-false, le-leb, eq-eqb}
 use Rattle.ground.proofs.Picks.{pick-elim}
-use Rattle.geometry.specs.declared.Located.{Located}
 use Rattle.geometry.specs.declared.Spot.{Spot}
 use Rattle.ground.specs.Choice.{every}
 use Rattle.registers.specs.declared.Pace.{Pace}
@@ -20,18 +20,17 @@ use Rattle.registers.specs.Status.{idle_status}
 use Rattle.registers.specs.State.{located_in}
 use Rattle.registers.specs.Machine.{Machine, core_of}
 use Rattle.registers.specs.WellMade.{at_rest, status_fits, in_reset, hold_fits, words_fit, sectors_fit, load_fits, run_fits, pace_fits, load_pace_fits, run_pace_fits}
-use Rattle.geometry.specs.Address.{valid_address}
+use Rattle.geometry.specs.Address.{valid_address, Located}
 use Rattle.transfers.specs.declared.End.{End}
-use Rattle.transfers.specs.declared.Tested.{Tested}
-use Rattle.transfers.specs.declared.Tested.TheVariants.{Passes, Fails}
 use Rattle.transfers.specs.declared.Order.{Order}
 use Rattle.transfers.specs.Ends.{end_status, ended, reading_ended}
-use Rattle.transfers.specs.Before.{tested_of, mark_tested}
+use Rattle.transfers.specs.Before.{tested_of, mark_tested, Tested}
 use Rattle.transfers.specs.Steps.{ready, asked_for, sector_done}
 use Rattle.kept.specs.Sound.{CountFits}
 use Rattle.kept.proofs.Registers.{StateFits, CoreFits, load_same}
 use Rattle.kept.proofs.Resets.{at_rest_lem}
 use Rattle.kept.proofs.Lent.{LengthsKept}
+use Rattle.geometry.specs.declared.BadAddress.{BadAddress}
 
 -- a state in which a command can end, and one in which a transfer can begin
 abbrev pub Fine : Made → State → Type 0
@@ -87,14 +86,14 @@ abbrev pub erring : End → Bool
 erring e = not (eqb (end_status e) idle_status)
 
 -- what a sector's tests can say
-pub address_elim : (P : Tested → Type 0) (l : Located) → ((spot : Spot) → valid_address l ≡ true → P (Passes spot)) → ((e : End) → erring e ≡ true → P (Fails e)) → P (tested_of l)
-address_elim P (Located.Good spot) f g = f spot refl
-address_elim P Located.BadHeadOrSector f g = g _ refl
-address_elim P Located.BadCylinder f g = g _ refl
-address_elim P Located.BadLba f g = g _ refl
+pub address_elim : (P : Tested → Type 0) (l : Located) → ((spot : Spot) → valid_address l ≡ true → P (Ok spot)) → ((e : End) → erring e ≡ true → P (Err e)) → P (tested_of l)
+address_elim P (Ok spot) f g = f spot refl
+address_elim P (Err BadAddress.HeadOrSector) f g = g _ refl
+address_elim P (Err BadAddress.Cylinder) f g = g _ refl
+address_elim P (Err BadAddress.Lba) f g = g _ refl
 
 pub mark_elim : (P : Tested → Type 0) (allows : ℕ → Bool) (e : End) (marks : List ℕ) (l : Located) → erring e ≡ true →
-    ((spot : Spot) → valid_address l ≡ true → P (Passes spot)) → ((e : End) → erring e ≡ true → P (Fails e)) → P (mark_tested allows e (tested_of l) marks)
+    ((spot : Spot) → valid_address l ≡ true → P (Ok spot)) → ((e : End) → erring e ≡ true → P (Err e)) → P (mark_tested allows e (tested_of l) marks)
 mark_elim P allows e marks l b f g =
     address_elim (λ (t : Tested). P (mark_tested allows e t marks)) l
     (λ spot h. pick-elim P (allows (get_or marks spot.index 0)) _ _ (λ x. f spot h) (λ x. g e b))

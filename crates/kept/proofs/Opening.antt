@@ -1,4 +1,5 @@
 -- An accepted opening gives a well-made card, a refused one the all-zero card, which is not well made and refuses every access.
+use Rattle.std.proofs.Common.{Ok, Err}
 use Prim.Native.Nat.{ℕ, ◌*◌}
 use mathlib.Core.Bool.{true, false}
 use mathlib.Core.Path.{◌≡◌, refl, sym, ap}
@@ -6,10 +7,9 @@ use mathlib.Core.List.{List}
 use native.Mathlib.Omega.{arith}
 use lib.ListN.{length}
 use borrow.Author.Tests.{le-leb}
-use Rattle.answers.specs.declared.Outcome.{Outcome}
 use Rattle.answers.specs.declared.Refusal.{Refusal}
 use Rattle.answers.specs.declared.Refusal.TheVariants.{NotWellMade}
-use Rattle.answers.specs.Answers.{outcome_number}
+use Rattle.answers.specs.Answers.{outcome_number, Outcome}
 use Rattle.geometry.specs.declared.Geometry.{Geometry}
 use Rattle.ground.specs.Choice.{every}
 use Rattle.geometry.specs.Limits.{fits, total_of}
@@ -62,14 +62,14 @@ powered-sound g mode store marks f s k =
     }
 
 abbrev refusal_in : Outcome → Refusal → Refusal
-refusal_in (Outcome.Accepted v) r = r
-refusal_in (Outcome.Refused q) r = q
+refusal_in (Ok v) r = r
+refusal_in (Err q) r = q
 
 -- what is known of the answer of an opening
 abbrev Opens : List ℕ → List ℕ → Answer → Type 0
 Opens store marks x =
-    (x.outcome ≡ Outcome.Accepted 0 → Sound (machine_of x.card store marks))
-    × ((r : Refusal) → x.outcome ≡ Outcome.Refused r → x ≡ open_refused r)
+    (x.outcome ≡ Ok 0 → Sound (machine_of x.card store marks))
+    × ((r : Refusal) → x.outcome ≡ Err r → x ≡ open_refused r)
 
 refused_opens : (q : Refusal) (store marks : List ℕ) → Opens store marks (open_refused q)
 refused_opens q store marks =
@@ -81,16 +81,16 @@ opening g mode store marks tuples =
     (refused_opens _ store marks) (refused_opens _ store marks) (refused_opens _ store marks) (refused_opens _ store marks) (refused_opens _ store marks)
     (λ f s k. (λ e. powered-sound g (mode_of mode) store marks f s k, λ r e. accepts_not 0 r e))
 
-pub opening-sound : (g : Geometry) (mode : ℕ) (store marks tuples : List ℕ) → (opened g mode store marks tuples).outcome ≡ Outcome.Accepted 0 →
+pub opening-sound : (g : Geometry) (mode : ℕ) (store marks tuples : List ℕ) → (opened g mode store marks tuples).outcome ≡ Ok 0 →
     Sound (machine_of (opened g mode store marks tuples).card store marks)
 opening-sound g mode store marks tuples e = (opening g mode store marks tuples).0 e
 
-pub opening_well : (g : Geometry) (mode : ℕ) (store marks tuples : List ℕ) → (opened g mode store marks tuples).outcome ≡ Outcome.Accepted 0 →
+pub opening_well : (g : Geometry) (mode : ℕ) (store marks tuples : List ℕ) → (opened g mode store marks tuples).outcome ≡ Ok 0 →
     well_made (opened g mode store marks tuples).card.phase (opened g mode store marks tuples).card.state ≡ true
 opening_well g mode store marks tuples e = (opening-sound g mode store marks tuples e).made
 
 -- "a refused opening gives the all-zero card"
-pub opening-refused : (g : Geometry) (mode : ℕ) (store marks tuples : List ℕ) (r : Refusal) → (opened g mode store marks tuples).outcome ≡ Outcome.Refused r →
+pub opening-refused : (g : Geometry) (mode : ℕ) (store marks tuples : List ℕ) (r : Refusal) → (opened g mode store marks tuples).outcome ≡ Err r →
     opened g mode store marks tuples ≡ open_refused r
 opening-refused g mode store marks tuples r e = (opening g mode store marks tuples).1 r e
 
@@ -101,7 +101,7 @@ zero_not_well = refl
 
 -- every access to it is refused, whatever is lent, and changes nothing
 pub zero-refused : (a : Asked) (store marks : List ℕ) →
-    step (machine_of zero_card store marks) a ≡ record { outcome = Outcome.Refused NotWellMade; next = machine_of zero_card store marks }
+    step (machine_of zero_card store marks) a ≡ record { outcome = Err NotWellMade; next = machine_of zero_card store marks }
 zero-refused a store marks = not_well_refused (machine_of zero_card store marks) a zero_not_well
 
 pub zero_twelve : (a : Asked) (store marks : List ℕ) → outcome_number (step (machine_of zero_card store marks) a).outcome ≡ 12

@@ -1,9 +1,9 @@
 -- Every access, accepted or refused, keeps a well-made card well made, and all that is lent as long as it was.
+use Rattle.std.proofs.Common.{Err}
 use mathlib.Core.Bool.{Bool, true, false}
 use mathlib.Core.Path.{◌≡◌, refl, sym, subst}
 use mathlib.Core.List.{List, [], ◌∷◌}
 use lib.ListN.{length}
-use Rattle.answers.specs.declared.Outcome.{Outcome}
 use Rattle.answers.specs.declared.Refusal.TheVariants.{NotWellMade}
 use Rattle.registers.specs.Machine.{Machine}
 use Rattle.registers.specs.WellMade.{well_made}
@@ -25,7 +25,7 @@ unfolding fit_step
 fit_step_kept m a b e = perform_well (decided m.state a) m (decided-allowed m.state a) b e
 
 -- Row 12: a card that is not well made is refused, and nothing changes.
-pub not_well_refused : (m : Machine) (a : Asked) → well_made m.phase m.state ≡ false → step m a ≡ record { outcome = Outcome.Refused NotWellMade; next = m }
+pub not_well_refused : (m : Machine) (a : Asked) → well_made m.phase m.state ≡ false → step m a ≡ record { outcome = Err NotWellMade; next = m }
 unfolding step meaning perform
 not_well_refused m a e = rw e
 

@@ -1,4 +1,5 @@
 -- A sector is read or asked for, and what the last byte of a sector does.
+use Rattle.std.proofs.Common.{Ok, Err}
 use Prim.Native.Nat.{ℕ, ◌-◌, ◌≤◌}
 use mathlib.Core.Bool.{true}
 use mathlib.Core.Path.{◌≡◌, refl}
@@ -21,12 +22,10 @@ use Rattle.registers.specs.State.{with_bad, total_in, located_in}
 use Rattle.registers.specs.Machine.{Machine}
 use Rattle.registers.specs.WellMade.{in_reset, sectors_fit, load_fits, bad_fits, pace_fits, load_pace_fits}
 use Rattle.transfers.specs.declared.End.{End}
-use Rattle.transfers.specs.declared.Tested.{Tested}
-use Rattle.transfers.specs.declared.Tested.TheVariants.{Passes, Fails}
 use Rattle.transfers.specs.declared.Way.TheVariants.{In, Out}
 use Rattle.transfers.specs.declared.Order.{Order}
 use Rattle.transfers.specs.declared.Order.TheVariants.{Later}
-use Rattle.transfers.specs.Before.{allows, mark_end, address_test, sector_test, stored_by, sector_stored}
+use Rattle.transfers.specs.Before.{allows, mark_end, address_test, sector_test, stored_by, sector_stored, Tested}
 use Rattle.transfers.specs.Steps.{idle_with, sector_done, read_tested, read_sector, next_read, load_read, ask_tested, ask_sector, next_asked, core_written, load_written}
 use Rattle.kept.proofs.Registers.{CoreFits}
 use Rattle.registers.specs.Blocks.{pace_after}
@@ -86,13 +85,13 @@ on_asked left k d s l r p =
     (λ e. ask_left left k Later d (sector_done left s) q (done_agrees left s e l) (done_pace left k s p))
 
 written-left : (t : Tested) (left : ℕ) (k : Pace) (d : Made) (s : State) → left ≤ 255 → Ready d s → pace_fits k s.block ≡ true → CoreFits d (core_written t left k s)
-written-left (Passes spot) left k d s l r p = on_asked left k d s l r p
-written-left (Fails e) left k d s l r p = ended-left e d s r.0
+written-left (Ok spot) left k d s l r p = on_asked left k d s l r p
+written-left (Err e) left k d s l r p = ended-left e d s r.0
 
 stored_by_lem : (t : Tested) (bytes : List ℕ) (k : StoreMarks) → length bytes ≡ 512 →
     (length (stored_by t bytes k).next.store ≡ length k.store) × (length (stored_by t bytes k).next.marks ≡ length k.marks)
-stored_by_lem (Passes spot) bytes k b = stored_lengths k spot.index bytes b
-stored_by_lem (Fails e) bytes k b = (refl, refl)
+stored_by_lem (Ok spot) bytes k b = stored_lengths k spot.index bytes b
+stored_by_lem (Err e) bytes k b = (refl, refl)
 
 pub sector-stored : (s : State) (bytes store marks : List ℕ) → length bytes ≡ 512 →
     (length (sector_stored s bytes store marks).next.store ≡ length store) × (length (sector_stored s bytes store marks).next.marks ≡ length marks)
@@ -101,8 +100,8 @@ sector-stored s bytes store marks b = stored_by_lem (sector_test Out s marks) by
 
 -- the number of marks that are not 0 does not rise, and so it still fits
 less_by : (t : Tested) (bytes : List ℕ) (k : StoreMarks) → (stored_by t bytes k).next.bad ≤ k.bad
-less_by (Passes spot) bytes k = stored_less k spot.index bytes
-less_by (Fails e) bytes k = le_refl k.bad
+less_by (Ok spot) bytes k = stored_less k spot.index bytes
+less_by (Err e) bytes k = le_refl k.bad
 
 pub lower_fine : (d : Made) (s : State) (bytes store marks : List ℕ) → Fine d s → Fine d (with_bad (sector_stored s bytes store marks).next.bad s)
 unfolding sector_stored bad_fits

@@ -1,4 +1,5 @@
 -- Verify and Erase, sector after sector, leave a card at rest, well made.
+use Rattle.std.proofs.Common.{Ok, Err}
 use Prim.Native.Nat.{ℕ, zero, suc}
 use mathlib.Core.Path.{◌≡◌, refl, ◌∙◌}
 use mathlib.Core.List.{List}
@@ -11,11 +12,9 @@ use Rattle.registers.specs.declared.State.{State}
 use Rattle.registers.specs.declared.Core.{Core}
 use Rattle.registers.specs.State.{with_bad}
 use Rattle.transfers.specs.declared.End.{End}
-use Rattle.transfers.specs.declared.Tested.{Tested}
-use Rattle.transfers.specs.declared.Tested.TheVariants.{Passes, Fails}
 use Rattle.transfers.specs.Ends.{ended}
 use Rattle.transfers.specs.declared.Way.TheVariants.{In}
-use Rattle.transfers.specs.Before.{past_end, sector_test, sector_stored, stored_by}
+use Rattle.transfers.specs.Before.{past_end, sector_test, sector_stored, stored_by, Tested}
 use Rattle.transfers.specs.Steps.{sector_done}
 use Rattle.commands.specs.Sweeps.{unless_failed, verify_from, verify_run, all_ff, erase_from, erase_run}
 use Rattle.kept.proofs.Registers.{CoreFits}
@@ -30,8 +29,8 @@ erases_on x n s t k =
     unless_failed y.outcome (λ c. leaving c y.next) z (erase_from n (sector_done n z) y.next.store y.next.marks)
 
 unless_elim : {A : Type 0} (P : A → Type 0) (t : Tested) (end : Core → A) (s : State) (rest : A) → ((e : End) → P (end (ended e s))) → P rest → P (unless_failed t end s rest)
-unless_elim P (Passes spot) end s rest f g = g
-unless_elim P (Fails e) end s rest f g = f e
+unless_elim P (Ok spot) end s rest f g = g
+unless_elim P (Err e) end s rest f g = f e
 
 -- what each sector and each end keep, Verify keeps
 module _ (I : State → Type 0) (P : Core → Type 0) (f : (n : ℕ) (s : State) → I s → I (sector_done n s)) (g : (e : End) (s : State) → I s → P (ended e s)) where

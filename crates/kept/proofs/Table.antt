@@ -1,4 +1,5 @@
 -- Every command of the table leaves a card well made.
+use Rattle.std.proofs.Common.{Some, None}
 use Prim.Native.Nat.{ℕ}
 use mathlib.Core.Bool.{true}
 use mathlib.Core.Path.{◌≡◌, refl}
@@ -6,9 +7,8 @@ use native.Mathlib.Omega.{arith}
 use lib.Dec.{eqb}
 use borrow.Author.Tests.{eqb-true, eqb-false}
 use Rattle.ground.proofs.Picks.{pick-elim, pick_same}
-use Rattle.geometry.specs.declared.Reshaped.{Reshaped}
 use Rattle.geometry.specs.Address.{seek}
-use Rattle.geometry.specs.Shape.{reshaped}
+use Rattle.geometry.specs.Shape.{reshaped, Reshaped}
 use Rattle.geometry.proofs.Shapes.{reshaped_current}
 use Rattle.identify.proofs.Bytes.{identify_length}
 use Rattle.registers.specs.declared.Load.TheVariants.{Buffer}
@@ -43,10 +43,10 @@ count_agrees s c =
 
 -- 91H takes a good geometry, or the old one stays
 geometry-left : (x : Reshaped) (d : Made) (s : State) → reshaped s.registers.count s.registers.address.head (total_in s) ≡ x → Fine d s → CoreFits d (reshaped_ended x s)
-geometry-left (Reshaped.Taken g) d s e f =
+geometry-left (Some g) d s e f =
     let c = reshaped_current s.registers.count s.registers.address.head (total_in s) g f.1 e in
     ended-left End.Good d (with_current g s) ((f.0.0, f.0.1, c, f.0.3, f.0.4, f.0.5, f.0.6), f.1)
-geometry-left Reshaped.Refused d s e f = ended-left End.BadGeometry d s f
+geometry-left None d s e f = ended-left End.BadGeometry d s f
 
 buffer_fits : (s : State) → LoadFits Buffer s
 unfolding load_fits load_pace_fits

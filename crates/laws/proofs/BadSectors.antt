@@ -1,5 +1,6 @@
 -- The number of marks that are not 0: what the opening gives, by how much an access lowers it, and that it is the number over the lent marks as long as
 -- only the card has changed them.
+use Rattle.std.proofs.Common.{Ok, Err}
 use Prim.Native.Nat.{ℕ, zero, suc, ◌+◌, ◌-◌, ◌/◌, ◌≤◌, ◌<◌}
 use mathlib.Core.Path.{◌≡◌, refl, sym, ap, subst, ◌∙◌}
 use mathlib.Core.Bool.{Bool, true, false}
@@ -11,7 +12,6 @@ use lib.ListN.{length, get_or, set}
 use borrow.Author.Tests.{ltb-true}
 use Rattle.ground.specs.Choice.{pick}
 use Rattle.ground.proofs.Picks.{pick-elim}
-use Rattle.answers.specs.declared.Outcome.{Outcome}
 use Rattle.answers.specs.declared.Refusal.{Refusal}
 use Rattle.answers.proofs.Outcomes.{accepts_not}
 use Rattle.geometry.specs.declared.Geometry.{Geometry}
@@ -45,18 +45,18 @@ counted [] = refl
 counted (mark ∷ marks) = ap (λ (n : ℕ). one_if_bad mark + n) (counted marks) ∙ sym (by_mark (eqb mark 0) mark (not_zero marks))
 
 -- "worked out at opening"
-pub opening-counts : (g : Geometry) (mode : ℕ) (store marks tuples : List ℕ) → (opened g mode store marks tuples).outcome ≡ Outcome.Accepted 0 →
+pub opening-counts : (g : Geometry) (mode : ℕ) (store marks tuples : List ℕ) → (opened g mode store marks tuples).outcome ≡ Ok 0 →
     (opened g mode store marks tuples).card.state.bad ≡ bad_sectors marks
 opening-counts g mode store marks tuples =
-    let P : Answer → Type 0 = λ x. x.outcome ≡ Outcome.Accepted 0 → x.card.state.bad ≡ bad_sectors marks in
+    let P : Answer → Type 0 = λ x. x.outcome ≡ Ok 0 → x.card.state.bad ≡ bad_sectors marks in
     let z : (q : Refusal) → P (open_refused q) = λ q e. accepts_not 0 q (sym e) in
     opened-elim P g mode store marks tuples (z _) (z _) (z _) (z _) (z _) (λ f s k e. counted marks)
 
 -- 01: "a refused opening gives the all-zero card": none
-pub refused_opening_none : (g : Geometry) (mode : ℕ) (store marks tuples : List ℕ) (r : Refusal) → (opened g mode store marks tuples).outcome ≡ Outcome.Refused r →
+pub refused_opening_none : (g : Geometry) (mode : ℕ) (store marks tuples : List ℕ) (r : Refusal) → (opened g mode store marks tuples).outcome ≡ Err r →
     (opened g mode store marks tuples).card.state.bad ≡ 0
 refused_opening_none g mode store marks tuples r =
-    let P : Answer → Type 0 = λ x. x.outcome ≡ Outcome.Refused r → x.card.state.bad ≡ 0 in
+    let P : Answer → Type 0 = λ x. x.outcome ≡ Err r → x.card.state.bad ≡ 0 in
     let z : (q : Refusal) → P (open_refused q) = λ q e. refl in
     opened-elim P g mode store marks tuples (z _) (z _) (z _) (z _) (z _) (λ f s k e. accepts_not 0 r e)
 
@@ -132,7 +132,7 @@ counts-played [] m h = h
 counts-played (a ∷ l) m h = counts-played l (step m a).next (counts_on m a h)
 
 -- "It equals the count over the lent marks as long as only the card has changed them since opening", refused accesses among them
-pub counts_ever : (g : Geometry) (mode : ℕ) (store marks tuples : List ℕ) (l : List Asked) → (opened g mode store marks tuples).outcome ≡ Outcome.Accepted 0 →
+pub counts_ever : (g : Geometry) (mode : ℕ) (store marks tuples : List ℕ) (l : List Asked) → (opened g mode store marks tuples).outcome ≡ Ok 0 →
     Counts (play (machine_of (opened g mode store marks tuples).card store marks) l).last
 counts_ever g mode store marks tuples l e = counts-played l (machine_of (opened g mode store marks tuples).card store marks) (opening-counts g mode store marks tuples e)
 

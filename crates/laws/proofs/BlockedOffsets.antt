@@ -1,4 +1,5 @@
 -- "While DRQ is set, writes to 1..6 and D have no effect.", by the offset that an access reaches in whatever map.
+use Rattle.std.proofs.Common.{Some}
 use Prim.Native.Nat.{ℕ, zero, suc, ◌%◌, ◌≤◌}
 use mathlib.Core.Path.{◌≡◌, refl, sym, ap, subst}
 use mathlib.Core.Bool.{Bool, true}
@@ -11,7 +12,6 @@ use Rattle.maps.specs.declared.Register.TheVariants.{ErrorFeature, SectorCount, 
 use Rattle.maps.specs.declared.Target.TheVariants.{Named}
 use Rattle.maps.specs.declared.Place.{Place}
 use Rattle.maps.specs.declared.Place.TheVariants.{Bytes}
-use Rattle.maps.specs.Offsets.{At}
 use Rattle.maps.specs.Places.{register_place}
 use Rattle.maps.specs.Rows.{moved}
 use Rattle.registers.specs.Machine.{Machine}
@@ -47,7 +47,7 @@ blocked-elim P o f =
     one_to_six Q one (f SectorCount refl) (f SectorNumber refl) (f CylinderLow refl) (f CylinderHigh refl) (f DriveHead refl) o (leb-true _ _ l.0) (leb-true _ _ l.1))
 
 -- accepted or refused
-pub blocked-offset : (m : Machine) (a : Asked) (o : ℕ) → offset_of m a ≡ At o → a.access.write ≡ true → blocked_at o ≡ true → drq m.state.registers.status ≡ true → (step m a).next ≡ m
+pub blocked-offset : (m : Machine) (a : Asked) (o : ℕ) → offset_of m a ≡ Some o → a.access.write ≡ true → blocked_at o ≡ true → drq m.state.registers.status ≡ true → (step m a).next ≡ m
 unfolding step perform
 blocked-offset m a o p w b d =
     reached_elim (λ (x : Meaning). (perform x m).next ≡ m) m a o p (λ q. refl)

@@ -1,5 +1,6 @@
 -- 01, "Maps": what an access means by its address, if it is not refused: "even 000H..1FEH are tuple bytes 0..255", "200H the Configuration Option Register",
 -- and the registers by their offset. When it is refused: `first-row` (crates/card/proofs/FirstRow.antt).
+use Rattle.std.proofs.Common.{Ok, Some}
 use Prim.Native.Nat.{ℕ, ◌*◌, ◌/◌, ◌%◌, ◌<◌, ◌≤◌}
 use mathlib.Core.Path.{◌≡◌, refl, sym, ap, subst, ◌∙◌}
 use mathlib.Core.Bool.{true, false, true≢false}
@@ -13,12 +14,9 @@ use Rattle.maps.specs.declared.Target.{Target}
 use Rattle.maps.specs.declared.Target.TheVariants.{Tuple, Option, Named}
 use Rattle.maps.specs.declared.Place.{Place}
 use Rattle.maps.specs.declared.Place.TheVariants.{Bytes}
-use Rattle.maps.specs.declared.Standing.{Standing}
-use Rattle.maps.specs.declared.Standing.TheVariants.{There}
-use Rattle.maps.specs.Offsets.{At}
 use Rattle.maps.specs.Spaces.{answers_at}
 use Rattle.maps.specs.Places.{register_place, attribute_place, map_place, place_at}
-use Rattle.maps.specs.Rows.{moved, stands_at}
+use Rattle.maps.specs.Rows.{moved, stands_at, Standing}
 use Rattle.maps.proofs.Standings.{Known, stands_known, stands_elim}
 use Rattle.registers.specs.State.{index_in}
 use Rattle.registers.specs.Machine.{Machine}
@@ -35,12 +33,12 @@ use Rattle.laws.proofs.Reached.{place_reached}
 
 -- the access means what stands there, and fits it
 abbrev pub Means : Target → Asked → Meaning → Type 0
-Means t a x = (x ≡ targeted t a) × Known a.access (There t)
+Means t a x = (x ≡ targeted t a) × Known a.access (Ok t)
 
 abbrev Answers : Machine → Asked → Type 0
 Answers m a = answers_at a.access.space m.state.made.mode (index_in m.state.option) ≡ true
 
-pub place_means : (m : Machine) (a : Asked) (t : Target) → (Answers m a → moved (place_in m.state a) a.access.width ≡ There t) → refused (step m a).outcome ≡ false →
+pub place_means : (m : Machine) (a : Asked) (t : Target) → (Answers m a → moved (place_in m.state a) a.access.width ≡ Ok t) → refused (step m a).outcome ≡ false →
     Means t a (meaning m a)
 unfolding step perform stands_at
 place_means m a t h =
@@ -80,19 +78,19 @@ tuple_at m a n s d l w f =
 
 -- ---- the registers
 
-pub offset_means : (m : Machine) (a : Asked) (o : ℕ) (t : Target) → moved (register_place o) a.access.width ≡ There t → offset_of m a ≡ At o → refused (step m a).outcome ≡ false →
+pub offset_means : (m : Machine) (a : Asked) (o : ℕ) (t : Target) → moved (register_place o) a.access.width ≡ Ok t → offset_of m a ≡ Some o → refused (step m a).outcome ≡ false →
     Means t a (meaning m a)
 offset_means m a o t n p = place_means m a t (λ e. ap (λ (q : Place). moved q a.access.width) (place_reached m a o p e) ∙ n)
 
-named_means : (m : Machine) (a : Asked) (o : ℕ) (r : Register) → register_place o ≡ Bytes (Named r) → offset_of m a ≡ At o → refused (step m a).outcome ≡ false →
+named_means : (m : Machine) (a : Asked) (o : ℕ) (r : Register) → register_place o ≡ Bytes (Named r) → offset_of m a ≡ Some o → refused (step m a).outcome ≡ false →
     Means (Named r) a (meaning m a)
 named_means m a o r n = offset_means m a o (Named r) (ap (λ (q : Place). moved q a.access.width) n)
 
-pub means_register_read : (m : Machine) (a : Asked) (o : ℕ) (r : Register) → register_place o ≡ Bytes (Named r) → offset_of m a ≡ At o → a.access.write ≡ false →
+pub means_register_read : (m : Machine) (a : Asked) (o : ℕ) (r : Register) → register_place o ≡ Bytes (Named r) → offset_of m a ≡ Some o → a.access.write ≡ false →
     refused (step m a).outcome ≡ false → meaning m a ≡ ReadRegister r
 means_register_read m a o r n p w f = (named_means m a o r n p f).0 ∙ rw w
 
-pub means_register_written : (m : Machine) (a : Asked) (o : ℕ) (r : Register) → register_place o ≡ Bytes (Named r) → offset_of m a ≡ At o → a.access.write ≡ true →
+pub means_register_written : (m : Machine) (a : Asked) (o : ℕ) (r : Register) → register_place o ≡ Bytes (Named r) → offset_of m a ≡ Some o → a.access.write ≡ true →
     refused (step m a).outcome ≡ false → meaning m a ≡ WriteRegister r a.access.value
 means_register_written m a o r n p w f =
     let k = named_means m a o r n p f in

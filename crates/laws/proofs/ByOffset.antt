@@ -1,4 +1,5 @@
 -- 01, "Maps", the table of offsets: each register is read and written at its own, in whatever map.
+use Rattle.std.proofs.Common.{Some}
 use Prim.Native.Nat.{ℕ}
 use mathlib.Core.Path.{◌≡◌, refl, sym, ap, ◌∙◌}
 use mathlib.Core.Bool.{true, false}
@@ -8,7 +9,6 @@ use Rattle.maps.specs.declared.Register.{Register}
 use Rattle.maps.specs.declared.Register.TheVariants.{ErrorFeature, SectorCount, SectorNumber, CylinderLow, CylinderHigh, DriveHead, StatusCommand, AlternateControl, DriveAddress}
 use Rattle.maps.specs.declared.Target.TheVariants.{Named}
 use Rattle.maps.specs.declared.Place.TheVariants.{Bytes}
-use Rattle.maps.specs.Offsets.{At}
 use Rattle.maps.specs.Places.{register_place}
 use Rattle.registers.specs.declared.Phase.{Phase}
 use Rattle.registers.specs.declared.Phase.TheVariants.{Idle, DataIn, DataOut}
@@ -96,10 +96,10 @@ offsets-written m h d = (
 )
 
 -- what is written at 7 is a command, as demand 3 has it, and what is written at E is Device Control
-pub command_at_7 : (m : Machine) (a : Asked) → offset_of m a ≡ At 7 → a.access.write ≡ true → refused (step m a).outcome ≡ false → meaning m a ≡ WriteRegister StatusCommand a.access.value
+pub command_at_7 : (m : Machine) (a : Asked) → offset_of m a ≡ Some 7 → a.access.write ≡ true → refused (step m a).outcome ≡ false → meaning m a ≡ WriteRegister StatusCommand a.access.value
 unfolding register_place
 command_at_7 m a = means_register_written m a 7 StatusCommand refl
 
-pub control_at_e : (m : Machine) (a : Asked) → offset_of m a ≡ At 0xE → a.access.write ≡ true → refused (step m a).outcome ≡ false → meaning m a ≡ WriteRegister AlternateControl a.access.value
+pub control_at_e : (m : Machine) (a : Asked) → offset_of m a ≡ Some 0xE → a.access.write ≡ true → refused (step m a).outcome ≡ false → meaning m a ≡ WriteRegister AlternateControl a.access.value
 unfolding register_place
 control_at_e m a = means_register_written m a 0xE AlternateControl refl

@@ -1,4 +1,5 @@
 -- An access changes the store, the marks and the number of marks that are not 0 by whole sectors: those that `changes` lists, and nothing else.
+use Rattle.std.proofs.Common.{Ok, Err}
 use Prim.Native.Nat.{ℕ, ◌-◌}
 use mathlib.Core.Path.{◌≡◌, refl, ap, ◌∙◌}
 use mathlib.Core.Bool.{Bool, true, false}
@@ -21,13 +22,11 @@ use Rattle.registers.specs.declared.resets.Turn.TheVariants.{Enter, Leave, Stay}
 use Rattle.registers.specs.State.{total_in}
 use Rattle.registers.specs.Resets.{turn_of, option_turned, option_turn, control_turned, bit_two, bit_one}
 use Rattle.registers.specs.Machine.{Machine, core_of}
-use Rattle.transfers.specs.declared.Tested.{Tested}
-use Rattle.transfers.specs.declared.Tested.TheVariants.{Passes, Fails}
 use Rattle.commands.specs.declared.Command.{Command}
 use Rattle.commands.specs.declared.Command.TheVariants.{Read, Write, Verify, Erase, Identify, ReadBuffer, WriteBuffer, SetGeometry, Diagnose, Recalibrate, Seek, Sense, SetMultiple, ReadMultiple, WriteMultiple, Other}
 use Rattle.transfers.specs.declared.Order.TheVariants.{First}
 use Rattle.transfers.specs.declared.Way.TheVariants.{In}
-use Rattle.transfers.specs.Before.{sector_test}
+use Rattle.transfers.specs.Before.{sector_test, Tested}
 use Rattle.transfers.specs.Steps.{idle_with, sector_done, read_tested, read_sector, next_read, load_read, all_moved}
 use Rattle.port.specs.Data.{Effect, accepted, phase_written, data_written}
 use Rattle.commands.specs.Sweeps.{erase_run}
@@ -57,8 +56,8 @@ kept : (m : Machine) {b : ℕ} → b ≡ m.state.bad → store_marks m.store m.m
 kept m e = ap (store_marks m.store m.marks) e
 
 read_tested_lem : (t : Tested) (left : ℕ) (k : Pace) (m : Machine) → Keeps (store_marks_in m) (read_tested t left k m)
-read_tested_lem (Passes spot) left k m = refl
-read_tested_lem (Fails e) left k m = refl
+read_tested_lem (Ok spot) left k m = refl
+read_tested_lem (Err e) left k m = refl
 
 load_read_lem : (l : Load) (m : Machine) → Keeps (store_marks_in m) (load_read l m)
 unfolding next_read read_sector

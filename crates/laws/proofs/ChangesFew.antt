@@ -1,4 +1,5 @@
 -- Which accesses change sectors, and how many: a data write at most one, C0H at most as many as Count asks for, all else none.
+use Rattle.std.proofs.Common.{Ok, Err, None, Some}
 use Prim.Native.Nat.{ℕ, zero, suc, ◌≤◌}
 use mathlib.Core.Path.{◌≡◌, refl, ap, ◌∙◌}
 use mathlib.Core.Bool.{false, true≢false}
@@ -9,8 +10,7 @@ use lib.ListN.{length, get_or, replicate}
 use Rattle.ground.proofs.Picks.{pick-elim}
 use Rattle.geometry.specs.declared.Address.{Address}
 use Rattle.geometry.specs.declared.Geometry.{Geometry}
-use Rattle.geometry.specs.declared.Located.{Located}
-use Rattle.geometry.specs.Address.{locate}
+use Rattle.geometry.specs.Address.{locate, Located}
 use Rattle.geometry.specs.Next.{next_of}
 use Rattle.sectors.specs.Marks.{writable}
 use Rattle.maps.specs.declared.Port.{Port}
@@ -25,11 +25,10 @@ use Rattle.registers.specs.declared.State.{State}
 use Rattle.registers.specs.State.{located_in}
 use Rattle.registers.specs.Machine.{Machine}
 use Rattle.port.specs.declared.Fill.TheVariants.{Begun, Full}
-use Rattle.port.specs.declared.Take.{Take}
 use Rattle.commands.specs.declared.Command.{Command}
 use Rattle.commands.specs.declared.Command.TheVariants.{Read, Write, Verify, Erase, Identify, ReadBuffer, WriteBuffer, SetGeometry, Diagnose, Recalibrate, Seek, Sense, SetMultiple, ReadMultiple, WriteMultiple, Other}
 use Rattle.transfers.specs.Before.{run_past}
-use Rattle.port.specs.Halves.{take_of, with_part}
+use Rattle.port.specs.Halves.{take_of, with_part, Take}
 use Rattle.commands.specs.Table.{command_of}
 use Rattle.card.specs.declared.Meaning.{Meaning}
 use Rattle.card.specs.declared.Meaning.TheVariants.{TupleByte, ReadOption, WriteOption, ReadRegister, WriteRegister, ReadData, WriteData}
@@ -40,6 +39,7 @@ use Rattle.kept.specs.Lent.{store_marks_in}
 use Rattle.laws.specs.Changes.{Change, changed, sector_changes, erasures, run_erasures, command_changes, register_changes, load_changes, taken_changes, phase_changes, changes}
 use Rattle.laws.specs.MayChange.{erases, erases_by, may_change}
 use Rattle.laws.proofs.BySectors.{meant_sectors}
+use Rattle.geometry.specs.declared.BadAddress.{BadAddress}
 
 -- ---- none
 
@@ -98,19 +98,19 @@ abbrev AtMost : ℕ → List Change → Type 0
 AtMost n l = length l ≤ n
 
 sector_one : (l : Located) (marks bytes : List ℕ) (rest : List Change) (n : ℕ) → AtMost n rest → AtMost (suc n) (sector_changes l marks bytes rest)
-sector_one (Located.Good spot) marks bytes rest n h = pick-elim (AtMost (suc n)) (writable (get_or marks spot.index 0)) _ _ (λ e. omega arith) (λ e. omega arith)
-sector_one Located.BadHeadOrSector marks bytes rest n h = omega arith
-sector_one Located.BadCylinder marks bytes rest n h = omega arith
-sector_one Located.BadLba marks bytes rest n h = omega arith
+sector_one (Ok spot) marks bytes rest n h = pick-elim (AtMost (suc n)) (writable (get_or marks spot.index 0)) _ _ (λ e. omega arith) (λ e. omega arith)
+sector_one (Err BadAddress.HeadOrSector) marks bytes rest n h = omega arith
+sector_one (Err BadAddress.Cylinder) marks bytes rest n h = omega arith
+sector_one (Err BadAddress.Lba) marks bytes rest n h = omega arith
 
 load_one : (l : Load) (bytes : List ℕ) (m : Machine) → AtMost 1 (load_changes l bytes m)
 load_one Buffer bytes m = omega arith
 load_one (Sectors left k) bytes m = sector_one (located_in m.state) m.marks bytes [] 0 (omega arith)
 
 taken_one : (k : Take) (v : ℕ) (t : Transfer) (m : Machine) → AtMost 1 (taken_changes k v t m)
-taken_one Take.Refused v t m = omega arith
-taken_one (Take.Moves part Begun) v t m = omega arith
-taken_one (Take.Moves part Full) v t m = pick-elim (AtMost 1) (ltb t.words 255) _ _ (λ e. omega arith) (λ e. load_one t.load (with_part part t.words v m.buffer) m)
+taken_one None v t m = omega arith
+taken_one (Some (part, Begun)) v t m = omega arith
+taken_one (Some (part, Full)) v t m = pick-elim (AtMost 1) (ltb t.words 255) _ _ (λ e. omega arith) (λ e. load_one t.load (with_part part t.words v m.buffer) m)
 
 phase_one : (p : Phase) (port : Port) (v : ℕ) (m : Machine) → AtMost 1 (phase_changes p port v m)
 phase_one Idle port v m = omega arith

@@ -1,4 +1,5 @@
 -- Each sector that an access changes is one of the card's, and whole.
+use Rattle.std.proofs.Common.{Ok, Err, None, Some}
 use Prim.Native.Nat.{ℕ, zero, suc, ◌<◌}
 use mathlib.Core.Path.{◌≡◌, refl, ◌∙◌}
 use mathlib.Core.Bool.{true}
@@ -9,9 +10,8 @@ use Rattle.ground.proofs.Picks.{pick-elim}
 use Rattle.geometry.specs.declared.Address.{Address}
 use Rattle.geometry.specs.declared.Geometry.{Geometry}
 use Rattle.geometry.specs.declared.Spot.{Spot}
-use Rattle.geometry.specs.declared.Located.{Located}
 use Rattle.geometry.specs.Limits.{current_for}
-use Rattle.geometry.specs.Address.{locate}
+use Rattle.geometry.specs.Address.{locate, Located}
 use Rattle.geometry.specs.Next.{next_of}
 use Rattle.geometry.proofs.Inside.{inside}
 use Rattle.sectors.specs.Marks.{writable}
@@ -29,10 +29,9 @@ use Rattle.registers.specs.Machine.{Machine}
 use Rattle.registers.specs.WellMade.{well_made}
 use Rattle.transfers.specs.Before.{run_past}
 use Rattle.port.specs.declared.Fill.TheVariants.{Begun, Full}
-use Rattle.port.specs.declared.Take.{Take}
 use Rattle.commands.specs.declared.Command.{Command}
 use Rattle.commands.specs.declared.Command.TheVariants.{Read, Write, Verify, Erase, Identify, ReadBuffer, WriteBuffer, SetGeometry, Diagnose, Recalibrate, Seek, Sense, SetMultiple, ReadMultiple, WriteMultiple, Other}
-use Rattle.port.specs.Halves.{take_of, with_part}
+use Rattle.port.specs.Halves.{take_of, with_part, Take}
 use Rattle.commands.specs.Table.{count_of, command_of}
 use Rattle.card.specs.declared.Meaning.{Meaning}
 use Rattle.card.specs.declared.Meaning.TheVariants.{TupleByte, ReadOption, WriteOption, ReadRegister, WriteRegister, ReadData, WriteData}
@@ -41,13 +40,14 @@ use Rattle.kept.proofs.Registers.{apart}
 use Rattle.kept.proofs.Decided.{meaning-elim}
 use Rattle.kept.proofs.Lent.{part_length}
 use Rattle.laws.specs.Changes.{Change, WholeSectors, sector_changes, erasures, run_erasures, command_changes, register_changes, load_changes, taken_changes, phase_changes, changes}
+use Rattle.geometry.specs.declared.BadAddress.{BadAddress}
 
-sector-whole : (l : Located) (total : ℕ) (marks bytes : List ℕ) (rest : List Change) → ((p : Spot) → l ≡ Located.Good p → p.index < total) → length bytes ≡ 512 →
+sector-whole : (l : Located) (total : ℕ) (marks bytes : List ℕ) (rest : List Change) → ((p : Spot) → l ≡ Ok p → p.index < total) → length bytes ≡ 512 →
     WholeSectors total rest → WholeSectors total (sector_changes l marks bytes rest)
-sector-whole (Located.Good spot) total marks bytes rest i b r = pick-elim (WholeSectors total) (writable (get_or marks spot.index 0)) _ _ (λ e. (i spot refl, b, r)) (λ e. tt)
-sector-whole Located.BadHeadOrSector total marks bytes rest i b r = tt
-sector-whole Located.BadCylinder total marks bytes rest i b r = tt
-sector-whole Located.BadLba total marks bytes rest i b r = tt
+sector-whole (Ok spot) total marks bytes rest i b r = pick-elim (WholeSectors total) (writable (get_or marks spot.index 0)) _ _ (λ e. (i spot refl, b, r)) (λ e. tt)
+sector-whole (Err BadAddress.HeadOrSector) total marks bytes rest i b r = tt
+sector-whole (Err BadAddress.Cylinder) total marks bytes rest i b r = tt
+sector-whole (Err BadAddress.Lba) total marks bytes rest i b r = tt
 
 erasures-whole : (n : ℕ) (a : Address) (g : Geometry) (total : ℕ) (marks : List ℕ) → current_for g total ≡ true → WholeSectors total (erasures n a g total marks)
 unfolding erasures
@@ -95,9 +95,9 @@ of_load (Sectors left k) bytes m c b =
     sector-whole (located_in m.state) (total_in m.state) m.marks bytes [] (λ p e. inside m.state.registers.address m.state.current (total_in m.state) p c e) b tt
 
 of_taken : (k : Take) (v : ℕ) (t : Transfer) (m : Machine) → current_for m.state.current (total_in m.state) ≡ true → length m.buffer ≡ 512 → WholeSectors (total_in m.state) (taken_changes k v t m)
-of_taken Take.Refused v t m c b = tt
-of_taken (Take.Moves part Begun) v t m c b = tt
-of_taken (Take.Moves part Full) v t m c b =
+of_taken None v t m c b = tt
+of_taken (Some (part, Begun)) v t m c b = tt
+of_taken (Some (part, Full)) v t m c b =
     pick-elim (WholeSectors (total_in m.state)) (ltb t.words 255) _ _ (λ e. tt)
     (λ e. of_load t.load (with_part part t.words v m.buffer) m c (part_length part t.words v m.buffer ∙ b))
 

@@ -1,4 +1,5 @@
 -- Every way in which a command or a transfer goes on or ends leaves a code where Status is in error, whatever was there before.
+use Rattle.std.proofs.Common.{Ok, Err, Some, None}
 use Prim.Native.Nat.{ℕ, ◌-◌}
 use mathlib.Core.Path.{◌≡◌, refl}
 use mathlib.Core.Bool.{true, false≢true}
@@ -8,8 +9,7 @@ use borrow.Author.Tests.{eqb-false}
 use Rattle.ground.specs.Left.{Left}
 use Rattle.sectors.specs.Sectors.{StoreMarks}
 use Rattle.ground.proofs.Picks.{pick-elim}
-use Rattle.geometry.specs.declared.Reshaped.{Reshaped}
-use Rattle.geometry.specs.Shape.{reshaped}
+use Rattle.geometry.specs.Shape.{reshaped, Reshaped}
 use Rattle.geometry.specs.Address.{seek}
 use Rattle.registers.specs.declared.Pace.{Pace}
 use Rattle.registers.specs.declared.Load.{Load}
@@ -23,13 +23,11 @@ use Rattle.transfers.specs.declared.Order.{Order}
 use Rattle.transfers.specs.declared.Order.TheVariants.{First, Later}
 use Rattle.transfers.specs.declared.End.{End}
 use Rattle.transfers.specs.declared.End.TheVariants.{Good, BadHeadOrSector, BadCylinder, BadLba, PastEnd, Unreadable, WriteFault, BadGeometry, NoSuchCommand}
-use Rattle.transfers.specs.declared.Tested.{Tested}
-use Rattle.transfers.specs.declared.Tested.TheVariants.{Passes, Fails}
 use Rattle.commands.specs.declared.Command.{Command}
 use Rattle.commands.specs.declared.Command.TheVariants.{Read, Write, Verify, Erase, Identify, ReadBuffer, WriteBuffer, SetGeometry, Diagnose, Recalibrate, Seek, Sense, SetMultiple, ReadMultiple, WriteMultiple, Other}
 use Rattle.transfers.specs.Ends.{end_status, end_code}
 use Rattle.transfers.specs.declared.Way.TheVariants.{In}
-use Rattle.transfers.specs.Before.{sector_test, address_test, sector_stored}
+use Rattle.transfers.specs.Before.{sector_test, address_test, sector_stored, Tested}
 use Rattle.transfers.specs.Steps.{read_tested, read_sector, next_read, load_read, ask_tested, ask_sector, next_asked, core_written, load_written}
 use Rattle.commands.specs.Sweeps.{verify_run, erase_run}
 use Rattle.commands.specs.Table.{obeyed, reshaped_ended, sought_end, command_of, started, dropped, command_given}
@@ -57,8 +55,8 @@ begun_coded code p = absurd (false≢true p)
 -- ---- reading
 
 read_tested_lem : (t : Tested) (left : ℕ) (k : Pace) (m : Machine) → Coded (read_tested t left k m).state
-read_tested_lem (Passes spot) left k m = begun_coded _
-read_tested_lem (Fails e) left k m = end_coded e _
+read_tested_lem (Ok spot) left k m = begun_coded _
+read_tested_lem (Err e) left k m = end_coded e _
 
 read_sector_lem : (left : ℕ) (k : Pace) (m : Machine) → Coded (read_sector left k m).state
 unfolding read_sector
@@ -75,8 +73,8 @@ load_read_lem (Sectors left k) m = next_read_lem (left - 1) (pace_after k) m
 -- ---- writing
 
 ask_tested_lem : (t : Tested) (left : ℕ) (k : Pace) (order : Order) (s : State) → Coded (ask_tested t left k order s).state
-ask_tested_lem (Passes spot) left k order s = begun_coded _
-ask_tested_lem (Fails e) left k order s = end_coded e _
+ask_tested_lem (Ok spot) left k order s = begun_coded _
+ask_tested_lem (Err e) left k order s = end_coded e _
 
 ask_sector_lem : (left : ℕ) (k : Pace) (order : Order) (s : State) → Coded (ask_sector left k order s).state
 unfolding ask_sector
@@ -87,8 +85,8 @@ unfolding next_asked
 next-asked left k s = pick-elim (λ (k : Core). Coded k.state) (eqb left 0) _ _ (λ e. end_coded Good _) (λ e. ask_sector_lem left k Later _)
 
 core-written : (t : Tested) (left : ℕ) (k : Pace) (s : State) → Coded (core_written t left k s).state
-core-written (Passes spot) left k s = next-asked left k s
-core-written (Fails e) left k s = end_coded e _
+core-written (Ok spot) left k s = next-asked left k s
+core-written (Err e) left k s = end_coded e _
 
 pub load_written_lem : (l : Load) (m : Machine) → Coded (load_written l m).state
 load_written_lem Buffer m = end_coded Good _
@@ -107,8 +105,8 @@ erased n s store marks =
 -- ---- the table
 
 reshaped-ended : (r : Reshaped) (s : State) → Coded (reshaped_ended r s).state
-reshaped-ended (Reshaped.Taken g) s = end_coded Good _
-reshaped-ended Reshaped.Refused s = end_coded BadGeometry 0
+reshaped-ended (Some g) s = end_coded Good _
+reshaped-ended None s = end_coded BadGeometry 0
 
 obeys : (c : Command) (s : State) (m : Machine) → Coded (obeyed c s m).state
 unfolding block_set blocks_read blocks_asked

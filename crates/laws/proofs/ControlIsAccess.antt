@@ -1,4 +1,5 @@
 -- Device Control as a method is the byte write to its register: the same outcome, the same card and so the same line, and what is lent as it was.
+use Rattle.std.proofs.Common.{Ok}
 use Prim.Native.Nat.{ℕ, zero, suc, ◌*◌, ◌%◌, ◌<◌, ◌≤◌}
 use native.Mathlib.Omega.{arith}
 use mathlib.Core.Path.{◌≡◌, refl, sym, ◌∙◌}
@@ -12,7 +13,6 @@ use Rattle.maps.specs.declared.Mode.{Mode}
 use Rattle.maps.specs.declared.Mode.TheVariants.{PcCard, TrueIde}
 use Rattle.maps.specs.declared.Register.TheVariants.{AlternateControl}
 use Rattle.maps.specs.declared.Target.TheVariants.{Named}
-use Rattle.maps.specs.declared.Standing.TheVariants.{There}
 use Rattle.maps.specs.Spaces.{card_answers, answers_at}
 use Rattle.maps.specs.Offsets.{memory_at, contiguous_at, window_at, io_at, offset_at}
 use Rattle.maps.specs.Places.{register_place, map_place, place_at}
@@ -77,7 +77,7 @@ control_is_access c store marks a r s k t = control_by (well_made c.phase c.stat
 
 -- offset E of each map is reached
 control_stands : (mode : Mode) (index v : ℕ) → index ≤ 3 → v < 256 →
-    stands_at mode index (record { space = control_space mode index; width = 1; address = control_address mode index; value = v; write = true }) ≡ There (Named AlternateControl)
+    stands_at mode index (record { space = control_space mode index; width = 1; address = control_address mode index; value = v; write = true }) ≡ Ok (Named AlternateControl)
 unfolding control_space control_address answers_at card_answers stands_at place_at map_place register_place offset_at memory_at contiguous_at io_at
     window_at misfits
 control_stands TrueIde index v i l = rw (le-ltb 255 v (omega arith))

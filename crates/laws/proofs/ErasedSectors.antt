@@ -1,4 +1,5 @@
 -- C0H changes the store, the marks and the number of bad sectors by the sectors that its definition lists.
+use Rattle.std.proofs.Common.{Ok, Err}
 use Prim.Native.Nat.{ℕ, zero, suc, ◌/◌, ◌<◌}
 use mathlib.Core.Path.{◌≡◌, refl, sym, ap, subst, ◌∙◌}
 use mathlib.Core.Bool.{Bool, true, false}
@@ -12,7 +13,6 @@ use Rattle.ground.specs.Choice.{pick}
 use Rattle.ground.proofs.Picks.{pick-elim}
 use Rattle.ground.specs.Left.{Left, leaving}
 use Rattle.geometry.specs.declared.Spot.{Spot}
-use Rattle.geometry.specs.declared.Located.{Located}
 use Rattle.geometry.specs.Next.{next_of}
 use Rattle.sectors.specs.Marks.{writable}
 use Rattle.sectors.specs.Sectors.{StoreMarks, store_marks, stored}
@@ -21,13 +21,14 @@ use Rattle.registers.specs.declared.Core.{Core}
 use Rattle.registers.specs.State.{with_bad, total_in, located_in}
 use Rattle.transfers.specs.declared.End.TheVariants.{PastEnd, WriteFault}
 use Rattle.transfers.specs.Ends.{ended}
-use Rattle.transfers.specs.declared.Tested.TheVariants.{Passes, Fails}
 use Rattle.transfers.specs.Before.{tested_of, address_test, mark_tested, sector_test, sector_stored, run_past, past_end}
 use Rattle.transfers.specs.Steps.{sector_done}
 use Rattle.commands.specs.Sweeps.{all_ff, erase_from, erase_run}
 use Rattle.laws.specs.Changes.{Change, changed, sector_changes, erasures, run_erasures}
 use Rattle.kept.proofs.Sweeps.{erases_on}
 use Rattle.laws.proofs.SettingsKept.{same_number, done}
+use Rattle.geometry.specs.Address.{Located}
+use Rattle.geometry.specs.declared.BadAddress.{BadAddress}
 
 -- ---- a stored sector's mark is 0, and so it can be written as before
 
@@ -61,7 +62,7 @@ Onward n s rest marks0 = (k : StoreMarks) → SameWritable k.marks marks0 → Re
 
 by_mark : (b : Bool) (spot : Spot) (n : ℕ) (s : State) (store marks marks0 : List ℕ) (rest : List Change) →
     SameWritable marks marks0 → writable (get_or marks spot.index 0) ≡ b → Onward n s rest marks0 →
-    (erases_on (pick b (Passes spot) (Fails WriteFault)) n s store marks).next
+    (erases_on (pick b (Ok spot) (Err WriteFault)) n s store marks).next
     ≡ changed (pick b (record { index = spot.index; bytes = replicate 512 0xFF } ∷ rest) []) (store_marks store marks s.bad)
 unfolding changed all_ff
 by_mark true spot n s store marks marks0 rest h w f =
@@ -74,12 +75,12 @@ by_address : (l : Located) (n : ℕ) (s : State) (store marks marks0 : List ℕ)
     SameWritable marks marks0 → Onward n s rest marks0 →
     (erases_on (mark_tested writable WriteFault (tested_of l) marks) n s store marks).next ≡ changed (sector_changes l marks0 (replicate 512 0xFF) rest) (store_marks store marks s.bad)
 unfolding changed
-by_address (Located.Good spot) n s store marks marks0 rest h f =
+by_address (Ok spot) n s store marks marks0 rest h f =
     by_mark (writable (get_or marks spot.index 0)) spot n s store marks marks0 rest h refl f ∙
     ap (λ (b : Bool). changed (pick b (record { index = spot.index; bytes = replicate 512 0xFF } ∷ rest) []) (store_marks store marks s.bad)) (h spot.index)
-by_address Located.BadHeadOrSector n s store marks marks0 rest h f = refl
-by_address Located.BadCylinder n s store marks marks0 rest h f = refl
-by_address Located.BadLba n s store marks marks0 rest h f = refl
+by_address (Err BadAddress.HeadOrSector) n s store marks marks0 rest h f = refl
+by_address (Err BadAddress.Cylinder) n s store marks marks0 rest h f = refl
+by_address (Err BadAddress.Lba) n s store marks marks0 rest h f = refl
 
 -- the address of the next sector, where one is left
 abbrev erasures_in : ℕ → State → List ℕ → List Change

@@ -1,4 +1,5 @@
 -- The interrupt mark at a data access: every word of a running transfer keeps the rule.
+use Rattle.std.proofs.Common.{Ok, Err}
 use Prim.Native.Nat.{ℕ, ◌-◌, ◌%◌, ◌≤◌}
 use mathlib.Core.Path.{◌≡◌, refl, ap, subst}
 use mathlib.Core.Bool.{Bool, true, false, not}
@@ -24,11 +25,9 @@ use Rattle.registers.specs.WellMade.{status_fits, sectors_fit, load_fits, run_fi
 use Rattle.geometry.specs.Address.{valid_address}
 use Rattle.transfers.specs.declared.Order.TheVariants.{Later}
 use Rattle.transfers.specs.declared.End.TheVariants.{Unreadable}
-use Rattle.transfers.specs.declared.Tested.{Tested}
-use Rattle.transfers.specs.declared.Tested.TheVariants.{Passes, Fails}
 use Rattle.transfers.specs.declared.Way.{Way}
 use Rattle.transfers.specs.declared.Way.TheVariants.{In, Out}
-use Rattle.transfers.specs.Before.{address_test, sector_test, sector_stored}
+use Rattle.transfers.specs.Before.{address_test, sector_test, sector_stored, Tested}
 use Rattle.transfers.specs.Steps.{idle_with, sector_done, read_tested, read_sector, next_read, load_read, ask_tested, ask_sector, next_asked, core_written, load_written, all_moved}
 use Rattle.port.specs.Data.{Effect, data_read, data_written}
 use Rattle.kept.proofs.Data.{phase_of}
@@ -43,8 +42,8 @@ use Rattle.laws.proofs.InterruptEnds.{end_drq}
 -- ---- a test that fails is an end in error
 
 abbrev pub proper : Tested → Bool
-proper (Passes spot) = true
-proper (Fails e) = erring e
+proper (Ok spot) = true
+proper (Err e) = erring e
 
 pub read_proper : (s : State) (marks : List ℕ) → proper (sector_test In s marks) ≡ true
 unfolding sector_test address_test
@@ -71,8 +70,8 @@ next-starts left k b e = after-starts k.stride k.place (pace_apart k b e).1
 
 read_tested_lem : (t : Tested) (left : ℕ) (k : Pace) (last : Bool) (s : State) (m : Machine) → proper t ≡ true → drq_set s ≡ true → another s m.state ≡ true →
     eqb k.place 0 ≡ last → m.state.interrupt ≡ s.interrupt → InterruptRule (DataRead last) s (read_tested t left k m).state
-read_tested_lem (Passes spot) left k last s m p a d q i = turned In last s (read_tested (Passes spot) left k m).state a refl d (rw (q, i))
-read_tested_lem (Fails e) left k last s m p a d q i = read_failed last s (read_tested (Fails e) left k m).state a (end_drq e) (un_not _ _ p) refl
+read_tested_lem (Ok spot) left k last s m p a d q i = turned In last s (read_tested (Ok spot) left k m).state a refl d (rw (q, i))
+read_tested_lem (Err e) left k last s m p a d q i = read_failed last s (read_tested (Err e) left k m).state a (end_drq e) (un_not _ _ p) refl
 
 done_interrupt : (left : ℕ) (s : State) → (sector_done left s).interrupt ≡ s.interrupt
 unfolding sector_done
@@ -108,14 +107,14 @@ data_read_lem port m r =
 
 ask_tested_lem : (t : Tested) (left : ℕ) (k : Pace) (last : Bool) (s n : State) → drq_set s ≡ true → another s n ≡ true → eqb k.place 0 ≡ last → n.interrupt ≡ s.interrupt →
     InterruptRule (DataWrite last) s (ask_tested t left k Later n).state
-ask_tested_lem (Passes spot) left k last s n a d q i = turned Out last s (ask_tested (Passes spot) left k Later n).state a refl d (rw (q, i))
-ask_tested_lem (Fails e) left k last s n a d q i = written_end last s (ask_tested (Fails e) left k Later n).state a (end_drq e) refl
+ask_tested_lem (Ok spot) left k last s n a d q i = turned Out last s (ask_tested (Ok spot) left k Later n).state a refl d (rw (q, i))
+ask_tested_lem (Err e) left k last s n a d q i = written_end last s (ask_tested (Err e) left k Later n).state a (end_drq e) refl
 
 -- with any number of marks that are not 0
 core-written : (t : Tested) (left : ℕ) (k : Pace) (b : ℕ) (s : State) → drq_set s ≡ true → LoadFits (Sectors left k) s →
     InterruptRule (DataWrite (last_of_load (Sectors left k))) s (core_written t (left - 1) (pace_after k) (with_bad b s)).state
 unfolding next_asked ask_sector load_fits sectors_fit
-core-written (Passes spot) left k b s a f =
+core-written (Ok spot) left k b s a f =
     let n = with_bad b s in
     let last = last_of_load (Sectors left k) in
     pick-elim (λ (x : Core). InterruptRule (DataWrite last) s x.state) (eqb (left - 1) 0) _ _
@@ -123,7 +122,7 @@ core-written (Passes spot) left k b s a f =
     (λ e.
     ask_tested_lem (address_test (sector_done (left - 1) n)) (left - 1) (pace_after k) last s (sector_done (left - 1) n) a (left_facts left k n f.0 e)
     (next-starts left k s.block f.1) (done_interrupt (left - 1) n))
-core-written (Fails e) left k b s a f = written_end (last_of_load (Sectors left k)) s (core_written (Fails e) (left - 1) (pace_after k) (with_bad b s)).state a (end_drq e) refl
+core-written (Err e) left k b s a f = written_end (last_of_load (Sectors left k)) s (core_written (Err e) (left - 1) (pace_after k) (with_bad b s)).state a (end_drq e) refl
 
 load_written_lem : (l : Load) (s : State) (m : Machine) → drq_set s ≡ true → LoadFits l s → InterruptRule (DataWrite (last_of_load l)) s (load_written l (idle_with s m)).state
 load_written_lem Buffer s m a f = written_end true s (load_written Buffer (idle_with s m)).state a refl refl

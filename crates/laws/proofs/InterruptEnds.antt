@@ -1,4 +1,5 @@
 -- The interrupt mark at a Command write: every row of the table keeps the rule.
+use Rattle.std.proofs.Common.{Ok, Err, Some, None}
 use Prim.Native.Nat.{ℕ}
 use mathlib.Core.Path.{◌≡◌, refl}
 use mathlib.Core.Bool.{true, false}
@@ -6,8 +7,7 @@ use mathlib.Core.List.{List}
 use lib.Dec.{eqb}
 use Rattle.ground.specs.Left.{Left}
 use Rattle.sectors.specs.Sectors.{StoreMarks}
-use Rattle.geometry.specs.declared.Reshaped.{Reshaped}
-use Rattle.geometry.specs.Shape.{reshaped}
+use Rattle.geometry.specs.Shape.{reshaped, Reshaped}
 use Rattle.geometry.specs.Address.{seek}
 use Rattle.ground.proofs.Picks.{pick-elim}
 use Rattle.registers.specs.declared.Pace.{Pace}
@@ -21,13 +21,11 @@ use Rattle.commands.specs.Blocks.{block_set, blocks_read, blocks_asked}
 use Rattle.transfers.specs.declared.Order.TheVariants.{First}
 use Rattle.transfers.specs.declared.End.{End}
 use Rattle.transfers.specs.declared.End.TheVariants.{Good, BadHeadOrSector, BadCylinder, BadLba, PastEnd, Unreadable, WriteFault, BadGeometry, NoSuchCommand}
-use Rattle.transfers.specs.declared.Tested.{Tested}
-use Rattle.transfers.specs.declared.Tested.TheVariants.{Passes, Fails}
 use Rattle.commands.specs.declared.Command.{Command}
 use Rattle.commands.specs.declared.Command.TheVariants.{Read, Write, Verify, Erase, Identify, ReadBuffer, WriteBuffer, SetGeometry, Diagnose, Recalibrate, Seek, Sense, SetMultiple, ReadMultiple, WriteMultiple, Other}
 use Rattle.transfers.specs.Ends.{end_status}
 use Rattle.transfers.specs.declared.Way.TheVariants.{In}
-use Rattle.transfers.specs.Before.{sector_test, address_test}
+use Rattle.transfers.specs.Before.{sector_test, address_test, Tested}
 use Rattle.transfers.specs.Steps.{read_tested, read_sector, ask_tested, ask_sector}
 use Rattle.commands.specs.Sweeps.{verify_run, erase_run}
 use Rattle.commands.specs.Table.{count_of, sought_end, reshaped_ended, started, dropped, command_of, obeyed, command_given}
@@ -60,8 +58,8 @@ erased n s store marks =
     erase_elim (λ (x : State) (st mk : List ℕ). Unit {0}) (λ (k : Left Core StoreMarks). Over k.outcome.state) (λ s st mk u. tt) (λ n s st mk u. tt) (λ e s st mk u. (refl, end_drq e)) n s store marks tt
 
 reshaped-ended : (r : Reshaped) (s : State) → Over (reshaped_ended r s).state
-reshaped-ended (Reshaped.Taken g) s = (refl, refl)
-reshaped-ended Reshaped.Refused s = (refl, refl)
+reshaped-ended (Some g) s = (refl, refl)
+reshaped-ended None s = (refl, refl)
 
 -- the rule of a row whose command is over
 done : (c : Command) (s n : State) → Over n → InterruptRule (CommandWrite c) s n
@@ -69,13 +67,13 @@ done c s n o = over c s n o.0 o.1
 
 -- the first sector of a command is the first of its block; c is the row of 20H or of C4H
 read_first : (c : Command) → reads_row c ≡ true → (t : Tested) (left stride : ℕ) (s : State) (m : Machine) → InterruptRule (CommandWrite c) s (read_tested t left (pace_from stride) m).state
-read_first c r (Passes spot) left stride s m = ready c s (read_tested (Passes spot) left (pace_from stride) m).state r refl refl
-read_first c r (Fails e) left stride s m = over c s (read_tested (Fails e) left (pace_from stride) m).state refl (end_drq e)
+read_first c r (Ok spot) left stride s m = ready c s (read_tested (Ok spot) left (pace_from stride) m).state r refl refl
+read_first c r (Err e) left stride s m = over c s (read_tested (Err e) left (pace_from stride) m).state refl (end_drq e)
 
 -- … of 30H or of C5H
 ask_first : (c : Command) → reads_row c ≡ false → (t : Tested) (left : ℕ) (k : Pace) (s n : State) → n.interrupt ≡ false → InterruptRule (CommandWrite c) s (ask_tested t left k First n).state
-ask_first c r (Passes spot) left k s n e = asked c s (ask_tested (Passes spot) left k First n).state r e refl
-ask_first c r (Fails f) left k s n e = over c s (ask_tested (Fails f) left k First n).state refl (end_drq f)
+ask_first c r (Ok spot) left k s n e = asked c s (ask_tested (Ok spot) left k First n).state r e refl
+ask_first c r (Err f) left k s n e = over c s (ask_tested (Err f) left k First n).state refl (end_drq f)
 
 -- s is the state before the Command write, n the state that the command starts with
 obeys : (c : Command) (s n : State) (m : Machine) → n.interrupt ≡ false → InterruptRule (CommandWrite c) s (obeyed c n m).state

@@ -1,10 +1,10 @@
 -- 01, "Maps", Configuration Option: "Reading gives the last value", in a Device Control hold too.
+use Rattle.std.proofs.Common.{Ok}
 use Prim.Native.Nat.{ℕ}
 use mathlib.Core.Path.{◌≡◌, refl, ap, ◌∙◌}
 use mathlib.Core.Bool.{Bool, true, false, ◌&&◌}
 use mathlib.Core.List.{List, [], ◌∷◌}
 use Rattle.ground.specs.Choice.{pick}
-use Rattle.answers.specs.declared.Outcome.{Outcome}
 use Rattle.answers.specs.Answers.{refused}
 use Rattle.maps.specs.declared.Register.TheVariants.{AlternateControl}
 use Rattle.registers.specs.declared.State.{State}
@@ -50,7 +50,7 @@ option-played (a ∷ l) m n = option-played l (step m a).next n.1 ∙ option-aft
 -- after an accepted write at 200H, and whatever accesses that write there no more, a read at 200H gives the value written
 pub last_value : (m : Machine) (a : Asked) (l : List Asked) (b : Asked) → writes_option m a ≡ true → NoOptionWrite (step m a).next l →
     let n = (play (step m a).next l).last in
-    b.access.space ≡ 0 → b.access.address ≡ 0x200 → b.access.write ≡ false → refused (step n b).outcome ≡ false → (step n b).outcome ≡ Outcome.Accepted a.access.value
+    b.access.space ≡ 0 → b.access.address ≡ 0x200 → b.access.write ≡ false → refused (step n b).outcome ≡ false → (step n b).outcome ≡ Ok a.access.value
 last_value m a l b e n s d w f =
     ap (λ (x : Effect). x.outcome) (option_at_200 (play (step m a).next l).last b s d w f)
-    ∙ ap (λ (k : ℕ). Outcome.Accepted k) (option-played l (step m a).next n ∙ option-after m a ∙ rw e)
+    ∙ ap (λ (k : ℕ). Ok k) (option-played l (step m a).next n ∙ option-after m a ∙ rw e)

@@ -1,4 +1,5 @@
 -- 01, "Maps": offsets "0, 8, 9 data"; "Data": "With no transfer that way, a read gives FFH or FFFFH and a write has no effect (H)", in whatever map.
+use Rattle.std.proofs.Common.{Ok, Some}
 use Prim.Native.Nat.{ℕ}
 use mathlib.Core.Path.{◌≡◌, refl, sym, ap, subst, ◌∙◌}
 use mathlib.Core.Bool.{Bool, true, false, true≢false, false≢true}
@@ -11,8 +12,6 @@ use Rattle.answers.specs.Answers.{refused}
 use Rattle.maps.specs.declared.Port.{Port}
 use Rattle.maps.specs.declared.Port.TheVariants.{Even, Odd, Word}
 use Rattle.maps.specs.declared.Target.TheVariants.{Data}
-use Rattle.maps.specs.declared.Standing.TheVariants.{There}
-use Rattle.maps.specs.Offsets.{At}
 use Rattle.maps.specs.Places.{register_place}
 use Rattle.maps.specs.Rows.{moved}
 use Rattle.registers.specs.declared.Phase.{Phase}
@@ -37,19 +36,19 @@ data_elim P o x y z =
     (λ e. pick-elim (λ (t : Bool). t ≡ true → P o) (eqb o 8) _ _ (λ e h. subst P (sym (eqb-true o 8 e)) y)
     (λ e. pick-elim (λ (t : Bool). t ≡ true → P o) (eqb o 9) _ _ (λ e h. subst P (sym (eqb-true o 9 e)) z) (λ e h. absurd (false≢true h))))
 
-data_moved : (o width : ℕ) → among o (0 ∷ 8 ∷ 9 ∷ []) ≡ true → moved (register_place o) width ≡ There (Data (port_for o width))
+data_moved : (o width : ℕ) → among o (0 ∷ 8 ∷ 9 ∷ []) ≡ true → moved (register_place o) width ≡ Ok (Data (port_for o width))
 unfolding register_place
-data_moved o width = data_elim (λ (n : ℕ). moved (register_place n) width ≡ There (Data (port_for n width))) o refl refl refl
+data_moved o width = data_elim (λ (n : ℕ). moved (register_place n) width ≡ Ok (Data (port_for n width))) o refl refl refl
 
-data_means : (m : Machine) (a : Asked) (o : ℕ) → offset_of m a ≡ At o → among o (0 ∷ 8 ∷ 9 ∷ []) ≡ true → refused (step m a).outcome ≡ false →
+data_means : (m : Machine) (a : Asked) (o : ℕ) → offset_of m a ≡ Some o → among o (0 ∷ 8 ∷ 9 ∷ []) ≡ true → refused (step m a).outcome ≡ false →
     Means (Data (port_for o a.access.width)) a (meaning m a)
 data_means m a o p d = offset_means m a o (Data (port_for o a.access.width)) (data_moved o a.access.width d) p
 
-pub means_data_read : (m : Machine) (a : Asked) (o : ℕ) → offset_of m a ≡ At o → among o (0 ∷ 8 ∷ 9 ∷ []) ≡ true → a.access.write ≡ false → refused (step m a).outcome ≡ false →
+pub means_data_read : (m : Machine) (a : Asked) (o : ℕ) → offset_of m a ≡ Some o → among o (0 ∷ 8 ∷ 9 ∷ []) ≡ true → a.access.write ≡ false → refused (step m a).outcome ≡ false →
     meaning m a ≡ ReadData (port_for o a.access.width)
 means_data_read m a o p d w f = (data_means m a o p d f).0 ∙ rw w
 
-pub means_data_written : (m : Machine) (a : Asked) (o : ℕ) → offset_of m a ≡ At o → among o (0 ∷ 8 ∷ 9 ∷ []) ≡ true → a.access.write ≡ true → refused (step m a).outcome ≡ false →
+pub means_data_written : (m : Machine) (a : Asked) (o : ℕ) → offset_of m a ≡ Some o → among o (0 ∷ 8 ∷ 9 ∷ []) ≡ true → a.access.write ≡ true → refused (step m a).outcome ≡ false →
     meaning m a ≡ WriteData (port_for o a.access.width) a.access.value
 means_data_written m a o p d w f = (data_means m a o p d f).0 ∙ rw w
 
@@ -78,13 +77,13 @@ pub meant_nothing_written : (port : Port) (v : ℕ) (m : Machine) → m.state.co
 unfolding perform data_written
 meant_nothing_written port v m h e = ap (λ (t : Bool). pick t (accepted 0 m) (phase_written m.phase port v m)) h ∙ nothing_written m.phase port v m e
 
-pub no_transfer_reads : (m : Machine) (a : Asked) (o : ℕ) → offset_of m a ≡ At o → among o (0 ∷ 8 ∷ 9 ∷ []) ≡ true → a.access.write ≡ false →
+pub no_transfer_reads : (m : Machine) (a : Asked) (o : ℕ) → offset_of m a ≡ Some o → among o (0 ∷ 8 ∷ 9 ∷ []) ≡ true → a.access.write ≡ false →
     m.state.control.held ≡ false → that_way m.phase false ≡ false → refused (step m a).outcome ≡ false → step m a ≡ accepted (nothing_read (port_for o a.access.width)) m
 no_transfer_reads m a o p d w h e f =
     let port = port_for o a.access.width in
     step_by m a (ReadData port) (accepted (nothing_read port) m) (means_data_read m a o p d w f) (meant_nothing_read port m h e)
 
-pub no_transfer_writes : (m : Machine) (a : Asked) (o : ℕ) → offset_of m a ≡ At o → among o (0 ∷ 8 ∷ 9 ∷ []) ≡ true → a.access.write ≡ true →
+pub no_transfer_writes : (m : Machine) (a : Asked) (o : ℕ) → offset_of m a ≡ Some o → among o (0 ∷ 8 ∷ 9 ∷ []) ≡ true → a.access.write ≡ true →
     m.state.control.held ≡ false → that_way m.phase true ≡ false → refused (step m a).outcome ≡ false → step m a ≡ accepted 0 m
 no_transfer_writes m a o p d w h e f =
     let port = port_for o a.access.width in

@@ -4,7 +4,6 @@ use mathlib.Core.Path.{◌≡◌, refl, sym, ap, ◌∙◌}
 use mathlib.Core.Bool.{Bool}
 use mathlib.Core.List.{List}
 use Rattle.ground.proofs.OnlyOne.{only_one, only_left}
-use Rattle.answers.specs.declared.Outcome.{Outcome}
 use Rattle.sectors.specs.Sectors.{StoreMarks, store_marks}
 use Rattle.registers.specs.declared.Core.{Core}
 use Rattle.registers.specs.State.{line_of}
@@ -15,6 +14,7 @@ use Rattle.card.specs.declared.Card.{Card}
 use Rattle.card.specs.declared.Answer.{Answer}
 use Rattle.card.specs.Doors.{machine_of, answer, answered}
 use Rattle.laws.specs.Lent.{SameLent}
+use Rattle.answers.specs.Answers.{Outcome}
 
 pub only_store_marks : (d : StoreMarks) (s s' m m' : List ℕ) (b b' : ℕ) → store_marks s m b ≡ d → store_marks s' m' b' ≡ d → (s ≡ s') × (m ≡ m') × (b ≡ b')
 only_store_marks d s s' m m' b b' p q =

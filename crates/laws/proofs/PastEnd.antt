@@ -1,4 +1,5 @@
 -- An Erase or Verify whose run is past the end changes nothing but Status, Error, code and the interrupt mark: over every card, geometry and Count.
+use Rattle.std.proofs.Common.{Ok}
 use Prim.Native.Nat.{ℕ}
 use mathlib.Core.Bool.{Bool, true, false, ◌||◌, false≢true}
 use mathlib.Core.Path.{◌≡◌, refl, ap, ◌∙◌}
@@ -7,7 +8,6 @@ use lib.Dec.{eqb, ltb}
 use borrow.Author.Tests.{eqb-true, lt-ltb}
 use Rattle.ground.specs.Choice.{pick}
 use Rattle.geometry.specs.declared.Spot.{Spot}
-use Rattle.geometry.specs.declared.Located.{Located}
 use Rattle.geometry.proofs.Inside.{remain_room}
 use Rattle.maps.specs.declared.Register.TheVariants.{StatusCommand}
 use Rattle.registers.specs.State.{total_in, located_in}
@@ -34,7 +34,7 @@ runs-elim P opcode e x y = go (eqb opcode 0xC0) (eqb opcode 0x40) (eqb opcode 0x
     go false false true p q r e = rw (eqb-true opcode 0x41 r) y
     go false false false p q r e = absurd (false≢true e)
 
-module _ (m : Machine) (p : Spot) (good : located_in m.state ≡ Located.Good p) (past : Past m.state p.index) where
+module _ (m : Machine) (p : Spot) (good : located_in m.state ≡ Ok p) (past : Past m.state p.index) where
   -- more sectors are asked for than remain
   more : ltb p.remain (count_of m.state) ≡ true
   unfolding count_of

@@ -1,10 +1,10 @@
 -- "Power-on: Status 50H, Error 01H, Count 1, Sector 1, the rest 0": what a host reads after the opening, and after each reset is left.
+use Rattle.std.proofs.Common.{Ok}
 use Prim.Native.Nat.{ℕ}
 use mathlib.Core.Path.{◌≡◌, refl, sym, ap, subst, ◌∙◌}
 use mathlib.Core.Bool.{Bool, true, false}
 use mathlib.Core.List.{List}
 use lib.ListN.{replicate}
-use Rattle.answers.specs.declared.Outcome.{Outcome}
 use Rattle.answers.specs.declared.Refusal.{Refusal}
 use Rattle.answers.proofs.Outcomes.{accepts_not}
 use Rattle.geometry.specs.declared.Geometry.{Geometry}
@@ -34,7 +34,7 @@ use Rattle.laws.proofs.Turns.{sreset_left_lem, control_left_lem}
 
 -- with any map setting, mask and buffer, and whatever is lent
 pub meant_power_on : (r : Register) (masked : Bool) (made : Made) (bad option : ℕ) (buffer store marks : List ℕ) →
-    (perform (ReadRegister r) (machine (core Idle (with_control (record { held = false; masked = masked }) (power_on made bad option))) buffer store marks)).outcome ≡ Outcome.Accepted (power_on_value r)
+    (perform (ReadRegister r) (machine (core Idle (with_control (record { held = false; masked = masked }) (power_on made bad option))) buffer store marks)).outcome ≡ Ok (power_on_value r)
 unfolding perform value_read
 meant_power_on ErrorFeature masked made bad option buffer store marks = refl
 meant_power_on SectorCount masked made bad option buffer store marks = refl
@@ -54,10 +54,10 @@ powered-reads masked made bad option buffer store marks b r e =
     ∙ meant_power_on r masked made bad option buffer store marks
 
 -- the store and the marks may have changed since the opening
-pub opened-reads : (g : Geometry) (mode : ℕ) (store marks tuples store' marks' : List ℕ) → (opened g mode store marks tuples).outcome ≡ Outcome.Accepted 0 →
+pub opened-reads : (g : Geometry) (mode : ℕ) (store marks tuples store' marks' : List ℕ) → (opened g mode store marks tuples).outcome ≡ Ok 0 →
     ReadsPowerOn (machine_of (opened g mode store marks tuples).card store' marks')
 opened-reads g mode store marks tuples store' marks' =
-    let P : Answer → Type 0 = λ x. x.outcome ≡ Outcome.Accepted 0 → ReadsPowerOn (machine_of x.card store' marks') in
+    let P : Answer → Type 0 = λ x. x.outcome ≡ Ok 0 → ReadsPowerOn (machine_of x.card store' marks') in
     let z : (q : Refusal) → P (open_refused q) = λ q e. accepts_not 0 q (sym e) in
     opened-elim P g mode store marks tuples (z _) (z _) (z _) (z _) (z _)
     (λ f s k e. powered-reads false (record { mode = mode_of mode; default = g }) (bad_in marks) 0 zeros store' marks')

@@ -1,4 +1,5 @@
 -- Row 9 speaks of "a byte write above 255": what a read answers and leaves never depends on the value that came with it.
+use Rattle.std.proofs.Common.{Ok, Err}
 use Prim.Native.Nat.{ℕ}
 use mathlib.Core.Path.{◌≡◌, refl, sym, ap, ◌∙◌}
 use mathlib.Core.Bool.{false}
@@ -6,9 +7,7 @@ use Rattle.ground.specs.Choice.{pick}
 use Rattle.ground.specs.Rows.{first_of}
 use Rattle.answers.specs.declared.Refusal.TheVariants.{HeldBySreset}
 use Rattle.maps.specs.declared.Target.TheVariants.{Tuple, Option, Named, Data}
-use Rattle.maps.specs.declared.Standing.{Standing}
-use Rattle.maps.specs.declared.Standing.TheVariants.{There, Refused}
-use Rattle.maps.specs.Rows.{with_value}
+use Rattle.maps.specs.Rows.{with_value, Standing}
 use Rattle.maps.proofs.ReadValue.{read_value}
 use Rattle.registers.specs.declared.State.{State}
 use Rattle.registers.specs.State.{index_in}
@@ -25,11 +24,11 @@ abbrev valued : ℕ → Asked → Asked
 valued v a = asked_with (with_value v a.access) a.tuples
 
 standing_read : (s : Standing) (v : ℕ) (a : Asked) → a.access.write ≡ false → standing s (valued v a) ≡ standing s a
-standing_read (There (Tuple n)) v a e = refl
-standing_read (There Option) v a e = rw e
-standing_read (There (Named r)) v a e = rw e
-standing_read (There (Data port)) v a e = rw e
-standing_read (Refused r) v a e = refl
+standing_read (Ok (Tuple n)) v a e = refl
+standing_read (Ok Option) v a e = rw e
+standing_read (Ok (Named r)) v a e = rw e
+standing_read (Ok (Data port)) v a e = rw e
+standing_read (Err r) v a e = refl
 
 decided_read : (s : State) (v : ℕ) (a : Asked) → a.access.write ≡ false → decided s (valued v a) ≡ decided s a
 unfolding held_away

@@ -1,6 +1,6 @@
 -- 01, "Answers": a refused access has value 0 and changes nothing.
+use Rattle.std.proofs.Common.{Err}
 use mathlib.Core.Path.{◌≡◌, refl, ap}
-use Rattle.answers.specs.declared.Outcome.TheVariants.{Refused}
 use Rattle.answers.specs.declared.Refusal.{Refusal}
 use Rattle.answers.specs.Answers.{outcome_value}
 use Rattle.registers.specs.Machine.{Machine}
@@ -16,9 +16,9 @@ use Rattle.laws.specs.Unchanged.{Unchanged}
 
 -- where the effect is a refusal, the machine is as it came
 abbrev Stays : Machine → Effect → Type 0
-Stays m e = (r : Refusal) → e.outcome ≡ Refused r → e.next ≡ m
+Stays m e = (r : Refusal) → e.outcome ≡ Err r → e.next ≡ m
 
-pub meant_refused : (x : Meaning) (m : Machine) (r : Refusal) → (perform x m).outcome ≡ Refused r → (perform x m).next ≡ m
+pub meant_refused : (x : Meaning) (m : Machine) (r : Refusal) → (perform x m).outcome ≡ Err r → (perform x m).next ≡ m
 unfolding perform
 meant_refused (Meaning.Refused x) m r e = refl
 meant_refused (TupleByte b) m r e = refl
@@ -31,6 +31,6 @@ meant_refused (ReadData port) m r e =
 meant_refused (WriteData port v) m r e =
     data_written_elim (Stays m) port v m (λ r e. refl) (λ r e. refl) (λ part t h r e. accepts_not _ r e) (λ part t h w r e. accepts_not _ r e) (λ part t h r e. accepts_not _ r e) r e
 
-pub refused-unchanged : (m : Machine) (a : Asked) (r : Refusal) → (step m a).outcome ≡ Refused r → Unchanged m (step m a)
+pub refused-unchanged : (m : Machine) (a : Asked) (r : Refusal) → (step m a).outcome ≡ Err r → Unchanged m (step m a)
 unfolding step
 refused-unchanged m a r e = (ap outcome_value e, meant_refused (meaning m a) m r e)

@@ -1,5 +1,6 @@
 -- The rule of the Configuration Option and Device Control (SettingsRule.antt) by address: only an accepted write at attribute 200H or at offset E changes
 -- them, as its value says.
+use Rattle.std.proofs.Common.{Ok, Err, Some, None}
 use Prim.Native.Nat.{ℕ}
 use mathlib.Core.Path.{◌≡◌, refl, sym, ap, ◌∙◌}
 use mathlib.Core.Bool.{Bool, true, false, not, ◌&&◌, true≢false, false≢true}
@@ -8,15 +9,12 @@ use lib.Dec.{eqb}
 use borrow.Author.Tests.{eqb-true}
 use Rattle.ground.specs.Choice.{pick}
 use Rattle.ground.proofs.Every.{and_left, and_right}
-use Rattle.answers.specs.Answers.{refused}
-use Rattle.answers.specs.declared.Outcome.{Outcome}
+use Rattle.answers.specs.Answers.{refused, Outcome}
 use Rattle.answers.specs.declared.Refusal.{Refusal}
 use Rattle.maps.specs.declared.Register.TheVariants.{ErrorFeature, SectorCount, SectorNumber, CylinderLow, CylinderHigh, DriveHead, StatusCommand, AlternateControl, DriveAddress}
 use Rattle.maps.specs.declared.Target.{Target}
 use Rattle.maps.specs.declared.Target.TheVariants.{Tuple, Option, Named, Data}
-use Rattle.maps.specs.declared.Standing.{Standing}
-use Rattle.maps.specs.declared.Standing.TheVariants.{There, Refused}
-use Rattle.maps.specs.Offsets.{Offset, At, Nowhere}
+use Rattle.maps.specs.Offsets.{Offset}
 use Rattle.maps.specs.Places.{register_place}
 use Rattle.registers.specs.declared.State.{State}
 use Rattle.registers.specs.Machine.{Machine}
@@ -32,6 +30,7 @@ use Rattle.laws.proofs.RefusedUnchanged.{refused-unchanged}
 use Rattle.laws.proofs.Elsewhere.{loses, elsewhere-elim}
 use Rattle.laws.proofs.ByAddress.{means_option_written, means_register_written}
 use Rattle.laws.proofs.SettingsRule.{settings_rule}
+use Rattle.maps.specs.Rows.{Standing}
 
 -- a register but that of offset E, or the data port
 target_kept : (t : Target) (a : Asked) (s : State) → a.access.write ≡ true → loses t ≡ true → settings_after (targeted t a) s ≡ settings_of s
@@ -50,11 +49,11 @@ target_kept (Data port) a s w b = rw w
 
 -- ---- a read
 stands_read : (k : Standing) (a : Asked) (s : State) → a.access.write ≡ false → settings_after (standing k a) s ≡ settings_of s
-stands_read (There (Tuple n)) a s w = refl
-stands_read (There Option) a s w = rw w
-stands_read (There (Named r)) a s w = rw w
-stands_read (There (Data port)) a s w = rw w
-stands_read (Refused r) a s w = refl
+stands_read (Ok (Tuple n)) a s w = refl
+stands_read (Ok Option) a s w = rw w
+stands_read (Ok (Named r)) a s w = rw w
+stands_read (Ok (Data port)) a s w = rw w
+stands_read (Err r) a s w = refl
 
 read_kept : (m : Machine) (a : Asked) → a.access.write ≡ false → settings_after (meaning m a) m.state ≡ settings_of m.state
 read_kept m a w =
@@ -68,9 +67,9 @@ sure : (t : Bool) → pick t true false ≡ true → t ≡ true
 sure true e = refl
 sure false e = e
 
-at_e : (o : Offset) → offset_in (0xE ∷ []) o ≡ true → o ≡ At 0xE
-at_e (At o) e = ap (λ (k : ℕ). At k) (eqb-true o 0xE (sure (eqb o 0xE) e))
-at_e Nowhere e = absurd (false≢true e)
+at_e : (o : Offset) → offset_in (0xE ∷ []) o ≡ true → o ≡ Some 0xE
+at_e (Some o) e = ap (λ (k : ℕ). Some k) (eqb-true o 0xE (sure (eqb o 0xE) e))
+at_e None e = absurd (false≢true e)
 
 -- is it at 200H, is it at offset E
 taken : (option control : Bool) (m : Machine) (a : Asked) → at_option a.access.space a.access.address ≡ option → offset_in (0xE ∷ []) (offset_of m a) ≡ control →
@@ -90,9 +89,9 @@ taken false false m a o c w n =
     (λ r. refl) (λ t l. target_kept t a m.state w l)
 
 -- ---- the rule
-refusal : {X : Type 0} (o : Outcome) → refused o ≡ true → ((r : Refusal) → o ≡ Outcome.Refused r → X) → X
-refusal (Outcome.Accepted v) e f = absurd (false≢true e)
-refusal (Outcome.Refused r) e f = f r refl
+refusal : {X : Type 0} (o : Outcome) → refused o ≡ true → ((r : Refusal) → o ≡ Err r → X) → X
+refusal (Ok v) e f = absurd (false≢true e)
+refusal (Err r) e f = f r refl
 
 settings_by : (write refuses : Bool) (m : Machine) (a : Asked) → a.access.write ≡ write → refused (step m a).outcome ≡ refuses →
     settings_of (step m a).next.state ≡ pick (write && not refuses) (settings_taken m a) (settings_of m.state)

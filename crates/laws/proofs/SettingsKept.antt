@@ -1,5 +1,6 @@
 -- The option and Device Control, which only writes to them change: no command does ("90H …: buffer, geometry, index, mask kept"), and no transfer; and the
 -- number of marks that are not 0, which only a stored sector changes.
+use Rattle.std.proofs.Common.{Ok, Err, Some, None}
 use Prim.Native.Nat.{ℕ, ◌-◌}
 use mathlib.Core.Path.{◌≡◌, refl, ap, ◌∙◌}
 use mathlib.Core.List.{List}
@@ -7,8 +8,7 @@ use lib.Dec.{eqb}
 use Rattle.ground.specs.Left.{Left}
 use Rattle.sectors.specs.Sectors.{StoreMarks}
 use Rattle.ground.proofs.Picks.{pick-elim}
-use Rattle.geometry.specs.declared.Reshaped.{Reshaped}
-use Rattle.geometry.specs.Shape.{reshaped}
+use Rattle.geometry.specs.Shape.{reshaped, Reshaped}
 use Rattle.maps.specs.declared.Register.{Register}
 use Rattle.registers.specs.declared.Pace.{Pace}
 use Rattle.registers.specs.declared.Load.{Load}
@@ -19,10 +19,8 @@ use Rattle.registers.specs.State.{with_bad, total_in}
 use Rattle.registers.specs.Machine.{Machine}
 use Rattle.transfers.specs.declared.Order.{Order}
 use Rattle.transfers.specs.declared.Order.TheVariants.{First, Later}
-use Rattle.transfers.specs.declared.Tested.{Tested}
-use Rattle.transfers.specs.declared.Tested.TheVariants.{Passes, Fails}
 use Rattle.transfers.specs.declared.Way.TheVariants.{In}
-use Rattle.transfers.specs.Before.{address_test, sector_test, sector_stored}
+use Rattle.transfers.specs.Before.{address_test, sector_test, sector_stored, Tested}
 use Rattle.transfers.specs.Steps.{idle_with, sector_done, read_tested, read_sector, next_read, load_read, ask_tested, ask_sector, next_asked, core_written, load_written}
 use Rattle.commands.specs.declared.Command.{Command}
 use Rattle.commands.specs.declared.Command.TheVariants.{Read, Write, Verify, Erase, Identify, ReadBuffer, WriteBuffer, SetGeometry, Diagnose, Recalibrate, Seek, Sense, SetMultiple, ReadMultiple, WriteMultiple, Other}
@@ -67,8 +65,8 @@ plain r v k =
 -- ---- reading
 
 read_tested_lem : (t : Tested) (left : ℕ) (k : Pace) (m : Machine) → steady_of (read_tested t left k m).state ≡ steady_of m.state
-read_tested_lem (Passes spot) left k m = refl
-read_tested_lem (Fails e) left k m = refl
+read_tested_lem (Ok spot) left k m = refl
+read_tested_lem (Err e) left k m = refl
 
 pub read_sector_lem : (left : ℕ) (k : Pace) (m : Machine) → steady_of (read_sector left k m).state ≡ steady_of m.state
 unfolding read_sector
@@ -84,8 +82,8 @@ load_read_lem (Sectors left k) m =
 -- ---- writing
 
 ask_tested_lem : (t : Tested) (left : ℕ) (k : Pace) (order : Order) (s : State) → steady_of (ask_tested t left k order s).state ≡ steady_of s
-ask_tested_lem (Passes spot) left k order s = refl
-ask_tested_lem (Fails e) left k order s = refl
+ask_tested_lem (Ok spot) left k order s = refl
+ask_tested_lem (Err e) left k order s = refl
 
 pub ask_sector_lem : (left : ℕ) (k : Pace) (order : Order) (s : State) → steady_of (ask_sector left k order s).state ≡ steady_of s
 unfolding ask_sector
@@ -93,9 +91,9 @@ ask_sector_lem left k order s = ask_tested_lem (address_test s) left k order s
 
 core-written : (t : Tested) (left : ℕ) (k : Pace) (s : State) → steady_of (core_written t left k s).state ≡ steady_of s
 unfolding next_asked
-core-written (Passes spot) left k s =
+core-written (Ok spot) left k s =
     pick-elim (λ (k : Core). steady_of k.state ≡ steady_of s) (eqb left 0) _ _ (λ e. done left s) (λ e. ask_sector_lem left k Later (sector_done left s) ∙ done left s)
-core-written (Fails e) left k s = refl
+core-written (Err e) left k s = refl
 
 -- the last byte of a sector has come: with the number that storing it leaves
 pub sector-written : (left : ℕ) (p : Pace) (m : Machine) →
@@ -130,8 +128,8 @@ erased n s store marks =
     (λ x st mk h. h) (λ n x st mk h. (same_settings (done n x) ∙ h.0, same_block (done n x) ∙ h.1)) (λ e x st mk h. steady_by h.0 h.1) n s store marks (refl, refl)
 
 pub reshaped-ended : (r : Reshaped) (s : State) → steady_of (reshaped_ended r s).state ≡ steady_of s
-reshaped-ended (Reshaped.Taken g) s = refl
-reshaped-ended Reshaped.Refused s = refl
+reshaped-ended (Some g) s = refl
+reshaped-ended None s = refl
 
 pub blocks_read_lem : (n : ℕ) (m : Machine) → steady_of (blocks_read n m).state ≡ steady_of m.state
 unfolding blocks_read

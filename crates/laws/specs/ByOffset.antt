@@ -1,8 +1,7 @@
 -- 01, "Maps", the table of offsets, and "Registers": what a read and a write of each offset does that is not refused.
-use Rattle.std.specs.Prelude.{ℕ, ◌+◌, ◌*◌, ◌-◌, ◌/◌, ◌%◌, ◌≡◌, Bool, true, false, not, eqb}
+use Rattle.std.specs.Prelude.{ℕ, ◌+◌, ◌*◌, ◌-◌, ◌/◌, ◌%◌, ◌≡◌, Bool, true, false, not, eqb, Some}
 use Rattle.ground.specs.Choice.{pick}
 use Rattle.answers.specs.Answers.{refused}
-use Rattle.maps.specs.Offsets.{At}
 use Rattle.maps.specs.declared.Port.{Port}
 use Rattle.registers.specs.declared.Phase.{Phase}
 use Rattle.registers.specs.declared.Phase.TheVariants.{Idle, DataIn, DataOut}
@@ -19,7 +18,7 @@ use Rattle.laws.specs.Turns.{going_on_with}
 -- a read of offset o, in whatever map, gives v, in a Device Control hold 80H, and leaves the machine n
 abbrev pub Reads : Machine → ℕ → ℕ → Machine → Type 0
 Reads m o v n =
-    (a : Asked) → offset_of m a ≡ At o → a.access.write ≡ false → refused (step m a).outcome ≡ false → step m a ≡ accepted (pick m.state.control.held byte_in_hold v) n
+    (a : Asked) → offset_of m a ≡ Some o → a.access.write ≡ false → refused (step m a).outcome ≡ false → step m a ≡ accepted (pick m.state.control.held byte_in_hold v) n
 
 -- "Drive/Head reads with bits 7 and 5 set; bit 6 selects LBA; bit 4 is stored", and bits 3..0 are the head
 abbrev pub head_stored : ℕ → ℕ
@@ -55,7 +54,7 @@ ReadTable m =
 
 -- a write of v at offset o leaves the machine f v
 abbrev pub Writes : Machine → ℕ → (ℕ → Machine) → Type 0
-Writes m o f = (a : Asked) → offset_of m a ≡ At o → a.access.write ≡ true → refused (step m a).outcome ≡ false → step m a ≡ accepted 0 (f a.access.value)
+Writes m o f = (a : Asked) → offset_of m a ≡ Some o → a.access.write ≡ true → refused (step m a).outcome ≡ false → step m a ≡ accepted 0 (f a.access.value)
 
 abbrev pub addressed : Machine → ℕ → ℕ → ℕ → ℕ → Machine
 addressed m sector low high head = going_on_with (with_address (record { sector = sector; low = low; high = high; head = head }) m.state) m

@@ -1,12 +1,10 @@
 -- The sectors that an access changes, whole. 01, "Commands": "a sector is stored, and its mark set to 0, at its last byte only; mark 2: ABRT and DWF";
 -- C0H "as write, storing FFH (H), no data"; 02, "Six": "a run past the end ends before its first sector".
-use Rattle.std.specs.Prelude.{ℕ, zero, suc, ◌<◌, ◌≡◌, List, [], ◌∷◌, ltb, length, get_or, replicate}
+use Rattle.std.specs.Prelude.{ℕ, zero, suc, ◌<◌, ◌≡◌, List, [], ◌∷◌, ltb, length, get_or, replicate, Ok, Err, None, Some}
 use Rattle.ground.specs.Choice.{pick}
 use Rattle.geometry.specs.declared.Address.{Address}
 use Rattle.geometry.specs.declared.Geometry.{Geometry}
-use Rattle.geometry.specs.declared.Located.{Located}
-use Rattle.geometry.specs.declared.Located.TheVariants.{Good, BadHeadOrSector, BadCylinder, BadLba}
-use Rattle.geometry.specs.Address.{locate}
+use Rattle.geometry.specs.Address.{locate, Located}
 use Rattle.geometry.specs.Next.{next_of}
 use Rattle.sectors.specs.Marks.{writable}
 use Rattle.sectors.specs.Sectors.{StoreMarks, stored}
@@ -23,13 +21,13 @@ use Rattle.registers.specs.State.{total_in, located_in}
 use Rattle.registers.specs.Machine.{Machine}
 use Rattle.transfers.specs.Before.{run_past}
 use Rattle.port.specs.declared.Fill.TheVariants.{Begun, Full}
-use Rattle.port.specs.declared.Take.{Take}
 use Rattle.commands.specs.declared.Command.{Command}
 use Rattle.commands.specs.declared.Command.TheVariants.{Read, Write, Verify, Erase, Identify, ReadBuffer, WriteBuffer, SetGeometry, Diagnose, Recalibrate, Seek, Sense, SetMultiple, ReadMultiple, WriteMultiple, Other}
-use Rattle.port.specs.Halves.{take_of, with_part}
+use Rattle.port.specs.Halves.{take_of, with_part, Take}
 use Rattle.commands.specs.Table.{count_of, command_of}
 use Rattle.card.specs.declared.Meaning.{Meaning}
 use Rattle.card.specs.declared.Meaning.TheVariants.{TupleByte, ReadOption, WriteOption, ReadRegister, WriteRegister, ReadData, WriteData}
+use Rattle.geometry.specs.declared.BadAddress.{BadAddress}
 
 -- "the 512-byte buffer", "A sector moves as 256 words", from 01 anew: a law that took the card's sizes would not speak against wrong ones
 abbrev pub bytes_in_sector : ℕ
@@ -55,10 +53,10 @@ WholeSectors total (c ∷ l) = (c.index < total) × (length c.bytes ≡ bytes_in
 
 -- the sector of an address, where there is one and its mark lets it be written, and what comes after it
 abbrev pub sector_changes : Located → List ℕ → List ℕ → List Change → List Change
-sector_changes (Good spot) marks bytes rest = pick (writable (get_or marks spot.index 0)) (record { index = spot.index; bytes = bytes } ∷ rest) []
-sector_changes BadHeadOrSector marks bytes rest = []
-sector_changes BadCylinder marks bytes rest = []
-sector_changes BadLba marks bytes rest = []
+sector_changes (Ok spot) marks bytes rest = pick (writable (get_or marks spot.index 0)) (record { index = spot.index; bytes = bytes } ∷ rest) []
+sector_changes (Err BadAddress.HeadOrSector) marks bytes rest = []
+sector_changes (Err BadAddress.Cylinder) marks bytes rest = []
+sector_changes (Err BadAddress.Lba) marks bytes rest = []
 
 -- C0H: sector after sector, until none is left or one cannot be written
 unfoldable pub erasures : ℕ → Address → Geometry → ℕ → List ℕ → List Change
@@ -106,9 +104,9 @@ load_changes (Sectors left pace) bytes m = sector_changes (located_in m.state) m
 
 -- a write that makes the last of the 256 words whole stores the buffer, with what it writes in it
 abbrev pub taken_changes : Take → ℕ → Transfer → Machine → List Change
-taken_changes Take.Refused v t m = []
-taken_changes (Take.Moves part Begun) v t m = []
-taken_changes (Take.Moves part Full) v t m = pick (ltb t.words last_word_number) [] (load_changes t.load (with_part part t.words v m.buffer) m)
+taken_changes None v t m = []
+taken_changes (Some (part, Begun)) v t m = []
+taken_changes (Some (part, Full)) v t m = pick (ltb t.words last_word_number) [] (load_changes t.load (with_part part t.words v m.buffer) m)
 
 abbrev pub phase_changes : Phase → Port → ℕ → Machine → List Change
 phase_changes Idle port v m = []

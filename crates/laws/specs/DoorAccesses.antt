@@ -1,5 +1,5 @@
 -- The byte writes that the two resets' methods stand for: 01, "Maps".
-use Rattle.std.specs.Prelude.{ℕ, ◌≡◌, Bool, true, List, [], ◌∷◌, eqb, leb}
+use Rattle.std.specs.Prelude.{ℕ, ◌≡◌, Bool, true, List, [], ◌∷◌, eqb, leb, Ok}
 use Rattle.ground.specs.Choice.{pick}
 use Rattle.ground.specs.Rows.{When, Unless, first_of}
 use Rattle.answers.specs.declared.Refusal.TheVariants.{SpaceSilent, HeldBySreset, IndexAboveThree}
@@ -7,7 +7,6 @@ use Rattle.maps.specs.declared.Mode.{Mode}
 use Rattle.maps.specs.declared.Mode.TheVariants.{PcCard, TrueIde}
 use Rattle.maps.specs.declared.Register.TheVariants.{AlternateControl}
 use Rattle.maps.specs.declared.Target.TheVariants.{Named}
-use Rattle.maps.specs.declared.Standing.TheVariants.{There}
 use Rattle.maps.specs.Rows.{stands_at}
 use Rattle.registers.specs.declared.State.{State}
 use Rattle.card.specs.declared.Meaning.{Meaning}
@@ -44,4 +43,4 @@ control_meaning sreset v = first_of (When sreset HeldBySreset ∷ []) Meaning.Re
 -- a byte write that reaches Device Control, were the card not held by SRESET
 pub record Reaches (s : State) (a : Asked) : Type 0 where
   pub write : a.access.write ≡ true
-  pub stands : stands_at s.made.mode (index_bits s.option) a.access ≡ There (Named AlternateControl)
+  pub stands : stands_at s.made.mode (index_bits s.option) a.access ≡ Ok (Named AlternateControl)

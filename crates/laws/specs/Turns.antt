@@ -1,7 +1,6 @@
 -- The machine after each of the two resets is entered, left, or stays as it was: 01, "Maps" (Configuration Option) and "Registers" (Device Control).
-use Rattle.std.specs.Prelude.{ℕ, ◌≡◌, true, false}
+use Rattle.std.specs.Prelude.{ℕ, ◌≡◌, true, false, Ok}
 use Rattle.ground.specs.Choice.{pick}
-use Rattle.answers.specs.declared.Outcome.{Outcome}
 use Rattle.maps.specs.declared.Register.{Register}
 use Rattle.maps.specs.declared.Register.TheVariants.{ErrorFeature, SectorCount, SectorNumber, CylinderLow, CylinderHigh, DriveHead, StatusCommand, AlternateControl, DriveAddress}
 use Rattle.registers.specs.declared.State.{State}
@@ -33,7 +32,7 @@ power_on_value AlternateControl = status_idle
 power_on_value DriveAddress = 0x7E
 
 abbrev pub ReadsPowerOn : Machine → Type 0
-ReadsPowerOn m = (a : Asked) (r : Register) → meaning m a ≡ ReadRegister r → (step m a).outcome ≡ Outcome.Accepted (power_on_value r)
+ReadsPowerOn m = (a : Asked) (r : Register) → meaning m a ≡ ReadRegister r → (step m a).outcome ≡ Ok (power_on_value r)
 
 -- the machine with another state, and the transfer that runs
 abbrev pub going_on_with : State → Machine → Machine

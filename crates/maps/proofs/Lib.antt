@@ -1,4 +1,3 @@
-pub mod Numbers
 pub mod ReadValue
 pub mod SameOffset
 pub mod SixFirst

@@ -1,4 +1,5 @@
 -- Outside attribute memory space, index and address matter only through the offset: the same offset means the same in any two maps that answer.
+use Rattle.std.proofs.Common.{Err}
 use Prim.Native.Nat.{ℕ}
 use mathlib.Core.Path.{◌≡◌, sym, ap, ◌∙◌}
 use mathlib.Core.Bool.{true, false}
@@ -6,7 +7,6 @@ use borrow.Author.Tests.{ne_eqb}
 use Rattle.answers.specs.declared.Refusal.TheVariants.{SpaceSilent}
 use Rattle.maps.specs.declared.Access.{Access}
 use Rattle.maps.specs.declared.Mode.{Mode}
-use Rattle.maps.specs.declared.Standing.TheVariants.{Refused}
 use Rattle.maps.specs.Spaces.{answers_at}
 use Rattle.maps.specs.Offsets.{Offset, offset_at}
 use Rattle.maps.specs.Places.{offset_place, map_place, place_at}
@@ -17,7 +17,7 @@ abbrev pub moved_to : ℕ → ℕ → Access → Access
 moved_to space address a = record { space = space; width = a.width; write = a.write; address = address; value = a.value }
 
 -- a space that does not answer
-pub silent_stands : (mode : Mode) (index : ℕ) (a : Access) → answers_at a.space mode index ≡ false → stands_at mode index a ≡ Refused SpaceSilent
+pub silent_stands : (mode : Mode) (index : ℕ) (a : Access) → answers_at a.space mode index ≡ false → stands_at mode index a ≡ Err SpaceSilent
 unfolding stands_at place_at
 silent_stands mode index a e = simp e
 

@@ -1,4 +1,5 @@
 -- What is known of an access by what stands there: what a caller may rely on, and the only refusals that can come.
+use Rattle.std.proofs.Common.{Ok, Err, Some, None}
 use Prim.Native.Nat.{ℕ, ◌≤◌, ◌%◌, ◌/◌}
 use native.Mathlib.Omega.{arith}
 use lib.Dec.{eqb, leb}
@@ -18,12 +19,10 @@ use Rattle.maps.specs.declared.Port.TheVariants.{Even, Odd, Word}
 use Rattle.maps.specs.declared.Target.TheVariants.{Tuple, Option, Named, Data}
 use Rattle.maps.specs.declared.Place.{Place}
 use Rattle.maps.specs.declared.Place.TheVariants.{Silent, Nothing, Bytes, EvenData}
-use Rattle.maps.specs.declared.Standing.{Standing}
-use Rattle.maps.specs.declared.Standing.TheVariants.{There, Refused}
 use Rattle.maps.specs.Spaces.{answers_at}
-use Rattle.maps.specs.Offsets.{Offset, At, Nowhere, offset_at}
+use Rattle.maps.specs.Offsets.{Offset, offset_at}
 use Rattle.maps.specs.Places.{register_table, register_place, offset_place, attribute_place, map_place, place_at}
-use Rattle.maps.specs.Rows.{silent, unregistered, even_data, misfits, option, above_three, moved, stands_as, stands_at}
+use Rattle.maps.specs.Rows.{silent, unregistered, even_data, misfits, option, above_three, moved, stands_as, stands_at, Standing}
 
 -- ---- what stands at a place, by its space
 
@@ -56,8 +55,8 @@ attribute_known space address z =
     (λ e. pick-elim (PlaceKnown space) (eqb address 0x200) (Bytes Option) Nothing (λ f. z) (λ f. tt))
 
 offset_known : (o : Offset) (space : ℕ) → (space ≡ 0 → ⊥) → PlaceKnown space (offset_place o)
-offset_known (At o) space n = register_elim (PlaceKnown space) o n n (λ r. n) tt
-offset_known Nowhere space n = tt
+offset_known (Some o) space n = register_elim (PlaceKnown space) o n n (λ r. n) tt
+offset_known None space n = tt
 
 place_known : (mode : Mode) (index : ℕ) (a : Access) → PlaceKnown a.space (place_at mode index a)
 unfolding place_at map_place
@@ -80,17 +79,17 @@ abbrev pub of_maps : Refusal → Bool
 of_maps r = eqb (number_of r) 7 || (eqb (number_of r) 6 || (eqb (number_of r) 9 || eqb (number_of r) 10))
 
 abbrev pub Known : Access → Standing → Type 0
-Known a (There (Tuple number)) = (a.space ≡ 0) × (number ≤ 255) × (a.write ≡ false) × Byte a
-Known a (There Option) = (a.space ≡ 0) × (a.write ≡ true → a.value % 64 ≤ 3) × Byte a
-Known a (There (Named register)) = (a.space ≡ 0 → ⊥) × Byte a
-Known a (There (Data Even)) = (a.space ≡ 0 → ⊥) × Byte a
-Known a (There (Data Odd)) = (a.space ≡ 0 → ⊥) × Byte a
-Known a (There (Data Word)) = (a.space ≡ 0 → ⊥) × (a.width ≡ 2)
-Known a (Refused refusal) = of_maps refusal ≡ true
+Known a (Ok (Tuple number)) = (a.space ≡ 0) × (number ≤ 255) × (a.write ≡ false) × Byte a
+Known a (Ok Option) = (a.space ≡ 0) × (a.write ≡ true → a.value % 64 ≤ 3) × Byte a
+Known a (Ok (Named register)) = (a.space ≡ 0 → ⊥) × Byte a
+Known a (Ok (Data Even)) = (a.space ≡ 0 → ⊥) × Byte a
+Known a (Ok (Data Odd)) = (a.space ≡ 0 → ⊥) × Byte a
+Known a (Ok (Data Word)) = (a.space ≡ 0 → ⊥) × (a.width ≡ 2)
+Known a (Err refusal) = of_maps refusal ≡ true
 
 -- the rows in turn
 pub stands_elim : (P : Standing → Type 0) (p : Place) (a : Access) →
-    P (Refused SpaceSilent) → P (Refused NoRegister) → P (Refused WidthOrValue) → P (Refused IndexAboveThree) →
+    P (Err SpaceSilent) → P (Err NoRegister) → P (Err WidthOrValue) → P (Err IndexAboveThree) →
     (silent p ≡ false → unregistered p a.write ≡ false → misfits (even_data p) a ≡ false → (option p && above_three a) ≡ false → P (moved p a.width)) →
     P (stands_as p a)
 stands_elim P p a seven six nine ten f =
@@ -122,7 +121,7 @@ moved_known (Bytes (Data Even)) a k s u m o = absurd k
 moved_known (Bytes (Data Odd)) a k s u m o = (k, single a m)
 moved_known (Bytes (Data Word)) a k s u m o = absurd k
 moved_known EvenData a k s u m o =
-    pick-elim (λ (p : _). Known a (There (Data p))) (eqb a.width 2) _ _
+    pick-elim (λ (p : _). Known a (Ok (Data p))) (eqb a.width 2) _ _
     (λ f. (k, eqb-true _ _ f))
     (λ f. (k, byte_fits true a (simp f) m))
 
@@ -132,14 +131,14 @@ stands_known mode index a s e =
     subst (Known a) e (stands_elim (Known a) (place_at mode index a) a refl refl refl refl (moved_known (place_at mode index a) a (place_known mode index a)))
 
 -- the Configuration Option Register stands in attribute memory only, and is written with a byte whose index is at most 3
-pub option-written : (mode : Mode) (index : ℕ) (a : Access) → a.write ≡ true → stands_at mode index a ≡ There Option → (a.space ≡ 0) × (a.value % 64 ≤ 3) × (a.value ≤ 255)
+pub option-written : (mode : Mode) (index : ℕ) (a : Access) → a.write ≡ true → stands_at mode index a ≡ Ok Option → (a.space ≡ 0) × (a.value % 64 ≤ 3) × (a.value ≤ 255)
 option-written mode index a w e =
     let f = stands_known mode index a _ e in
     (f.0, f.1 w, f.2.small w)
 
-pub option_space : (mode : Mode) (index : ℕ) (a : Access) → stands_at mode index a ≡ There Option → a.space ≡ 0
+pub option_space : (mode : Mode) (index : ℕ) (a : Access) → stands_at mode index a ≡ Ok Option → a.space ≡ 0
 option_space mode index a e = (stands_known mode index a _ e).0
 
 -- no other refusal comes from the maps
-pub refused-rows : (mode : Mode) (index : ℕ) (a : Access) (r : Refusal) → stands_at mode index a ≡ Refused r → of_maps r ≡ true
+pub refused-rows : (mode : Mode) (index : ℕ) (a : Access) (r : Refusal) → stands_at mode index a ≡ Err r → of_maps r ≡ true
 refused-rows mode index a r e = stands_known mode index a _ e

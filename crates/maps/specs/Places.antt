@@ -1,5 +1,5 @@
 -- 01, "Maps": what stands at an address, whatever the width and the value of the access.
-use Rattle.std.specs.Prelude.{ℕ, ◌/◌, ◌%◌, eqb, leb, List, [], ◌∷◌}
+use Rattle.std.specs.Prelude.{ℕ, ◌/◌, ◌%◌, eqb, leb, List, [], ◌∷◌, Some, None}
 use Rattle.ground.specs.Choice.{pick}
 use Rattle.ground.specs.Tables.{Numbered, lookup}
 use Rattle.maps.specs.declared.Access.{Access}
@@ -10,7 +10,7 @@ use Rattle.maps.specs.declared.Target.TheVariants.{Tuple, Option, Named, Data}
 use Rattle.maps.specs.declared.Place.{Place}
 use Rattle.maps.specs.declared.Place.TheVariants.{Silent, Nothing, Bytes, EvenData}
 use Rattle.maps.specs.Spaces.{answers_at}
-use Rattle.maps.specs.Offsets.{Offset, At, Nowhere, offset_at}
+use Rattle.maps.specs.Offsets.{Offset, offset_at}
 
 -- Attribute: even 000H..1FEH are tuple bytes 0..255 (read only); 200H the Configuration Option Register.
 abbrev pub option_address : ℕ
@@ -45,8 +45,8 @@ unfoldable pub register_place : ℕ → Place
 register_place offset = lookup register_table offset Nothing
 
 abbrev pub offset_place : Offset → Place
-offset_place (At offset) = register_place offset
-offset_place Nowhere = Nothing
+offset_place (Some offset) = register_place offset
+offset_place None = Nothing
 
 -- Attribute memory is decided apart: it answers at every index; the other spaces only by the offset in their map.
 unfoldable pub map_place : ℕ → ℕ → ℕ → Place

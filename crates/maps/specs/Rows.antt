@@ -1,5 +1,5 @@
 -- 01, "Answers", rows 7, 6, 9 and 10: what an access finds at a place, or a refusal. "The first that applies, in this order, is given".
-use Rattle.std.specs.Prelude.{ℕ, ◌%◌, eqb, ltb, Bool, true, false, not, ◌&&◌, List, [], ◌∷◌}
+use Rattle.std.specs.Prelude.{ℕ, ◌%◌, eqb, ltb, Bool, true, false, not, ◌&&◌, List, [], ◌∷◌, Ok, Err, Result}
 use Rattle.ground.specs.Choice.{pick}
 use Rattle.ground.specs.Rows.{Row, When, first_of}
 use Rattle.ground.specs.Tables.{Numbered, lookup}
@@ -12,8 +12,6 @@ use Rattle.maps.specs.declared.Target.{Target}
 use Rattle.maps.specs.declared.Target.TheVariants.{Tuple, Option, Named, Data}
 use Rattle.maps.specs.declared.Place.{Place}
 use Rattle.maps.specs.declared.Place.TheVariants.{Silent, Nothing, Bytes, EvenData}
-use Rattle.maps.specs.declared.Standing.{Standing}
-use Rattle.maps.specs.declared.Standing.TheVariants.{There, Refused}
 use Rattle.maps.specs.Places.{place_at}
 
 -- 7: the space does not answer
@@ -76,15 +74,19 @@ place_table p a =
     ∷ When (option p && above_three a) IndexAboveThree
     ∷ []
 
+-- what an access finds: what is read or written there, or its refusal
+abbrev pub Standing : Type 0
+Standing = Result Target Refusal
+
 -- what is moved there: at an even data address a word, or the even byte; the first two places have a row above
 abbrev pub moved : Place → ℕ → Standing
-moved Silent width = Refused SpaceSilent
-moved Nothing width = Refused NoRegister
-moved (Bytes target) width = There target
-moved EvenData width = There (Data (pick (eqb width 2) Word Even))
+moved Silent width = Err SpaceSilent
+moved Nothing width = Err NoRegister
+moved (Bytes target) width = Ok target
+moved EvenData width = Ok (Data (pick (eqb width 2) Word Even))
 
 abbrev pub stands_as : Place → Access → Standing
-stands_as p a = first_of (place_table p a) Refused (moved p a.width)
+stands_as p a = first_of (place_table p a) Err (moved p a.width)
 
 unfoldable pub stands_at : Mode → ℕ → Access → Standing
 stands_at mode index a = stands_as (place_at mode index a) a

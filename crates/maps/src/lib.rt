@@ -2,8 +2,6 @@
 // Spaces: 0 attribute, 1 memory, 2 I/O, 3 True IDE.
 #![tactic(auto)]
 
-use answers::Refusal;
-
 pub mod offsets;
 pub mod places;
 pub mod rows;
@@ -18,7 +16,7 @@ pub enum Mode {
 // 01: "200H the Configuration Option Register".
 pub const OPTION_ADDRESS: u16 = 0x200;
 
-// An access: any space, width, address and value, read or write.
+// An access: any space, width, address and value, read or write. Space and width are numbers, since 01 has an answer for each of them.
 #[derive(Clone, Copy)]
 pub struct Access {
     pub space: u8,
@@ -60,18 +58,11 @@ pub enum Target {
 }
 
 // What stands at an address: no space that answers, nothing, what is read and written by single bytes, or an even data address, where a word is
-// allowed too.
+// allowed too. The first two are no refusals yet: rows 7 and 6 are tests of a place in `place_table`, by which card's `first-row` goes.
 #[derive(Clone, Copy)]
 pub enum Place {
     Silent,
     Nothing,
     Bytes(Target),
     EvenData,
-}
-
-// What an access finds: what is read or written there, or its refusal by row 7, 6, 9 or 10.
-#[derive(Clone, Copy)]
-pub enum Standing {
-    There(Target),
-    Refused(Refusal),
 }

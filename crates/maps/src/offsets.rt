@@ -1,52 +1,79 @@
-// 01, "Maps": the offset of an address in its map. Where the map does not list the address it is A, at which no register stands.
+// 01, "Maps": the offset of an address in its map, or none where the map does not list the address.
 ghost use Rattle.std.specs.Prelude.{◌≡◌};
-ghost use Rattle.ground.specs.Choice.{within};
-ghost use Rattle.maps.specs.Offsets.{window_at, memory_at, contiguous_at, offset_number};
+ghost use Rattle.maps.specs.Offsets.{window_at, memory_at, contiguous_at};
 
 // Index 0, memory.
-pub(crate) fn memory_at(address: u16) -> u16
-    ensures { result ≡ offset_number (memory_at address) }
+#[tactic(auto, unfolding(crate::specs::Offsets::memory_at))]
+pub(crate) fn memory_at(address: u16) -> Option<u16>
+    ensures { result ≡ memory_at address }
 {
-    if address <= 0x3FF {
-        return address % 16;
+    match address {
+        0..=0x3FF => Some(address % 16),
+        0x400..=0x7FF => Some(8 + address % 2),
+        _ => None,
     }
-    if address <= 0x7FF {
-        return 8 + address % 2;
-    }
-    0xA
 }
 
 // Index 1, I/O.
-pub(crate) fn contiguous_at(address: u16) -> u16
-    ensures { result ≡ offset_number (contiguous_at address) }
+#[tactic(auto, unfolding(crate::specs::Offsets::contiguous_at))]
+pub(crate) fn contiguous_at(address: u16) -> Option<u16>
+    ensures { result ≡ contiguous_at address }
 {
-    if address <= 0x7FF {
-        return address % 16;
+    match address {
+        0..=0x7FF => Some(address % 16),
+        _ => None,
     }
-    0xA
 }
 
-fn within(first: u16, last: u16, address: u16) -> bool
-    ensures { result ≡ within first last address }
-{
-    if address < first {
-        return false;
-    }
-    address <= last
+// A map of ten addresses.
+#[derive(Clone, Copy)]
+pub(crate) struct Window {
+    first: u16,
+    last: u16,
+    alternate: u16,
+    drive: u16,
 }
 
-// A map of ten addresses: offsets 0 to 7 from the first on, then E and F.
-pub(crate) fn window_at(first: u16, last: u16, alternate: u16, drive: u16, address: u16) -> u16
-    ensures { result ≡ offset_number (window_at first last alternate drive address) }
-{
-    if within(first, last, address) {
-        return address - first;
+// True IDE.
+pub(crate) const TRUE_IDE: Window = Window {
+    first: 0x00,
+    last: 0x07,
+    alternate: 0x16,
+    drive: 0x17,
+};
+
+// Index 2, I/O.
+pub(crate) const PRIMARY: Window = Window {
+    first: 0x1F0,
+    last: 0x1F7,
+    alternate: 0x3F6,
+    drive: 0x3F7,
+};
+
+// Index 3, I/O.
+pub(crate) const SECONDARY: Window = Window {
+    first: 0x170,
+    last: 0x177,
+    alternate: 0x376,
+    drive: 0x377,
+};
+
+impl Window {
+    // Offsets 0 to 7 from the first address on, then E and F.
+    #[tactic(auto, unfolding(crate::specs::Offsets::window_at))]
+    pub(crate) fn offset_of(self, address: u16) -> Option<u16>
+        ensures { result ≡ window_at self.first self.last self.alternate self.drive address }
+    {
+        // Early returns: as one chain of `else if` an access by words takes 3 instructions more.
+        if (self.first..=self.last).contains(&address) {
+            return Some(address - self.first);
+        }
+        if address == self.alternate {
+            return Some(0xE);
+        }
+        if address == self.drive {
+            return Some(0xF);
+        }
+        None
     }
-    if address == alternate {
-        return 0xE;
-    }
-    if address == drive {
-        return 0xF;
-    }
-    0xA
 }

@@ -1,9 +1,8 @@
 -- Reads and writes of the data port: 01, "Data".
-use Rattle.std.specs.Prelude.{ℕ, List, ltb}
+use Rattle.std.specs.Prelude.{ℕ, List, ltb, Ok, Err, None, Some}
 use Rattle.ground.specs.Choice.{pick}
 use Rattle.ground.specs.Left.{Left, leaving}
 use Rattle.ground.specs.Sizes.{last_word}
-use Rattle.answers.specs.declared.Outcome.{Outcome}
 use Rattle.answers.specs.declared.Refusal.{Refusal}
 use Rattle.answers.specs.declared.Refusal.TheVariants.{HalfMoved}
 use Rattle.maps.specs.declared.Port.{Port}
@@ -15,10 +14,10 @@ use Rattle.registers.specs.Machine.{Machine, machine, core, with_core, with_buff
 use Rattle.port.specs.declared.Part.{Part}
 use Rattle.port.specs.declared.Fill.{Fill}
 use Rattle.port.specs.declared.Fill.TheVariants.{Begun, Full}
-use Rattle.port.specs.declared.Take.{Take}
 use Rattle.port.specs.declared.Done.{Done}
-use Rattle.port.specs.Halves.{take_of, part_value, with_part, halved, next_word}
+use Rattle.port.specs.Halves.{take_of, part_value, with_part, halved, next_word, Take}
 use Rattle.transfers.specs.Steps.{load_read, load_written, all_moved}
+use Rattle.answers.specs.Answers.{Outcome}
 
 -- what an access leaves: its outcome and the machine
 abbrev pub Effect : Type 0
@@ -28,10 +27,10 @@ abbrev pub effect : Done → List ℕ → List ℕ → List ℕ → Effect
 effect d buffer store marks = leaving d.outcome (machine d.core buffer store marks)
 
 abbrev pub accepted : ℕ → Machine → Effect
-accepted value m = leaving (Outcome.Accepted value) m
+accepted value m = leaving (Ok value) m
 
 abbrev pub refused_with : Refusal → Machine → Effect
-refused_with r m = leaving (Outcome.Refused r) m
+refused_with r m = leaving (Err r) m
 
 abbrev pub with_phase : Phase → Machine → Machine
 with_phase p m = with_core (core p m.state) m
@@ -48,8 +47,8 @@ part_read Full part t m = word_read t m
 part_read Begun part t m = with_phase (DataIn (halved part t)) m
 
 abbrev pub taken_read : Take → Transfer → Machine → Effect
-taken_read Take.Refused t m = refused_with HalfMoved m
-taken_read (Take.Moves part fill) t m = accepted (part_value part t.words m.buffer) (part_read fill part t m)
+taken_read None t m = refused_with HalfMoved m
+taken_read (Some (part, fill)) t m = accepted (part_value part t.words m.buffer) (part_read fill part t m)
 
 -- "Refusal 11 is given only for an access in the running transfer's direction. With no transfer that way, a read gives FFH or FFFFH …"
 abbrev pub absent_value : Port → ℕ
@@ -86,8 +85,8 @@ part_written Begun part t m = with_phase (DataOut (halved part t)) m
 
 -- "Read sectors, Identify and writes pass through the same buffer, a written byte at once"
 abbrev pub taken_written : Take → ℕ → Transfer → Machine → Effect
-taken_written Take.Refused value t m = refused_with HalfMoved m
-taken_written (Take.Moves part fill) value t m = accepted 0 (part_written fill part t (with_buffer (with_part part t.words value m.buffer) m))
+taken_written None value t m = refused_with HalfMoved m
+taken_written (Some (part, fill)) value t m = accepted 0 (part_written fill part t (with_buffer (with_part part t.words value m.buffer) m))
 
 -- "… and a write has no effect (H)"
 abbrev pub phase_written : Phase → Port → ℕ → Machine → Effect

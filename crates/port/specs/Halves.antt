@@ -1,13 +1,12 @@
 -- 01, "Data": what of a word an access moves.
-use Rattle.std.specs.Prelude.{ℕ, ◌+◌, ◌*◌, ◌/◌, ◌%◌, List, get_or, set}
+use Rattle.std.specs.Prelude.{ℕ, ◌+◌, ◌*◌, ◌/◌, ◌%◌, List, get_or, set, None, Option, Some}
 use Rattle.maps.specs.declared.Port.{Port}
 use Rattle.registers.specs.declared.Half.{Half}
 use Rattle.registers.specs.declared.Transfer.{Transfer}
 use Rattle.port.specs.declared.Part.{Part}
 use Rattle.port.specs.declared.Part.TheVariants.{Low, High, Both}
 use Rattle.port.specs.declared.Fill.TheVariants.{Begun, Full}
-use Rattle.port.specs.declared.Take.{Take}
-use Rattle.port.specs.declared.Take.TheVariants.{Refused, Moves}
+use Rattle.port.specs.declared.Fill.{Fill}
 
 -- "A sector moves as 256 words, low byte first."
 abbrev pub low_at : ℕ → ℕ
@@ -19,16 +18,19 @@ high_at words = 2 * words + 1
 -- "Within a word nothing, the low half or the high half has moved."
 -- "A byte at 0 or 8 moves the low half if it hasn't moved, else the high. A byte at 9 moves the high half, else refusal 11";
 -- a word moves both, where nothing has moved. Beside the part: whether the word is whole with it.
+abbrev pub Take : Type 0
+Take = Option (Part × Fill)
+
 unfoldable pub take_of : Half → Port → Take
-take_of Half.Nothing Port.Even = Moves Low Begun
-take_of Half.Nothing Port.Odd = Moves High Begun
-take_of Half.Nothing Port.Word = Moves Both Full
-take_of Half.Low Port.Even = Moves High Full
-take_of Half.Low Port.Odd = Moves High Full
-take_of Half.Low Port.Word = Refused
-take_of Half.High Port.Even = Moves Low Full
-take_of Half.High Port.Odd = Refused
-take_of Half.High Port.Word = Refused
+take_of Half.Nothing Port.Even = Some (Low, Begun)
+take_of Half.Nothing Port.Odd = Some (High, Begun)
+take_of Half.Nothing Port.Word = Some (Both, Full)
+take_of Half.Low Port.Even = Some (High, Full)
+take_of Half.Low Port.Odd = Some (High, Full)
+take_of Half.Low Port.Word = None
+take_of Half.High Port.Even = Some (Low, Full)
+take_of Half.High Port.Odd = None
+take_of Half.High Port.Word = None
 
 -- the part of a word in the buffer
 abbrev pub part_value : Part → ℕ → List ℕ → ℕ

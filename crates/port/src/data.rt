@@ -1,40 +1,21 @@
 // Reads and writes of the data port.
 ghost use Rattle.std.specs.Prelude.{◌≡◌};
-ghost use Rattle.registers.specs.Machine.{machine, core};
+ghost use Rattle.registers.specs.Machine.{machine};
 ghost use Rattle.port.specs.Halves.{take_of};
-ghost use Rattle.port.specs.Data.{effect, word_read, part_read, taken_read, absent_value, held_value, data_read, word_written, part_written, taken_written, data_written};
+ghost use Rattle.port.specs.Data.{effect, part_read, absent_value, held_value, data_read, part_written, taken_written, data_written};
 
-use super::{Done, Fill, Part, Take};
+use super::{Done, Fill, Part};
 use answers::Refusal;
 use ground::{LAST_WORD, Sector};
 use maps::Port;
-use registers::{Core, Phase, State, Transfer};
+use registers::{BUSY_STATUS, Core, Phase, Transfer};
 
 // 01, "Registers": what data words read as while Device Control holds the card.
 pub(crate) const BUSY_WORD: u16 = 0x8080;
 
-// A word is whole: the next one, or the last byte has gone.
-fn word_read(
-    state: State,
-    transfer: Transfer,
-    buffer: &mut Sector,
-    store: &[u8],
-    marks: &[u8],
-) -> Core
-    ensures { machine result buffer.new store.now marks.now ≡ word_read transfer (machine (core (Phase.DataIn transfer) state) buffer.old store.now marks.now) }
-{
-    if transfer.words < LAST_WORD {
-        let next = super::halves::next_word(transfer);
-        return Core {
-            phase: Phase::DataIn(next),
-            state: state,
-        };
-    }
-    let load = transfer.load;
-    transfers::steps::load_read(state, load, buffer, store, marks)
-}
-
-// A part has gone: the word is whole, or begun.
+// A part has gone: the transfer goes on, or its last byte has gone. By itself for each way: with what is left of the transfer from one function for
+// both, as an Option, an access by words takes 139.7 instructions in place of 134.4, by bytes 170.0 in place of 165.6.
+#[tactic(auto, unfolding(crate::specs::Data::word_read))]
 fn part_read(
     core: Core,
     transfer: Transfer,
@@ -46,38 +27,20 @@ fn part_read(
 ) -> Core
     ensures { machine result buffer.new store.now marks.now ≡ part_read fill part transfer (machine core buffer.old store.now marks.now) }
 {
-    let state = core.state;
-    match fill {
-        Fill::Begun => {
-            let next = super::halves::halved(transfer, part);
-            Core {
-                phase: Phase::DataIn(next),
-                state: state,
-            }
-        }
-        Fill::Full => word_read(state, transfer, buffer, store, marks),
-    }
-}
-
-// A read in a transfer in.
-fn taken_read(
-    core: Core,
-    transfer: Transfer,
-    port: Port,
-    buffer: &mut Sector,
-    store: &[u8],
-    marks: &[u8],
-) -> Done
-    ensures { effect result buffer.new store.now marks.now ≡ taken_read (take_of transfer.half port) transfer (machine core buffer.old store.now marks.now) }
-{
-    let half = transfer.half;
-    match super::halves::take_of(half, port) {
-        Take::Refused => super::refused(core, Refusal::HalfMoved),
-        Take::Moves(part, fill) => {
-            let value = super::halves::part_value(part, transfer.words, buffer);
-            let next = part_read(core, transfer, part, fill, buffer, store, marks);
-            super::accepted(next, value)
-        }
+    let next = match fill {
+        Fill::Begun => super::halves::halved(transfer, part),
+        Fill::Full if transfer.words < LAST_WORD => super::halves::next_word(transfer),
+        Fill::Full => return transfers::steps::load_read(
+            core.state,
+            transfer.load,
+            buffer,
+            store,
+            marks,
+        ),
+    };
+    Core {
+        phase: Phase::DataIn(next),
+        ..core
     }
 }
 
@@ -85,8 +48,7 @@ fn absent_value(port: Port) -> u16
     ensures { result ≡ absent_value port }
 {
     match port {
-        Port::Even => 0xFF,
-        Port::Odd => 0xFF,
+        Port::Even | Port::Odd => 0xFF,
         Port::Word => 0xFFFF,
     }
 }
@@ -96,51 +58,32 @@ fn held_value(port: Port) -> u16
     ensures { result ≡ held_value port }
 {
     match port {
-        Port::Even => registers::BUSY_STATUS as u16,
-        Port::Odd => registers::BUSY_STATUS as u16,
+        Port::Even | Port::Odd => u16::from(BUSY_STATUS),
         Port::Word => BUSY_WORD,
     }
 }
 
 // A read of the data port.
+#[tactic(auto, unfolding(crate::specs::Data::data_read))]
 pub fn read_data(core: Core, port: Port, buffer: &mut Sector, store: &[u8], marks: &[u8]) -> Done
     ensures { effect result buffer.new store.now marks.now ≡ data_read port (machine core buffer.old store.now marks.now) }
 {
-    let state = core.state;
-    let control = state.control;
-    if control.held {
+    if core.state.control.held {
         return super::accepted(core, held_value(port));
     }
-    let phase = core.phase;
-    match phase {
-        Phase::Idle => super::accepted(core, absent_value(port)),
-        Phase::DataIn(transfer) => taken_read(core, transfer, port, buffer, store, marks),
-        Phase::DataOut(_) => super::accepted(core, absent_value(port)),
-    }
+    let Phase::DataIn(transfer) = core.phase else {
+        return super::accepted(core, absent_value(port));
+    };
+    let Some((part, fill)) = super::halves::take_of(transfer.half, port) else {
+        return super::refused(core, Refusal::HalfMoved);
+    };
+    let value = super::halves::part_value(part, transfer.words, buffer);
+    let next = part_read(core, transfer, part, fill, buffer, store, marks);
+    super::accepted(next, value)
 }
 
-// A word is whole: the next one, or the last byte has come.
-fn word_written(
-    state: State,
-    transfer: Transfer,
-    buffer: &Sector,
-    store: &mut [u8],
-    marks: &mut [u8],
-) -> Core
-    ensures { machine result buffer.now store.new marks.new ≡ word_written transfer (machine (core (Phase.DataOut transfer) state) buffer.now store.old marks.old) }
-{
-    if transfer.words < LAST_WORD {
-        let next = super::halves::next_word(transfer);
-        return Core {
-            phase: Phase::DataOut(next),
-            state: state,
-        };
-    }
-    let load = transfer.load;
-    transfers::steps::load_written(state, load, buffer, store, marks)
-}
-
-// A part has come: the word is whole, or begun.
+// A part has come: the transfer goes on, or its last byte has come.
+#[tactic(auto, unfolding(crate::specs::Data::word_written))]
 fn part_written(
     core: Core,
     transfer: Transfer,
@@ -152,20 +95,24 @@ fn part_written(
 ) -> Core
     ensures { machine result buffer.now store.new marks.new ≡ part_written fill part transfer (machine core buffer.now store.old marks.old) }
 {
-    let state = core.state;
-    match fill {
-        Fill::Begun => {
-            let next = super::halves::halved(transfer, part);
-            Core {
-                phase: Phase::DataOut(next),
-                state: state,
-            }
-        }
-        Fill::Full => word_written(state, transfer, buffer, store, marks),
+    let next = match fill {
+        Fill::Begun => super::halves::halved(transfer, part),
+        Fill::Full if transfer.words < LAST_WORD => super::halves::next_word(transfer),
+        Fill::Full => return transfers::steps::load_written(
+            core.state,
+            transfer.load,
+            buffer,
+            store,
+            marks,
+        ),
+    };
+    Core {
+        phase: Phase::DataOut(next),
+        ..core
     }
 }
 
-// A write in a transfer out: the part goes into the buffer at once.
+// A write in a transfer out: the part goes into the buffer at once. By itself: within `write_data` an access by words takes 5 instructions more, a write 8.
 fn taken_written(
     core: Core,
     transfer: Transfer,
@@ -177,10 +124,9 @@ fn taken_written(
 ) -> Done
     ensures { effect result buffer.new store.new marks.new ≡ taken_written (take_of transfer.half port) value transfer (machine core buffer.old store.old marks.old) }
 {
-    let half = transfer.half;
-    match super::halves::take_of(half, port) {
-        Take::Refused => super::refused(core, Refusal::HalfMoved),
-        Take::Moves(part, fill) => {
+    match super::halves::take_of(transfer.half, port) {
+        None => super::refused(core, Refusal::HalfMoved),
+        Some((part, fill)) => {
             super::halves::put_part(part, transfer.words, value, buffer);
             let next = part_written(core, transfer, part, fill, buffer, store, marks);
             super::accepted(next, 0)
@@ -189,6 +135,7 @@ fn taken_written(
 }
 
 // A write of the data port.
+#[tactic(auto, unfolding(crate::specs::Data::data_written))]
 pub fn write_data(
     core: Core,
     port: Port,
@@ -199,15 +146,11 @@ pub fn write_data(
 ) -> Done
     ensures { effect result buffer.new store.new marks.new ≡ data_written port value (machine core buffer.old store.old marks.old) }
 {
-    let state = core.state;
-    let control = state.control;
-    if control.held {
+    if core.state.control.held {
         return super::accepted(core, 0);
     }
-    let phase = core.phase;
-    match phase {
-        Phase::Idle => super::accepted(core, 0),
-        Phase::DataIn(_) => super::accepted(core, 0),
+    match core.phase {
+        Phase::Idle | Phase::DataIn(_) => super::accepted(core, 0),
         Phase::DataOut(transfer) => taken_written(
             core, transfer, port, value, buffer, store, marks,
         ),

@@ -1,47 +1,34 @@
 // 01, "Data": what of a word an access moves.
-ghost use Rattle.std.specs.Prelude.{◌≡◌, ◌<◌, get_or, set};
+ghost use Rattle.std.specs.Prelude.{◌≡◌, ◌<◌, set};
 ghost use Rattle.ground.specs.Sizes.{last_word};
 ghost use Rattle.port.specs.Halves.{take_of, part_value, with_part, half_of, halved, next_word};
 
-use super::{Fill, Part, Take};
-use ground::{SECTOR_BYTES, Sector};
+use super::{Fill, Part};
+use ground::Sector;
 use maps::Port;
 use registers::{Half, Transfer};
 
-// What an access at a port may take of a word.
-pub(crate) fn take_of(half: Half, port: Port) -> Take
+// What an access at a port may take of a word, and what becomes of the word with it.
+#[tactic(auto, unfolding(crate::specs::Halves::take_of))]
+pub(crate) fn take_of(half: Half, port: Port) -> Option<(Part, Fill)>
     ensures { result ≡ take_of half port }
 {
-    match half {
-        Half::Nothing => match port {
-            Port::Even => Take::Moves(Part::Low, Fill::Begun),
-            Port::Odd => Take::Moves(Part::High, Fill::Begun),
-            Port::Word => Take::Moves(Part::Both, Fill::Full),
-        },
-        Half::Low => match port {
-            Port::Even => Take::Moves(Part::High, Fill::Full),
-            Port::Odd => Take::Moves(Part::High, Fill::Full),
-            Port::Word => Take::Refused, // a word begun halfway
-        },
-        Half::High => match port {
-            Port::Even => Take::Moves(Part::Low, Fill::Full),
-            Port::Odd => Take::Refused,
-            Port::Word => Take::Refused,
-        },
+    match (half, port) {
+        (Half::Nothing, Port::Even) => Some((Part::Low, Fill::Begun)),
+        (Half::Nothing, Port::Odd) => Some((Part::High, Fill::Begun)),
+        (Half::Nothing, Port::Word) => Some((Part::Both, Fill::Full)),
+        (Half::Low, Port::Even | Port::Odd) => Some((Part::High, Fill::Full)),
+        (Half::Low, Port::Word) => None, // a word begun halfway
+        (Half::High, Port::Even) => Some((Part::Low, Fill::Full)),
+        (Half::High, Port::Odd | Port::Word) => None,
     }
 }
 
-fn buffer_byte(buffer: &Sector, at: usize) -> u16
-    ensures { (result ≡ get_or buffer.now at 0) × (result < 256) }
-{
-    ground::wide(ground::byte_or_zero(buffer, at))
-}
-
+// By an index: with a slice's `get_mut` the proof did not close, since nothing is known of the elements after it.
 fn set_byte(buffer: &mut Sector, at: usize, byte: u8)
     ensures { buffer.new ≡ set buffer.old at byte }
 {
-    ground::length_known(buffer);
-    if at < SECTOR_BYTES {
+    if at < buffer.len() {
         buffer[at] = byte;
     }
 }
@@ -50,11 +37,14 @@ fn set_byte(buffer: &mut Sector, at: usize, byte: u8)
 pub(crate) fn part_value(part: Part, words: u16, buffer: &Sector) -> u16
     ensures { result ≡ part_value part words buffer.now }
 {
-    let low = 2 * (words as usize);
+    let at = 2 * usize::from(words);
     match part {
-        Part::Low => buffer_byte(buffer, low),
-        Part::High => buffer_byte(buffer, low + 1),
-        Part::Both => buffer_byte(buffer, low) + 256 * buffer_byte(buffer, low + 1),
+        Part::Low => u16::from(ground::byte_or_zero(buffer, at)),
+        Part::High => u16::from(ground::byte_or_zero(buffer, at + 1)),
+        Part::Both => u16::from_le_bytes([
+            ground::byte_or_zero(buffer, at),
+            ground::byte_or_zero(buffer, at + 1),
+        ]),
     }
 }
 
@@ -62,13 +52,14 @@ pub(crate) fn part_value(part: Part, words: u16, buffer: &Sector) -> u16
 pub(crate) fn put_part(part: Part, words: u16, value: u16, buffer: &mut Sector)
     ensures { buffer.new ≡ with_part part words value buffer.old }
 {
-    let low = 2 * (words as usize);
+    let at = 2 * usize::from(words);
+    let [low, high] = value.to_le_bytes();
     match part {
-        Part::Low => set_byte(buffer, low, (value % 256) as u8),
-        Part::High => set_byte(buffer, low + 1, (value % 256) as u8),
+        Part::Low => set_byte(buffer, at, low),
+        Part::High => set_byte(buffer, at + 1, low),
         Part::Both => {
-            set_byte(buffer, low, (value % 256) as u8);
-            set_byte(buffer, low + 1, (value / 256) as u8);
+            set_byte(buffer, at, low);
+            set_byte(buffer, at + 1, high);
         }
     }
 }
@@ -87,12 +78,9 @@ fn half_of(part: Part) -> Half
 pub(crate) fn halved(transfer: Transfer, part: Part) -> Transfer
     ensures { result ≡ halved part transfer }
 {
-    let load = transfer.load;
-    let half = half_of(part);
     Transfer {
-        load: load,
-        half: half,
-        words: transfer.words,
+        half: half_of(part),
+        ..transfer
     }
 }
 
@@ -100,10 +88,9 @@ pub(crate) fn next_word(transfer: Transfer) -> Transfer
     requires { transfer.words < last_word }
     ensures { result ≡ next_word transfer }
 {
-    let load = transfer.load;
     Transfer {
-        load: load,
         half: Half::Nothing,
         words: transfer.words + 1,
+        ..transfer
     }
 }

@@ -24,13 +24,6 @@ pub enum Fill {
     Full,
 }
 
-// Whether a part may move: it is refused, or it moves, with what becomes of the word.
-#[derive(Clone, Copy)]
-pub enum Take {
-    Refused,
-    Moves(Part, Fill),
-}
-
 // An access's outcome, and the card without its buffer after it.
 #[derive(Clone, Copy)]
 pub struct Done {
@@ -40,19 +33,19 @@ pub struct Done {
 
 // A refusal, which leaves the core.
 pub fn refused(core: Core, refusal: Refusal) -> Done
-    ensures { result ≡ record { outcome = Outcome.Refused refusal; core = core } }
+    ensures { result ≡ record { outcome = Err refusal; core = core } }
 {
     Done {
-        outcome: Outcome::Refused(refusal),
-        core: core,
+        outcome: Err(refusal),
+        core,
     }
 }
 
 pub fn accepted(core: Core, value: u16) -> Done
-    ensures { result ≡ record { outcome = Outcome.Accepted value; core = core } }
+    ensures { result ≡ record { outcome = Ok value; core = core } }
 {
     Done {
-        outcome: Outcome::Accepted(value),
-        core: core,
+        outcome: Ok(value),
+        core,
     }
 }

@@ -4,6 +4,7 @@ use mathlib.Core.Bool.{Bool, true, false, ◌||◌, true≢false}
 use mathlib.Core.Path.{◌≡◌, refl, ap}
 use mathlib.Core.List.{List, [], ◌∷◌, ◌++◌}
 use native.Mathlib.Omega.{arith}
+use Rattle.std.specs.Prelude.{Ok, Err}
 use lib.Dec.{eqb, ltb}
 use lib.ListN.{length}
 use borrow.Author.Tests.{ltb-false, eqb-true}
@@ -11,7 +12,6 @@ use Rattle.ground.specs.Rows.{Row, When, Unless, applies, first_of}
 use Rattle.ground.proofs.Picks.{un_not}
 use Rattle.maps.specs.declared.Access.{Access}
 use Rattle.records.specs.declared.Break.{Break}
-use Rattle.records.specs.declared.After.{After}
 use Rattle.records.specs.Record.{head_length, word_at, kind_at, access_length, access_in, fit_breaks, after_breaks, access_breaks, next_record}
 
 -- no row applies
@@ -19,21 +19,18 @@ abbrev Silent : List (Row Break) → Type 0
 Silent [] = Unit {0}
 Silent (x ∷ l) = (applies x ≡ false) × Silent l
 
-not_broken : {X : Type 0} (why : Break) (a : Access) → After.Stop why ≡ After.Access a → X
-not_broken why a e = let z : ◌≡◌ {A = ℕ} 0 1 = cc in absurd (omega arith)
-
-passed : (l : List (Row Break)) (a b : Access) → first_of l After.Stop (After.Access a) ≡ After.Access b → (a ≡ b) × Silent l
+passed : (l : List (Row Break)) (a b : Access) → first_of l Err (Ok a) ≡ Ok b → (a ≡ b) × Silent l
 passed [] a b e = (cc, tt)
-passed (When true r ∷ l) a b e = not_broken r b e
+passed (When true r ∷ l) a b e = cc
 passed (When false r ∷ l) a b e = let p = passed l a b e in (p.0, (refl, p.1))
 passed (Unless true r ∷ l) a b e = let p = passed l a b e in (p.0, (refl, p.1))
-passed (Unless false r ∷ l) a b e = not_broken r b e
+passed (Unless false r ∷ l) a b e = cc
 
 second : (t u : Bool) → t || u ≡ false → u ≡ false
 second true u e = absurd (true≢false e)
 second false u e = e
 
-pub access_fits : (b : Access) (file : List ℕ) (at : ℕ) → at < length file → next_record file at ≡ After.Access b → at + access_length b.write ≤ length file
+pub access_fits : (b : Access) (file : List ℕ) (at : ℕ) → at < length file → next_record file at ≡ Ok b → at + access_length b.write ≤ length file
 unfolding next_record
 access_fits b file at h e =
     let left = length file - at in

@@ -1,13 +1,11 @@
 -- 01, "Session file": "Records: total length (2 bytes), kind (2), body, all little-endian."
-use Rattle.std.specs.Prelude.{ℕ, ◌+◌, ◌*◌, ◌-◌, Bool, false, ◌||◌, List, [], ◌∷◌, ◌++◌, eqb, leb, ltb, length, get_or}
+use Rattle.std.specs.Prelude.{ℕ, ◌+◌, ◌*◌, ◌-◌, Bool, false, ◌||◌, List, [], ◌∷◌, ◌++◌, eqb, leb, ltb, length, get_or, Result, Ok, Err}
 use Rattle.ground.specs.Choice.{pick, within}
 use Rattle.ground.specs.Rows.{Row, When, Unless, first_of}
 use Rattle.maps.specs.declared.Access.{Access}
 use Rattle.records.specs.declared.Break.{Break}
 use Rattle.records.specs.declared.Break.TheVariants.{DoesNotFit, Length, Kind, Misplaced, Space, Width, Value}
 use Rattle.records.specs.declared.Sizes.{Sizes}
-use Rattle.records.specs.declared.First.{First}
-use Rattle.records.specs.declared.After.{After}
 
 abbrev pub word_at : List ℕ → ℕ → ℕ
 word_at file at = get_or file at 0 + 256 * get_or file (at + 1) 0
@@ -74,13 +72,13 @@ access_breaks size a = Unless (eqb size (access_length a.write)) Length ∷ fiel
 -- ---- what stands there
 
 -- "Kind 1, … first and once": at the start of the file
-unfoldable pub first_record : List ℕ → First
-first_record file = first_of (fit_breaks (length file) (word_at file 0) ++ opening_breaks (kind_at file 0) (word_at file 0)) First.Stop (First.Opening (sizes_in file))
+unfoldable pub first_record : List ℕ → Result Sizes Break
+first_record file = first_of (fit_breaks (length file) (word_at file 0) ++ opening_breaks (kind_at file 0) (word_at file 0)) Err (Ok (sizes_in file))
 
 -- after the opening: an access, of which kind 2 is a write
-unfoldable pub next_record : List ℕ → ℕ → After
+unfoldable pub next_record : List ℕ → ℕ → Result Access Break
 next_record file at =
     let size = word_at file at in
     let kind = kind_at file at in
     let a = access_in file at (eqb kind 2) in
-    first_of (fit_breaks (length file - at) size ++ after_breaks kind ++ access_breaks size a) After.Stop (After.Access a)
+    first_of (fit_breaks (length file - at) size ++ after_breaks kind ++ access_breaks size a) Err (Ok a)

@@ -1,11 +1,11 @@
 -- The card's state: changes of one part of it, and what is read off it.
-use Rattle.std.specs.Prelude.{ℕ, ◌%◌, Bool, true, false, leb}
+use Rattle.std.specs.Prelude.{ℕ, ◌%◌, Bool, true, false, leb, Option, None, Some}
 use Rattle.ground.specs.Choice.{pick}
 use Rattle.geometry.specs.declared.Address.{Address}
 use Rattle.geometry.specs.declared.Geometry.{Geometry}
-use Rattle.geometry.specs.declared.Located.{Located}
 use Rattle.geometry.specs.Limits.{total_of}
-use Rattle.geometry.specs.Address.{locate}
+use Rattle.geometry.specs.Address.{locate, Located}
+use Rattle.registers.specs.declared.Transfer.{Transfer}
 use Rattle.registers.specs.declared.Phase.{Phase}
 use Rattle.registers.specs.declared.Phase.TheVariants.{Idle, DataIn, DataOut}
 use Rattle.registers.specs.declared.Registers.{Registers}
@@ -61,6 +61,12 @@ abbrev pub runs : Phase → Bool
 runs Idle = false
 runs (DataIn t) = true
 runs (DataOut t) = true
+
+-- the transfer that runs, whichever way it goes
+abbrev pub transfer_of : Phase → Option Transfer
+transfer_of Idle = None
+transfer_of (DataIn t) = Some t
+transfer_of (DataOut t) = Some t
 
 -- 01, "Interrupt mark": "Each answer says if the line is up (mark set, bit 1 clear)"; "Bit 1 masks the interrupt line"
 abbrev pub line_of : State → Bool

@@ -11,44 +11,26 @@ pub const NO_BLOCK: u16 = 0;
 pub const SINGLE: u16 = 1;
 
 // 1, 2, 4, 8 or 16 sectors.
+#[tactic(auto, unfolding(crate::specs::Blocks::block_size))]
 pub fn block_size(n: u16) -> bool
     ensures { result ≡ block_size n }
 {
-    if n == 1 {
-        return true;
-    }
-    if n == 2 {
-        return true;
-    }
-    if n == 4 {
-        return true;
-    }
-    if n == 8 {
-        return true;
-    }
-    n == 16
+    matches!(n, 1 | 2 | 4 | 8 | 16)
 }
 
 // The pace of a command's first sector.
 pub fn pace_from(stride: u16) -> Pace
     ensures { result ≡ pace_from stride }
 {
-    Pace {
-        stride: stride,
-        place: 0,
-    }
+    Pace { stride, place: 0 }
 }
 
+#[tactic(auto, unfolding(crate::specs::Blocks::place_after))]
 fn place_after(stride: u16, place: u16) -> u16
     ensures { result ≡ place_after stride place }
 {
-    if place < stride {
-        let next = place + 1;
-        if next < stride {
-            return next;
-        }
-    }
-    0
+    let next = place.saturating_add(1); // 65,535 stays, and is below no stride
+    if next < stride { next } else { 0 }
 }
 
 impl Pace {

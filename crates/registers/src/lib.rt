@@ -98,7 +98,7 @@ pub struct Control {
 pub struct State {
     pub code: u8,
     pub current: Geometry,
-    pub block: u16, // 02, "One": the sectors of a block, or 0 for none
+    pub block: u16, // 02, "One": the sectors of a block, or 0 for none: a number, as the theorems opened_rest and block_rule (laws) say it
     pub interrupt: bool,
     pub control: Control,
     pub made: Made,

@@ -10,10 +10,9 @@ impl Made {
     pub fn power_on(self, bad: u16, option: u8) -> State
         ensures { result ≡ power_on self bad option }
     {
-        let default = self.default;
         State {
             made: self,
-            current: default,
+            current: self.default,
             registers: Registers {
                 status: super::IDLE_STATUS,
                 error: super::POWER_ON_ERROR,
@@ -25,14 +24,14 @@ impl Made {
                     head: 0,
                 },
             },
-            option: option,
+            option,
             control: Control {
                 held: false,
                 masked: false,
             },
             interrupt: false,
             code: 0x00,
-            bad: bad,
+            bad,
             block: super::blocks::NO_BLOCK,
         }
     }

@@ -2,7 +2,7 @@
 ghost use Rattle.std.specs.Prelude.{◌≡◌};
 ghost use Rattle.registers.specs.Resets.{turn_of, rest_status, entered, option_turned, buffer_turned, control_turned, control_written, option_core, option_buffer};
 
-use super::{Core, Phase, State};
+use super::{Control, Core, Phase, State};
 use ground::{SECTOR_BYTES, Sector};
 
 // What writing a reset's bit does to the hold.
@@ -14,19 +14,15 @@ pub enum Turn {
 }
 
 // Was the card held, is the bit set now.
+#[tactic(auto, unfolding(crate::specs::Resets::turn_of))]
 fn turn_of(was: bool, now: bool) -> Turn
     ensures { result ≡ turn_of was now }
 {
-    if was {
-        if now {
-            return Turn::Stay;
-        }
-        return Turn::Leave;
+    match (was, now) {
+        (false, true) => Turn::Enter,
+        (true, false) => Turn::Leave,
+        (false, false) | (true, true) => Turn::Stay,
     }
-    if now {
-        return Turn::Enter;
-    }
-    Turn::Stay
 }
 
 impl Phase {
@@ -36,8 +32,7 @@ impl Phase {
     {
         match self {
             Phase::Idle => status,
-            Phase::DataIn(_) => super::IDLE_STATUS,
-            Phase::DataOut(_) => super::IDLE_STATUS,
+            Phase::DataIn(_) | Phase::DataOut(_) => super::IDLE_STATUS,
         }
     }
 }
@@ -47,7 +42,7 @@ impl State {
     fn entered(mut self, phase: Phase) -> State
         ensures { result ≡ entered phase self }
     {
-        let registers = self.registers;
+        let registers = self.registers; // copied: without it an access by words takes 2 instructions more
         let status = phase.rest_status(registers.status);
         self.registers.status = status;
         self.interrupt = false;
@@ -55,12 +50,13 @@ impl State {
     }
 }
 
+// Two functions for the two resets: with one for both, and what is written stored after it, an access by words took 16 instructions more, one that polls 23.
 impl Core {
+    #[tactic(auto, unfolding(crate::specs::Resets::option_turned, crate::specs::Resets::buffer_turned, crate::specs::PowerOn::zeros))]
     fn option_turned(self, turn: Turn, value: u8, buffer: &mut Sector) -> Core
         ensures { (result ≡ option_turned turn value self.phase self.state) × (buffer.new ≡ buffer_turned turn buffer.old) }
     {
-        let phase = self.phase;
-        let state = self.state;
+        let Core { phase, mut state } = self;
         match turn {
             Turn::Enter => {
                 let mut held = state.entered(phase);
@@ -72,20 +68,14 @@ impl Core {
             }
             Turn::Leave => {
                 *buffer = [0u8; SECTOR_BYTES];
-                let made = state.made;
-                let powered = made.power_on(state.bad, value);
                 Core {
                     phase: Phase::Idle,
-                    state: powered,
+                    state: state.made.power_on(state.bad, value),
                 }
             }
             Turn::Stay => {
-                let mut set = state;
-                set.option = value;
-                Core {
-                    phase: phase,
-                    state: set,
-                }
+                state.option = value;
+                Core { phase, state }
             }
         }
     }
@@ -94,32 +84,29 @@ impl Core {
     pub fn write_option(self, value: u8, buffer: &mut Sector) -> Core
         ensures { (result ≡ option_core value self.phase self.state) × (buffer.new ≡ option_buffer value self.state buffer.old) }
     {
-        let state = self.state;
         let turn = turn_of(
-            super::states::sreset_in(state.option),
+            super::states::sreset_in(self.state.option),
             super::states::sreset_in(value),
         );
         self.option_turned(turn, value, buffer)
     }
 
+    #[tactic(auto, unfolding(crate::specs::Resets::control_turned))]
     fn control_turned(self, turn: Turn, masked: bool) -> Core
         ensures { result ≡ control_turned turn masked self.phase self.state }
     {
-        let phase = self.phase;
-        let state = self.state;
+        let Core { phase, mut state } = self;
         match turn {
             Turn::Enter => {
                 let mut held = state.entered(phase);
-                held.control.held = true;
-                held.control.masked = masked;
+                held.control = Control { held: true, masked };
                 Core {
                     phase: Phase::Idle,
                     state: held,
                 }
             }
             Turn::Leave => {
-                let made = state.made;
-                let mut powered = made.power_on(state.bad, state.option);
+                let mut powered = state.made.power_on(state.bad, state.option);
                 powered.control.masked = masked;
                 Core {
                     phase: Phase::Idle,
@@ -127,12 +114,8 @@ impl Core {
                 }
             }
             Turn::Stay => {
-                let mut set = state;
-                set.control.masked = masked;
-                Core {
-                    phase: phase,
-                    state: set,
-                }
+                state.control.masked = masked;
+                Core { phase, state }
             }
         }
     }
@@ -141,11 +124,8 @@ impl Core {
     pub fn write_control(self, value: u8) -> Core
         ensures { result ≡ control_written value self.phase self.state }
     {
-        let state = self.state;
-        let control = state.control;
         let held = value / 4 % 2 == 1; // bit 2
         let masked = value / 2 % 2 == 1; // bit 1
-        let turn = turn_of(control.held, held);
-        self.control_turned(turn, masked)
+        self.control_turned(turn_of(self.state.control.held, held), masked)
     }
 }

@@ -1,10 +1,10 @@
 // What is read off the card's state.
 ghost use Rattle.std.specs.Prelude.{◌≡◌};
 ghost use Rattle.geometry.specs.Address.{valid_address};
-ghost use Rattle.registers.specs.State.{sreset_in, index_in, runs, line_of, total_in, located_in};
+ghost use Rattle.registers.specs.State.{sreset_in, index_in, transfer_of, runs, line_of, total_in, located_in};
 
-use super::{Phase, State};
-use geometry::Located;
+use super::{Phase, State, Transfer};
+use geometry::{BadAddress, Spot};
 
 // ---- 01, "Maps": the Configuration Option Register
 
@@ -23,15 +23,21 @@ pub fn index_in(option: u8) -> u8
 }
 
 impl Phase {
+    // The transfer that runs, whichever way it goes.
+    pub(crate) fn transfer(self) -> Option<Transfer>
+        ensures { result ≡ transfer_of self }
+    {
+        match self {
+            Phase::Idle => None,
+            Phase::DataIn(transfer) | Phase::DataOut(transfer) => Some(transfer),
+        }
+    }
+
     // Whether a transfer runs.
     pub fn runs(self) -> bool
         ensures { result ≡ runs self }
     {
-        match self {
-            Phase::Idle => false,
-            Phase::DataIn(_) => true,
-            Phase::DataOut(_) => true,
-        }
+        !matches!(self, Phase::Idle)
     }
 }
 
@@ -40,39 +46,27 @@ impl State {
     pub fn line(self) -> bool
         ensures { result ≡ line_of self }
     {
-        if self.control.masked {
-            return false;
-        }
-        self.interrupt
+        !self.control.masked && self.interrupt
     }
 
     // N.
     pub fn total(self) -> u16
         ensures { result ≡ total_in self }
     {
-        let made = self.made;
-        let default = made.default;
-        default.total()
+        self.made.default.total()
     }
 
     // Where the address registers point.
-    pub fn located(self) -> Located
+    pub fn located(self) -> Result<Spot, BadAddress>
         ensures { result ≡ located_in self }
     {
-        let registers = self.registers;
-        let address = registers.address;
-        address.locate(self.current, self.total())
+        self.registers.address.locate(self.current, self.total())
     }
 
     // Whether the address registers name a sector.
     pub(crate) fn valid_address(self) -> bool
         ensures { result ≡ valid_address (located_in self) }
     {
-        match self.located() {
-            Located::Good(_) => true,
-            Located::BadHeadOrSector => false,
-            Located::BadCylinder => false,
-            Located::BadLba => false,
-        }
+        self.located().is_ok()
     }
 }

@@ -23,10 +23,7 @@ fn head_read(value: u8) -> u8
 fn drive_bits(head: u8) -> u8
     ensures { (result ≡ drive_bits head) × (result < 3) }
 {
-    if head / 16 % 2 == 1 {
-        return 1;
-    }
-    2
+    if head / 16 % 2 == 1 { 1 } else { 2 }
 }
 
 impl Phase {
@@ -34,8 +31,7 @@ impl Phase {
         ensures { (result ≡ writing_bit self) × (result < 65) }
     {
         match self {
-            Phase::Idle => 0x40,
-            Phase::DataIn(_) => 0x40,
+            Phase::Idle | Phase::DataIn(_) => 0x40,
             Phase::DataOut(_) => 0,
         }
     }
@@ -51,98 +47,94 @@ impl Core {
     fn register_value(self, register: Register) -> u8
         ensures { result ≡ register_value register self.phase self.state }
     {
-        let phase = self.phase;
-        let state = self.state;
-        let registers = state.registers;
-        let address = registers.address;
+        let registers = self.state.registers;
         match register {
             Register::ErrorFeature => registers.error,
             Register::SectorCount => registers.count,
-            Register::SectorNumber => address.sector,
-            Register::CylinderLow => address.low,
-            Register::CylinderHigh => address.high,
-            Register::DriveHead => head_read(address.head),
-            Register::StatusCommand => registers.status,
-            Register::AlternateControl => registers.status,
-            Register::DriveAddress => phase.drive_address(address.head),
+            Register::SectorNumber => registers.address.sector,
+            Register::CylinderLow => registers.address.low,
+            Register::CylinderHigh => registers.address.high,
+            Register::DriveHead => head_read(registers.address.head),
+            Register::StatusCommand | Register::AlternateControl => registers.status,
+            Register::DriveAddress => self.phase.drive_address(registers.address.head),
         }
     }
 
     // The value of a register's read: 80H while Device Control holds the card.
+    #[tactic(auto, unfolding(crate::specs::Values::value_read))]
     pub fn value_read(self, register: Register) -> u8
         ensures { result ≡ value_read register self.phase self.state }
     {
-        let state = self.state;
-        let control = state.control;
-        if control.held {
-            return super::BUSY_STATUS;
+        if self.state.control.held {
+            super::BUSY_STATUS
+        } else {
+            self.register_value(register)
         }
-        self.register_value(register)
     }
 }
 
 impl State {
-    // 01: reading Status clears the interrupt mark; no other register does.
+    // 01: reading Status clears the interrupt mark; no other register does (the old model cleared it at Alternate Status too).
+    #[tactic(auto, unfolding(crate::specs::Values::after_read))]
     pub fn after_read(mut self, register: Register) -> State
         ensures { result ≡ after_read register self }
     {
-        match register {
-            Register::ErrorFeature => self,
-            Register::SectorCount => self,
-            Register::SectorNumber => self,
-            Register::CylinderLow => self,
-            Register::CylinderHigh => self,
-            Register::DriveHead => self,
-            Register::StatusCommand => {
-                self.interrupt = false;
-                self
-            }
-            Register::AlternateControl => self, // the old model cleared it here too
-            Register::DriveAddress => self,
+        if matches!(register, Register::StatusCommand) {
+            self.interrupt = false;
         }
+        self
     }
 
     // Sector Count and the address registers, put back as a whole (D159); of the registers set below no other keeps anything of what is written.
     fn with_place(mut self, count: u8, address: Address) -> State
         ensures { result ≡ with_count count (with_address address self) }
     {
-        let mut registers = self.registers;
-        registers.count = count;
-        registers.address = address;
-        self.registers = registers;
+        self.registers.count = count;
+        self.registers.address = address;
         self
     }
 
     // A register is written.
+    #[tactic(auto, unfolding(crate::specs::Values::register_set))]
     pub fn register_set(self, register: Register, value: u8) -> State
         ensures { result ≡ register_set register value self }
     {
-        let registers = self.registers;
-        let count = registers.count;
-        let mut address = registers.address;
+        let count = self.registers.count;
+        let address = self.registers.address;
         match register {
-            Register::ErrorFeature => self,
             Register::SectorCount => self.with_place(value, address),
-            Register::SectorNumber => {
-                address.sector = value;
-                self.with_place(count, address)
-            }
-            Register::CylinderLow => {
-                address.low = value;
-                self.with_place(count, address)
-            }
-            Register::CylinderHigh => {
-                address.high = value;
-                self.with_place(count, address)
-            }
-            Register::DriveHead => {
-                let head = head_bits(value);
-                address.head = head;
-                self.with_place(count, address)
-            }
-            Register::StatusCommand => self,
-            Register::AlternateControl => self,
-            Register::DriveAddress => self,
+            Register::SectorNumber => self.with_place(
+                count,
+                Address {
+                    sector: value,
+                    ..address
+                },
+            ),
+            Register::CylinderLow => self.with_place(
+                count,
+                Address {
+                    low: value,
+                    ..address
+                },
+            ),
+            Register::CylinderHigh => self.with_place(
+                count,
+                Address {
+                    high: value,
+                    ..address
+                },
+            ),
+            Register::DriveHead => self.with_place(
+                count,
+                Address {
+                    head: head_bits(value),
+                    ..address
+                },
+            ),
+            Register::ErrorFeature
+            | Register::StatusCommand
+            | Register::AlternateControl
+            | Register::DriveAddress => self,
         }
     }
 }

@@ -7,6 +7,7 @@ use super::{Core, DATA_STATUS, ERROR_STATUS, FAULT_STATUS, IDLE_STATUS, Load, Pa
 use maps::Mode;
 
 // The map index is 0..3.
+#[tactic(auto, unfolding(crate::specs::WellMade::index_fits))]
 pub fn index_fits(option: u8) -> bool
     ensures { result ≡ index_fits option }
 {
@@ -14,6 +15,7 @@ pub fn index_fits(option: u8) -> bool
 }
 
 // SRESET is not set in mode 1.
+#[tactic(auto, unfolding(crate::specs::WellMade::sreset_fits))]
 fn sreset_fits(mode: Mode, option: u8) -> bool
     ensures { result ≡ sreset_fits mode option }
 {
@@ -24,87 +26,64 @@ fn sreset_fits(mode: Mode, option: u8) -> bool
 }
 
 // 50H, 51H or 71H.
+#[tactic(auto, unfolding(crate::specs::WellMade::at_rest))]
 fn at_rest(status: u8) -> bool
     ensures { result ≡ at_rest status }
 {
-    if status == IDLE_STATUS {
-        return true;
-    }
-    if status == ERROR_STATUS {
-        return true;
-    }
-    status == FAULT_STATUS
+    matches!(status, IDLE_STATUS | ERROR_STATUS | FAULT_STATUS)
 }
 
 // Status is 58H exactly while a transfer runs, else one of these.
+#[tactic(auto, unfolding(crate::specs::WellMade::status_fits))]
 fn status_fits(phase: Phase, status: u8) -> bool
     ensures { result ≡ status_fits phase status }
 {
     match phase {
         Phase::Idle => at_rest(status),
-        Phase::DataIn(_) => status == DATA_STATUS,
-        Phase::DataOut(_) => status == DATA_STATUS,
+        Phase::DataIn(_) | Phase::DataOut(_) => status == DATA_STATUS,
     }
 }
 
 impl State {
     // Whether SRESET or Device Control holds the card.
+    #[tactic(auto, unfolding(crate::specs::WellMade::in_reset))]
     fn in_reset(self) -> bool
         ensures { result ≡ in_reset self }
     {
-        if super::states::sreset_in(self.option) {
-            return true;
-        }
-        self.control.held
+        super::states::sreset_in(self.option) || self.control.held
     }
 }
 
 impl Phase {
     // No transfer runs in a held reset.
+    #[tactic(auto, unfolding(crate::specs::WellMade::hold_fits))]
     fn hold_fits(self, reset: bool) -> bool
         ensures { result ≡ hold_fits self reset }
     {
-        match self {
-            Phase::Idle => true,
-            Phase::DataIn(_) => !reset,
-            Phase::DataOut(_) => !reset,
-        }
+        !(reset && self.runs())
     }
 
     // Words already moved are 0..255.
+    #[tactic(auto, unfolding(crate::specs::WellMade::words_fit))]
     fn words_fit(self) -> bool
         ensures { result ≡ words_fit self }
     {
-        match self {
-            Phase::Idle => true,
-            Phase::DataIn(t) => t.words <= ground::LAST_WORD,
-            Phase::DataOut(t) => t.words <= ground::LAST_WORD,
-        }
+        self.transfer().is_none_or(|t| t.words <= ground::LAST_WORD)
     }
 }
 
 impl State {
     // A valid address, and 1..256 sectors left, agreeing with Sector Count modulo 256.
+    #[tactic(auto, unfolding(crate::specs::WellMade::sectors_fit, ground::specs::Choice::every))]
     fn sectors_fit(self, left: u16) -> bool
         ensures { result ≡ sectors_fit left self }
     {
-        if !self.valid_address() {
-            return false;
-        }
-        if left < 1 {
-            return false;
-        }
-        if ground::MOST_COUNT < left {
-            return false;
-        }
-        let registers = self.registers;
-        let count = registers.count as u16;
-        if left % 256 != count {
-            return false;
-        }
-        true
+        self.valid_address()
+            && (1..=ground::MOST_COUNT).contains(&left)
+            && left % 256 == u16::from(self.registers.count)
     }
 
+    #[tactic(auto, unfolding(crate::specs::WellMade::load_fits))]
     fn load_fits(self, load: Load) -> bool
         ensures { result ≡ load_fits load self }
     {
@@ -114,25 +93,15 @@ impl State {
         }
     }
 
+    #[tactic(auto, unfolding(crate::specs::WellMade::run_fits))]
     fn run_fits(self, phase: Phase) -> bool
         ensures { result ≡ run_fits phase self }
     {
-        match phase {
-            Phase::Idle => true,
-            Phase::DataIn(t) => {
-                let load = t.load;
-                self.load_fits(load)
-            }
-            Phase::DataOut(t) => {
-                let load = t.load;
-                self.load_fits(load)
-            }
-        }
+        phase.transfer().is_none_or(|t| self.load_fits(t.load))
     }
-}
 
-impl State {
     // 02: the number of marks that are not 0 is at most N.
+    #[tactic(auto, unfolding(crate::specs::WellMade::bad_fits))]
     fn bad_fits(self) -> bool
         ensures { result ≡ bad_fits self.bad (total_in self) }
     {
@@ -141,38 +110,33 @@ impl State {
 }
 
 // 02: none, or a block of 1, 2, 4, 8 or 16 sectors.
+#[tactic(auto, unfolding(crate::specs::WellMade::block_fits))]
 fn block_fits(block: u16) -> bool
     ensures { result ≡ block_fits block }
 {
-    if block == super::blocks::NO_BLOCK {
-        return true;
-    }
-    super::blocks::block_size(block)
+    block == super::blocks::NO_BLOCK || super::blocks::block_size(block)
 }
 
 impl Pace {
     // By single sectors, or by the card's block.
+    #[tactic(auto, unfolding(crate::specs::WellMade::stride_fits))]
     fn stride_fits(self, block: u16) -> bool
         ensures { result ≡ stride_fits self.stride block }
     {
-        if self.stride == super::blocks::SINGLE {
-            return true;
-        }
-        self.stride == block
+        self.stride == super::blocks::SINGLE || self.stride == block
     }
 
     // With fewer sectors of the running block moved than it has.
+    #[tactic(auto, unfolding(crate::specs::WellMade::pace_fits))]
     fn fits(self, block: u16) -> bool
         ensures { result ≡ pace_fits self block }
     {
-        if !self.stride_fits(block) {
-            return false;
-        }
-        self.place < self.stride
+        self.stride_fits(block) && self.place < self.stride
     }
 }
 
 impl Load {
+    #[tactic(auto, unfolding(crate::specs::WellMade::load_pace_fits))]
     fn pace_fits(self, block: u16) -> bool
         ensures { result ≡ load_pace_fits self block }
     {
@@ -184,69 +148,32 @@ impl Load {
 }
 
 impl Phase {
+    #[tactic(auto, unfolding(crate::specs::WellMade::run_pace_fits))]
     fn pace_fits(self, block: u16) -> bool
         ensures { result ≡ run_pace_fits self block }
     {
-        match self {
-            Phase::Idle => true,
-            Phase::DataIn(t) => {
-                let load = t.load;
-                load.pace_fits(block)
-            }
-            Phase::DataOut(t) => {
-                let load = t.load;
-                load.pace_fits(block)
-            }
-        }
+        self.transfer().is_none_or(|t| t.load.pace_fits(block))
     }
 }
 
 impl Core {
     // Once a run: kept out of the loop over its accesses, which is the faster for it.
     #[inline(never)]
+    #[tactic(auto, unfolding(crate::specs::WellMade::well_made, ground::specs::Choice::every))]
     pub fn well_made(self) -> bool
         ensures { result ≡ well_made self.phase self.state }
     {
-        let phase = self.phase;
-        let state = self.state;
-        let made = state.made;
-        let mode = made.mode;
-        let default = made.default;
-        let current = state.current;
-        let registers = state.registers;
-        if !default.fits() {
-            return false;
-        }
-        if !current.current_for(state.total()) {
-            return false;
-        }
-        if !index_fits(state.option) {
-            return false;
-        }
-        if !sreset_fits(mode, state.option) {
-            return false;
-        }
-        if !status_fits(phase, registers.status) {
-            return false;
-        }
-        if !phase.hold_fits(state.in_reset()) {
-            return false;
-        }
-        if !phase.words_fit() {
-            return false;
-        }
-        if !state.run_fits(phase) {
-            return false;
-        }
-        if !state.bad_fits() {
-            return false;
-        }
-        if !block_fits(state.block) {
-            return false;
-        }
-        if !phase.pace_fits(state.block) {
-            return false;
-        }
-        true
+        let Core { phase, state } = self;
+        state.made.default.fits()
+            && state.current.current_for(state.total())
+            && index_fits(state.option)
+            && sreset_fits(state.made.mode, state.option)
+            && status_fits(phase, state.registers.status)
+            && phase.hold_fits(state.in_reset())
+            && phase.words_fit()
+            && state.run_fits(phase)
+            && state.bad_fits()
+            && block_fits(state.block)
+            && phase.pace_fits(state.block)
     }
 }

@@ -1,7 +1,6 @@
 -- What a wrong card changes: the access before the card's step, the machine before it, or what it leaves.
-use Rattle.std.specs.Prelude.{ℕ, List, eqb}
+use Rattle.std.specs.Prelude.{ℕ, List, eqb, Ok}
 use Rattle.ground.specs.Choice.{pick}
-use Rattle.answers.specs.declared.Outcome.TheVariants.{Accepted}
 use Rattle.geometry.specs.declared.Address.{Address}
 use Rattle.registers.specs.declared.State.{State}
 use Rattle.registers.specs.State.{with_address}
@@ -31,7 +30,7 @@ with_lent store marks m = machine (core_of m) m.buffer store marks
 
 -- a step that answers another value, one that leaves another machine, one that leaves another state
 abbrev pub answers_with : ℕ → Effect → Effect
-answers_with value s = record { outcome = Accepted value; next = s.next }
+answers_with value s = record { outcome = Ok value; next = s.next }
 
 abbrev pub with_next : Machine → Effect → Effect
 with_next m s = record { outcome = s.outcome; next = m }

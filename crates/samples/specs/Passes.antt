@@ -1,7 +1,6 @@
 -- The samples as a demand on any machine and any tuple reader.
 use Rattle.std.specs.Prelude.{ℕ, Bool, true, false, ◌&&◌, List, [], ◌∷◌, eqb, length, replicate}
-use Rattle.answers.specs.declared.Outcome.{Outcome}
-use Rattle.answers.specs.Answers.{outcome_number, outcome_value}
+use Rattle.answers.specs.Answers.{outcome_number, outcome_value, Outcome}
 use Rattle.registers.specs.Machine.{Machine}
 use Rattle.port.specs.Data.{Effect}
 use Rattle.card.specs.Access.{Asked}

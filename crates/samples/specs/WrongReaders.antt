@@ -1,6 +1,5 @@
 -- Tuple readers with one fault: sample 12 shows them.
-use Rattle.std.specs.Prelude.{ℕ, ◌-◌, List, [], ◌∷◌, ◌++◌, map, length}
-use Rattle.answers.specs.declared.Outcome.TheVariants.{Accepted}
+use Rattle.std.specs.Prelude.{ℕ, ◌-◌, List, [], ◌∷◌, ◌++◌, map, length, Ok}
 use Rattle.tuples.specs.declared.Entry.{Entry}
 use Rattle.tuples.specs.Chain.{chain_at, entry}
 use Rattle.tuples.specs.Read.{unless_refused, filled}
@@ -11,7 +10,7 @@ abbrev pub listing : (List Entry → List Entry) → List ℕ → List Entry →
 listing f buffer list =
     let r = reader buffer list in
     let entries = f (chain_at buffer 0).entries in
-    unless_refused r.outcome (record { outcome = Accepted (length entries); list = filled entries list }) r
+    unless_refused r.outcome (record { outcome = Ok (length entries); list = filled entries list }) r
 
 -- "entries: code, start, length": here a tuple starts at its code, and not at its body
 abbrev pub at_code : Entry → Entry

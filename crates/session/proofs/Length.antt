@@ -1,7 +1,6 @@
 -- The text of any file has at most 61,438 bytes: the header's 18, 15 for each of at most 4,094 accesses, and 10 for `bad`.
-use Rattle.std.proofs.Common.{◌≡◌, ℕ, zero, suc, ◌+◌, ◌*◌, ◌<◌, ◌≤◌, Bool, true, false, eqb, ltb, leb, List, [], ◌∷◌, length, sym, refl, subst, mod-eq_of_lt, arith, length-append, ltb-false, leb-false}
+use Rattle.std.proofs.Common.{◌≡◌, ℕ, zero, suc, ◌+◌, ◌*◌, ◌<◌, ◌≤◌, Bool, true, false, eqb, ltb, leb, List, [], ◌∷◌, length, Result, Ok, Err, sym, refl, subst, mod-eq_of_lt, arith, length-append, ltb-false, leb-false}
 use Rattle.ground.proofs.Picks.{pick-elim}
-use Rattle.answers.specs.declared.Outcome.{Outcome}
 use Rattle.answers.specs.declared.Refusal.TheVariants.{GeometryOrMode}
 use Rattle.geometry.specs.Limits.{capacity_of}
 use Rattle.registers.specs.Machine.{Machine}
@@ -13,14 +12,14 @@ use Rattle.card.specs.Opening.{opened}
 use Rattle.text.specs.Lines.{header, shown_value}
 use Rattle.text.proofs.Length.{line-length, bad-length, unopened-length}
 use Rattle.records.specs.declared.Sizes.{Sizes}
-use Rattle.records.specs.declared.First.{First}
-use Rattle.records.specs.declared.After.{After}
-use Rattle.session.specs.declared.Ending.{Ending}
-use Rattle.session.specs.declared.Ending.TheVariants.{Whole, Broken, Unopened}
+use Rattle.maps.specs.declared.Access.{Access}
+use Rattle.records.specs.declared.Break.{Break}
+use Rattle.session.specs.declared.Failure.TheVariants.{Broken, Unopened}
 use Rattle.records.specs.Record.{next_record, first_record, access_length, opening_length}
-use Rattle.session.specs.Run.{Script, by_after, script_from, wrapped, line_text, lines_of, end_text, Session, result_of}
+use Rattle.session.specs.Run.{Ending, Script, by_after, script_from, wrapped, line_text, lines_of, end_text, Session, result_of}
 use Rattle.session.specs.Play.{longest_file, most_sectors, opens_as, opened_on, opening, by_first, session_of, print_of, geometry_of, zero_bytes, no_tuples}
 use Rattle.records.proofs.Fits.{access_fits}
+use Rattle.answers.specs.Answers.{Outcome}
 
 -- a record has 8 bytes or more: the accesses of a part, and where it ends
 abbrev Short : ℕ → ℕ → Script → Type 0
@@ -30,14 +29,14 @@ size_least : (write : Bool) → 8 ≤ access_length write
 size_least true = omega arith
 size_least false = omega arith
 
-turn_short : (t : After) (bound : ℕ) (part tuples : List ℕ) (rest : ℕ → Script) (at : ℕ) → length part ≤ bound → at < length part → next_record part at ≡ t →
+turn_short : (t : Result Access Break) (bound : ℕ) (part tuples : List ℕ) (rest : ℕ → Script) (at : ℕ) → length part ≤ bound → at < length part → next_record part at ≡ t →
     ((next : ℕ) → next ≤ bound → Short bound next (rest next)) → Short bound at (by_after t rest tuples at)
-turn_short (After.Access q) bound part tuples rest at h g e ih =
+turn_short (Ok q) bound part tuples rest at h g e ih =
     let f = access_fits q part at g e in
     let w = size_least q.write in
     let i = ih (at + access_length q.write) (omega arith) in
     (omega (arith, i.0), i.1)
-turn_short (After.Stop why) bound part tuples rest at h g e ih = (omega arith, omega arith)
+turn_short (Err why) bound part tuples rest at h g e ih = (omega arith, omega arith)
 
 script_short : (n bound : ℕ) (part tuples : List ℕ) (at : ℕ) → length part ≤ bound → at ≤ bound → Short bound at (script_from n part tuples at)
 unfolding script_from
@@ -60,9 +59,9 @@ lines_length (a ∷ l) m number h =
     omega arith
 
 end_length : (e : Ending) (place : ℕ) → place < 100000 → length (end_text e place) ≤ 10
-end_length Whole place h = omega arith
-end_length (Broken why) place h = bad-length place h
-end_length (Unopened r) place h = let f = unopened-length r in omega arith
+end_length (Ok u) place h = omega arith
+end_length (Err (Broken why)) place h = bad-length place h
+end_length (Err (Unopened r)) place h = let f = unopened-length r in omega arith
 
 -- a run of a whole file's accesses
 run_length : (file tuples : List ℕ) (m : Machine) → length file ≤ longest_file → length (result_of 0 1 m (script_from (length file) file tuples opening_length)).session.text ≤ 61420
@@ -79,8 +78,8 @@ run_length file tuples m h =
     omega arith
 
 opens_length : (o : Outcome) (c : Card) (file store marks tuples : List ℕ) → length file ≤ longest_file → length (opens_as o c file store marks tuples).text ≤ 61420
-opens_length (Outcome.Accepted v) c file store marks tuples h = run_length file tuples (machine_of c store marks) h
-opens_length (Outcome.Refused r) c file store marks tuples h = let f = unopened-length r in omega arith
+opens_length (Ok v) c file store marks tuples h = run_length file tuples (machine_of c store marks) h
+opens_length (Err r) c file store marks tuples h = let f = unopened-length r in omega arith
 
 opening-length : (s : Sizes) (file : List ℕ) → length file ≤ longest_file → length (opening s file).text ≤ 61420
 unfolding opening opened_on
@@ -91,9 +90,9 @@ opening-length s file h =
     (λ _. let f = unopened-length GeometryOrMode in omega arith)
     (λ _. opens_length answer.outcome answer.card file (zero_bytes (512 * n)) (zero_bytes n) no_tuples h)
 
-first-length : (f : First) (file : List ℕ) → length file ≤ longest_file → length (by_first f file).text ≤ 61420
-first-length (First.Opening s) file h = opening-length s file h
-first-length (First.Stop why) file h = let f = bad-length 0 (omega arith) in omega arith
+first-length : (f : Result Sizes Break) (file : List ℕ) → length file ≤ longest_file → length (by_first f file).text ≤ 61420
+first-length (Ok s) file h = opening-length s file h
+first-length (Err why) file h = let f = bad-length 0 (omega arith) in omega arith
 
 session-length : (file : List ℕ) → length (session_of file).text ≤ 61420
 unfolding session_of

@@ -8,7 +8,7 @@ use Rattle.text.specs.Output.{Output, output, put, holding, LiesIn}
 use Rattle.session.specs.Run.{Session, printed_in, printed_at, told_as}
 use Rattle.session.specs.Play.{zero_bytes, session_of, printed, print_of}
 use Rattle.text.proofs.Outputs.{put_then, put_holds}
-use Rattle.ground.proofs.Lists.{take-replicate}
+use Rattle.std.proofs.lemmas.List.{take-replicate}
 
 -- a part of zero bytes
 pub zero_part : (k n : ℕ) → k ≤ n → take k (zero_bytes n) ≡ zero_bytes k

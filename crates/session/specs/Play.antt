@@ -1,24 +1,22 @@
 -- 01, "Session file": a whole file, and everything that is printed of it.
-use Rattle.std.specs.Prelude.{ℕ, ◌*◌, List, [], ◌∷◌, ◌++◌, length, replicate, ◌==◌, nat_lt}
+use Rattle.std.specs.Prelude.{ℕ, ◌*◌, List, [], ◌∷◌, ◌++◌, length, replicate, ◌==◌, nat_lt, Result, Ok, Err}
 use Rattle.ground.specs.Rows.{Row, When, first_of, first_or}
 use Rattle.ground.specs.Sizes.{sector_bytes, tuple_buffer_bytes}
-use Rattle.answers.specs.declared.Outcome.{Outcome}
 use Rattle.answers.specs.declared.Refusal.TheVariants.{GeometryOrMode, SessionBroken}
-use Rattle.answers.specs.Answers.{number_of}
+use Rattle.answers.specs.Answers.{number_of, Outcome}
 use Rattle.geometry.specs.declared.Geometry.{Geometry}
 use Rattle.geometry.specs.Limits.{capacity_of}
 use Rattle.card.specs.declared.Card.{Card}
 use Rattle.card.specs.Doors.{machine_of}
 use Rattle.card.specs.Opening.{opened}
+use Rattle.records.specs.declared.Break.{Break}
 use Rattle.records.specs.declared.Break.TheVariants.{Empty, TooLong}
 use Rattle.records.specs.declared.Sizes.{Sizes}
-use Rattle.records.specs.declared.First.{First}
-use Rattle.session.specs.declared.Ending.{Ending}
-use Rattle.session.specs.declared.Ending.TheVariants.{Whole, Broken, Unopened}
+use Rattle.session.specs.declared.Failure.TheVariants.{Broken, Unopened}
 use Rattle.records.specs.Record.{opening_length, first_record}
 use Rattle.text.specs.Lines.{header}
 use Rattle.text.specs.Output.{Output, put_at_start}
-use Rattle.session.specs.Run.{script_from, end_text, Session, result_of, printed_in}
+use Rattle.session.specs.Run.{Ending, script_from, end_text, Session, result_of, printed_in}
 
 -- "`cardrun` reads at most 32,768 bytes …, N at most 32"
 abbrev pub longest_file : ℕ
@@ -46,13 +44,13 @@ stopped place end = record { place = place; done = 0; end = end; text = end_text
 
 -- "Broken: empty (place 0)"; "A longer file runs nothing and is broken at 32768"
 abbrev pub file_breaks : ℕ → List (Row (Session (List ℕ)))
-file_breaks size = When (size == 0) (stopped file_start (Broken Empty)) ∷ When (nat_lt longest_file size) (stopped longest_file (Broken TooLong)) ∷ []
+file_breaks size = When (size == 0) (stopped file_start (Err (Broken Empty))) ∷ When (nat_lt longest_file size) (stopped longest_file (Err (Broken TooLong))) ∷ []
 
 -- "A refused opening prints `open` and the number, and stops"; else the accesses after it, from 1
 abbrev pub opens_as : Outcome → Card → List ℕ → List ℕ → List ℕ → List ℕ → Session (List ℕ)
-opens_as (Outcome.Accepted value) c file store marks tuples =
+opens_as (Ok value) c file store marks tuples =
     (result_of file_start first_number (machine_of c store marks) (script_from (length file) file tuples opening_length)).session
-opens_as (Outcome.Refused r) c file store marks tuples = stopped file_start (Unopened r)
+opens_as (Err r) c file store marks tuples = stopped file_start (Err (Unopened r))
 
 abbrev pub geometry_of : Sizes → Geometry
 geometry_of s = record { cylinders = s.cylinders; heads = s.heads; sectors = s.sectors }
@@ -65,12 +63,12 @@ opened_on s file store marks tuples =
 unfoldable pub opening : Sizes → List ℕ → Session (List ℕ)
 opening s file =
     let total = capacity_of (geometry_of s) in
-    first_of (When (nat_lt most_sectors total) GeometryOrMode ∷ []) (λ r. stopped file_start (Unopened r))
+    first_of (When (nat_lt most_sectors total) GeometryOrMode ∷ []) (λ r. stopped file_start (Err (Unopened r)))
     (opened_on s file (zero_bytes (sector_bytes * total)) (zero_bytes total) no_tuples)
 
-abbrev pub by_first : First → List ℕ → Session (List ℕ)
-by_first (First.Opening s) file = opening s file
-by_first (First.Stop why) file = stopped file_start (Broken why)
+abbrev pub by_first : Result Sizes Break → List ℕ → Session (List ℕ)
+by_first (Ok s) file = opening s file
+by_first (Err why) file = stopped file_start (Err (Broken why))
 
 -- the whole: broken as a file, or by its first record
 unfoldable pub session_of : List ℕ → Session (List ℕ)
@@ -86,6 +84,6 @@ printed bytes file = printed_in (put_at_start bytes (print_of file)) (session_of
 
 -- each ending has the number of 01's table: 17 is a broken file's
 abbrev pub end_number : Ending → ℕ
-end_number Whole = 0
-end_number (Broken why) = number_of SessionBroken
-end_number (Unopened r) = number_of r
+end_number (Ok u) = 0
+end_number (Err (Broken why)) = number_of SessionBroken
+end_number (Err (Unopened r)) = number_of r

@@ -1,17 +1,17 @@
 // A whole file: the card from its opening, with a zero store, zero marks and tuples of FFH, and everything that is printed.
 ghost use Rattle.std.specs.Prelude.{◌≡◌, ◌*◌};
-ghost use Rattle.session.specs.declared.Ending.TheVariants.{Broken, Unopened};
+ghost use Rattle.session.specs.declared.Failure.TheVariants.{Broken, Unopened};
 ghost use Rattle.ground.specs.Sizes.{sector_bytes};
 ghost use Rattle.text.specs.Output.{output, LiesIn};
 ghost use Rattle.session.specs.Run.{printed_at, told_as};
 ghost use Rattle.session.specs.Play.{file_start, stopped, opened_on, most_sectors, zero_bytes, no_tuples, opening, session_of, printed, end_number};
 
-use super::{Ending, LONGEST_FILE, MOST_SECTORS, Told, run};
-use answers::{Outcome, Refusal};
-use card::Card;
+use super::{Failure, LONGEST_FILE, MOST_SECTORS, Told, run};
+use answers::Refusal;
+use card::{Answer, Card};
 use geometry::Geometry;
 use ground::{SECTOR_BYTES, TUPLE_BUFFER_BYTES};
-use records::{Break, First, OPENING_LENGTH, Sizes};
+use records::{Break, OPENING_LENGTH, Sizes};
 
 // A file's first byte has the place 0; 01: an access has "its number from 1".
 const FILE_START: u64 = 0;
@@ -19,26 +19,24 @@ const FILE_START: u64 = 0;
 const FIRST_NUMBER: u64 = 1;
 
 fn bad(out: &mut [u8], at: usize, place: u64, why: Break) -> Told
-    ensures { told_as result out.new ≡ printed_at (output out.old at) (stopped place (Broken why)) }
+    ensures { told_as result out.new ≡ printed_at (output out.old at) (stopped place (Err (Broken why))) }
 {
-    let next = text::lines::put_bad(out, at, place);
     Told {
-        place: place,
+        place,
         done: 0,
-        end: Ending::Broken(why),
-        text: next,
+        end: Err(why.into()),
+        text: text::lines::put_bad(out, at, place),
     }
 }
 
 fn unopened(out: &mut [u8], at: usize, refusal: Refusal) -> Told
-    ensures { told_as result out.new ≡ printed_at (output out.old at) (stopped file_start (Unopened refusal)) }
+    ensures { told_as result out.new ≡ printed_at (output out.old at) (stopped file_start (Err (Unopened refusal))) }
 {
-    let next = text::lines::put_unopened(out, at, refusal.number());
     Told {
         place: FILE_START,
         done: 0,
-        end: Ending::Unopened(refusal),
-        text: next,
+        end: Err(refusal.into()),
+        text: text::lines::put_unopened(out, at, refusal.number()),
     }
 }
 
@@ -54,7 +52,7 @@ fn opened_on(
 ) -> Told
     ensures { told_as result out.new ≡ printed_at (output out.old at) (opened_on sizes file.now store.old marks.old tuples.now) }
 {
-    let answer = Card::open(
+    let Answer { outcome, card, .. } = Card::open(
         sizes.cylinders,
         sizes.heads,
         sizes.sectors,
@@ -63,14 +61,12 @@ fn opened_on(
         marks,
         tuples,
     );
-    let outcome = answer.outcome;
-    let card = answer.card;
     match outcome {
-        Outcome::Accepted(_) => {
+        Ok(_) => {
             let ran = run::run_from(
                 card,
                 file,
-                OPENING_LENGTH as usize,
+                usize::from(OPENING_LENGTH),
                 FILE_START,
                 FIRST_NUMBER,
                 store,
@@ -81,7 +77,7 @@ fn opened_on(
             );
             ran.told
         }
-        Outcome::Refused(refusal) => unopened(out, at, refusal),
+        Err(refusal) => unopened(out, at, refusal),
     }
 }
 
@@ -138,12 +134,12 @@ fn session(file: &[u8], out: &mut [u8], at: usize) -> Told
     if LONGEST_FILE < file.len() {
         return bad(out, at, LONGEST_FILE as u64, Break::TooLong);
     }
-    if file.len() == 0 {
+    if file.is_empty() {
         return bad(out, at, FILE_START, Break::Empty);
     }
     match records::first_record(file) {
-        First::Opening(sizes) => opening(sizes, file, out, at),
-        First::Stop(why) => bad(out, at, FILE_START, why),
+        Ok(sizes) => opening(sizes, file, out, at),
+        Err(why) => bad(out, at, FILE_START, why),
     }
 }
 
@@ -156,15 +152,13 @@ pub fn play(file: &[u8], out: &mut [u8]) -> Told
     session(file, out, at)
 }
 
-impl Ending {
-    // 01: 17 is a broken file's; a refused opening has its own number.
-    pub fn number(self) -> u8
-        ensures { result ≡ end_number self }
-    {
-        match self {
-            Ending::Whole => 0,
-            Ending::Broken(_) => Refusal::SessionBroken.number(),
-            Ending::Unopened(refusal) => refusal.number(),
-        }
+// 01: 17 is a broken file's; a refused opening has its own number.
+pub fn end_number(end: Result<(), Failure>) -> u8
+    ensures { result ≡ end_number end }
+{
+    match end {
+        Ok(()) => 0,
+        Err(Failure::Broken(_)) => Refusal::SessionBroken.number(),
+        Err(Failure::Unopened(refusal)) => refusal.number(),
     }
 }

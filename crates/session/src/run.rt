@@ -12,29 +12,20 @@ ghost use Rattle.text.specs.Output.{output, put};
 ghost use Rattle.session.specs.Run.{wrapped, script_from, result_of, shown_at, shown, ran_as};
 ghost use Rattle.card.specs.Access.{asked_with, verdict_of};
 
-use super::{Ending, Ran, Told};
+use super::{Failure, Ran, Told};
 use answers::Outcome;
 use card::{Card, Verdict};
 use ground::Sector;
 use maps::Access;
 use port::Done;
-use records::After;
 use registers::Core;
 use text::digits::{HexTable, LineNumber};
 
 fn written_or_read(write: bool, value: u16, read: u16) -> u16
     ensures { result ≡ pick write value read }
 {
-    if write {
-        return value;
-    }
-    read
+    if write { value } else { read }
 }
-
-// A register is a byte.
-fn count_known(core: Core)
-    ensures { core.state.registers.count < 256 }
-{}
 
 // What a run leaves at a place of its part.
 fn ran(
@@ -43,25 +34,22 @@ fn ran(
     first: u64,
     at: usize,
     done: usize,
-    end: Ending,
+    end: Result<(), Failure>,
     text: usize,
 ) -> Ran
     ensures { result ≡ record { card = card_of core buffer; told = record { place = wrapped (first + at); done = done; end = end; text = text } } }
 {
-    let place = std::num::wrapping_add_u64(first, at as u64);
-    let phase = core.phase;
-    let state = core.state;
     Ran {
         card: Card {
-            phase: phase,
-            state: state,
-            buffer: buffer,
+            phase: core.phase,
+            state: core.state,
+            buffer,
         },
         told: Told {
-            place: place,
-            done: done,
-            end: end,
-            text: text,
+            place: first.wrapping_add(at as u64),
+            done,
+            end,
+            text,
         },
     }
 }
@@ -80,8 +68,6 @@ fn access_done(
     ensures marks_after { effect result buffer.new store.new marks.new ≡ step (machine core buffer.old store.old marks.old) (asked_with access tuples.now) }
     ensures verdict_value { verdict ≡ verdict_of result.core.phase result.core.state store.new marks.new tuples.now }
 {
-    ground::length_known(buffer);
-    count_known(core);
     card::step::by_verdict(verdict, core, access, buffer, store, marks, tuples)
 }
 
@@ -98,11 +84,11 @@ fn put_answer(
     ensures { output out.new result ≡ put (output out.old at) (line number.value access.write (outcome_number outcome) (shown_value outcome access.write access.value)) }
 {
     match outcome {
-        Outcome::Accepted(read) => {
+        Ok(read) => {
             let shown = written_or_read(access.write, access.value, read);
             text::lines::put_accepted(out, at, number, access.write, table, shown)
         }
-        Outcome::Refused(refusal) => {
+        Err(refusal) => {
             let answer = refusal.number();
             text::lines::put_line(out, at, number, access.write, answer, table, 0)
         }
@@ -110,6 +96,7 @@ fn put_answer(
 }
 
 // The accesses of a part from a place on, their lines from a place of the output on. Core and buffer stay here from access to access.
+// What is lent stays in parts, as `card`'s functions and `run` take it: a struct would be made for the call and taken apart for each access.
 fn lines(
     verdict: Verdict,
     card: Card,
@@ -127,37 +114,34 @@ fn lines(
     ensures { ran_as result store.new marks.new out.new ≡ shown_at (output out.old start) (result_of first number (machine_of card store.old marks.old) (script_from (length part.now) part.now tuples.now from)) }
 {
     let mut buffer = card.buffer;
-    let phase = card.phase;
-    let state = card.state;
     let mut core = Core {
-        phase: phase,
-        state: state,
+        phase: card.phase,
+        state: card.state,
     };
     let mut at = from;
     let mut counter = LineNumber::of(number);
     let mut count = 0;
     let mut text = start;
     let table = text::digits::hex_table();
+    // No `for`: where the next record stands is known only once this one is read.
     while at < part.len() {
         match records::next_record(part, at) {
-            After::Stop(why) => {
-                let place = std::num::wrapping_add_u64(first, at as u64);
+            Err(why) => {
+                let place = first.wrapping_add(at as u64);
                 let next = text::lines::put_bad(out, text, place);
-                return ran(core, buffer, first, at, count, Ending::Broken(why), next);
+                return ran(core, buffer, first, at, count, Err(why.into()), next);
             }
-            After::Access(access) => {
+            Ok(access) => {
                 let done = access_done(verdict, core, access, &mut buffer, store, marks, tuples);
-                let outcome = done.outcome;
-                let after = done.core;
-                text = put_answer(out, text, counter, access, outcome, &table);
-                core = after;
+                core = done.core;
+                text = put_answer(out, text, counter, access, done.outcome, &table);
                 counter = counter.next();
-                at += records::access_length(access.write) as usize;
+                at += usize::from(records::access_length(access.write));
                 count += 1;
             }
         }
     }
-    ran(core, buffer, first, at, count, Ending::Whole, text)
+    ran(core, buffer, first, at, count, Ok(()), text)
 }
 
 // The same of any card with anything lent.
@@ -175,11 +159,9 @@ pub(crate) fn run_from(
 ) -> Ran
     ensures { ran_as result store.new marks.new out.new ≡ shown_at (output out.old start) (result_of first number (machine_of card store.old marks.old) (script_from (length part.now) part.now tuples.now from)) }
 {
-    let phase = card.phase;
-    let state = card.state;
     let core = Core {
-        phase: phase,
-        state: state,
+        phase: card.phase,
+        state: card.state,
     };
     let verdict = card::access::verdict_of(core, store, marks, tuples);
     lines(

@@ -1,9 +1,8 @@
 -- How long a text is.
-use Rattle.std.proofs.Common.{ℕ, zero, suc, ◌+◌, ◌*◌, ◌/◌, ◌<◌, ◌≤◌, Bool, ltb, [], ◌∷◌, ◌++◌, length, arith, length-append}
+use Rattle.std.proofs.Common.{ℕ, zero, suc, ◌+◌, ◌*◌, ◌/◌, ◌<◌, ◌≤◌, Bool, ltb, [], ◌∷◌, ◌++◌, length, arith, length-append, Ok, Err}
 use Rattle.ground.proofs.Picks.{pick-elim}
 use Rattle.answers.specs.declared.Refusal.{Refusal}
-use Rattle.answers.specs.declared.Outcome.{Outcome}
-use Rattle.answers.specs.Answers.{number_of, outcome_number}
+use Rattle.answers.specs.Answers.{number_of, outcome_number, Outcome}
 use Rattle.answers.proofs.Outcomes.{number_range}
 use Rattle.text.specs.Digits.{further_digits, decimal, hex_four}
 use Rattle.text.specs.Lines.{blank, newline, letter, line, bad, unopened}
@@ -40,8 +39,8 @@ five_digits : Within 100000 4
 five_digits = more 10000 3 four_digits
 
 answer_below : (o : Outcome) → outcome_number o < 100
-answer_below (Outcome.Accepted v) = omega arith
-answer_below (Outcome.Refused r) = omega (arith, number_range r)
+answer_below (Ok v) = omega arith
+answer_below (Err r) = omega (arith, number_range r)
 
 -- a line of a number below 10,000 has at most 15 bytes, `bad` with a place below 100,000 at most 10, `open` at most 8
 pub line-length : (number : ℕ) (write : Bool) (o : Outcome) (value : ℕ) → number < 10000 → length (line number write (outcome_number o) value) ≤ 15

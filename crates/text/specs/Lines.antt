@@ -1,8 +1,8 @@
 -- 01, "Session file": what is printed, as bytes.
-use Rattle.std.specs.Prelude.{ℕ, Bool, List, [], ◌∷◌, ◌++◌}
+use Rattle.std.specs.Prelude.{ℕ, Bool, List, [], ◌∷◌, ◌++◌, Ok, Err}
 use Rattle.ground.specs.Choice.{pick}
-use Rattle.answers.specs.declared.Outcome.{Outcome}
 use Rattle.text.specs.Digits.{decimal, hex_four}
+use Rattle.answers.specs.Answers.{Outcome}
 
 abbrev pub blank : ℕ
 blank = 32
@@ -38,8 +38,8 @@ line number write answer value = line_by (decimal number) write answer (hex_four
 
 -- "the value read or written … (0000 if refused)"
 abbrev pub shown_value : Outcome → Bool → ℕ → ℕ
-shown_value (Outcome.Accepted v) write value = pick write value v
-shown_value (Outcome.Refused r) write value = 0
+shown_value (Ok v) write value = pick write value v
+shown_value (Err r) write value = 0
 
 -- "`bad` and the place of its first byte"
 abbrev pub bad : ℕ → List ℕ

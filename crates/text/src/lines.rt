@@ -11,10 +11,7 @@ use super::{digits, output};
 fn letter_code(write: bool) -> u8
     ensures { result ≡ letter_code write }
 {
-    if write {
-        return b'W';
-    }
-    b'R'
+    if write { b'W' } else { b'R' }
 }
 
 fn letter(out: &mut [u8], at: usize, write: bool) -> usize
@@ -41,7 +38,7 @@ fn line_by(
 {
     let after_number = digits::numeral(out, at, number);
     let after_letter = letter(out, after_number, write);
-    let after_answer = digits::decimal(out, after_letter, answer as u64);
+    let after_answer = digits::decimal(out, after_letter, u64::from(answer));
     let after_blank = byte(out, after_answer, b' ');
     let after_value = digits::hex_by(out, after_blank, table, value);
     byte(out, after_value, b'\n')
@@ -79,14 +76,16 @@ pub fn put_line(
     ensures { output out.new result ≡ put (output out.old at) (line_by (numeral number) write answer (hex_by table.now value)) }
 {
     if output::roomy(out.len(), at) {
-        return line_by(out, at, number, write, answer, table, value);
+        line_by(out, at, number, write, answer, table, value)
+    } else {
+        let mut text = [0u8; 64];
+        let size = line_by(&mut text, 0, number, write, answer, table, value);
+        output::put(out, at, &text[..size])
     }
-    let mut text = [0u8; 64];
-    let size = line_by(&mut text, 0, number, write, answer, table, value);
-    output::put(out, at, &text[..size])
 }
 
 // The line of an accepted access, as far as the output goes. A short number where there is room is the common case and goes straight to its place.
+// By `put_line` alone an access took 46 instructions more, with both tests in one and one call of `put_line` 2 to 3 more.
 pub fn put_accepted(
     out: &mut [u8],
     at: usize,
@@ -98,12 +97,12 @@ pub fn put_accepted(
     ensures { output out.new result ≡ put (output out.old at) (line_by (numeral number) write 0 (hex_by table.now value)) }
 {
     if 10000 <= number.value {
-        return put_line(out, at, number, write, 0, table, value);
+        put_line(out, at, number, write, 0, table, value)
+    } else if output::roomy(out.len(), at) {
+        accepted_line(out, at, number, write, table, value)
+    } else {
+        put_line(out, at, number, write, 0, table, value)
     }
-    if output::roomy(out.len(), at) {
-        return accepted_line(out, at, number, write, table, value);
-    }
-    put_line(out, at, number, write, 0, table, value)
 }
 
 // A number ends a line. Of a session, its last line alone.
@@ -117,6 +116,7 @@ fn put_number(out: &mut [u8], at: usize, n: u64) -> usize
     output::put(out, at, &text[..size])
 }
 
+#[tactic(auto, unfolding(crate::specs::Lines::header))]
 pub fn put_header(out: &mut [u8], at: usize) -> usize
     ensures { output out.new result ≡ put (output out.old at) header }
 {
@@ -134,5 +134,5 @@ pub fn put_unopened(out: &mut [u8], at: usize, number: u8) -> usize
     ensures { output out.new result ≡ put (output out.old at) (unopened number) }
 {
     let next = output::put(out, at, b"open ");
-    put_number(out, next, number as u64)
+    put_number(out, next, u64::from(number))
 }

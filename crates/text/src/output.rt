@@ -2,6 +2,7 @@
 ghost use Rattle.std.specs.Prelude.{◌≡◌, ◌+◌, ◌<◌, ◌≤◌, [], ◌∷◌, length, nat_le};
 ghost use Rattle.text.specs.Output.{output, put_byte, put, Wrote};
 
+#[tactic(auto, unfolding(crate::specs::Output::written))]
 pub(crate) fn byte(out: &mut [u8], at: usize, b: u8) -> usize
     requires { at < length out.old }
     ensures { Wrote out.old at (b ∷ []) out.new result }
@@ -19,14 +20,16 @@ pub(crate) fn two(out: &mut [u8], at: usize, a: u8, b: u8) -> usize
 }
 
 // A byte past the output's end is left out.
+#[tactic(auto, unfolding(crate::specs::Output::put_byte))]
 fn put_byte(out: &mut [u8], at: usize, b: u8) -> usize
     ensures { output out.new result ≡ put_byte (output out.old at) b }
 {
     if at < out.len() {
         out[at] = b;
-        return at + 1;
+        at + 1
+    } else {
+        at
     }
-    at
 }
 
 // Any text, as far as the output goes.
@@ -34,10 +37,8 @@ pub(crate) fn put(out: &mut [u8], at: usize, text: &[u8]) -> usize
     ensures { output out.new result ≡ put (output out.old at) text.now }
 {
     let mut next = at;
-    let mut i = 0;
-    while i < text.len() {
-        next = put_byte(out, next, text[i]);
-        i += 1;
+    for b in text {
+        next = put_byte(out, next, *b);
     }
     next
 }
@@ -45,11 +46,5 @@ pub(crate) fn put(out: &mut [u8], at: usize, text: &[u8]) -> usize
 pub(crate) fn roomy(size: usize, at: usize) -> bool
     ensures { result ≡ nat_le (at + 64) size }
 {
-    if size < at {
-        return false;
-    }
-    if size - at < 64 {
-        return false;
-    }
-    true
+    at <= size && 64 <= size - at
 }

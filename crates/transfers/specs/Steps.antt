@@ -1,5 +1,5 @@
 -- A transfer's start, and what the last byte of a sector does: 01, "Commands" and "Interrupt mark".
-use Rattle.std.specs.Prelude.{ℕ, ◌-◌, ◌%◌, Bool, true, List, eqb}
+use Rattle.std.specs.Prelude.{ℕ, ◌-◌, ◌%◌, Bool, true, List, eqb, Ok, Err}
 use Rattle.ground.specs.Choice.{pick}
 use Rattle.ground.specs.Left.{Left}
 use Rattle.geometry.specs.Next.{next_of}
@@ -17,13 +17,11 @@ use Rattle.registers.specs.Blocks.{pace_after}
 use Rattle.registers.specs.State.{with_status, with_interrupt, with_count, with_address, with_bad}
 use Rattle.registers.specs.Machine.{Machine, machine, core, with_core}
 use Rattle.transfers.specs.declared.End.TheVariants.{Good}
-use Rattle.transfers.specs.declared.Tested.{Tested}
-use Rattle.transfers.specs.declared.Tested.TheVariants.{Passes, Fails}
 use Rattle.transfers.specs.declared.Way.TheVariants.{In}
 use Rattle.transfers.specs.declared.Order.{Order}
 use Rattle.transfers.specs.declared.Order.TheVariants.{First, Later}
 use Rattle.transfers.specs.Ends.{ended, reading_ended}
-use Rattle.transfers.specs.Before.{address_test, sector_test, sector_stored}
+use Rattle.transfers.specs.Before.{address_test, sector_test, sector_stored, Tested}
 
 -- a machine that runs no transfer
 abbrev pub idle : State → List ℕ → List ℕ → List ℕ → Machine
@@ -70,8 +68,8 @@ sector_done left s = pick (eqb left 0) (with_count 0 s) (with_count (left % 256)
 
 -- a sector is to be read: it comes into the buffer, or a test fails ("a failed read, Verify and Erase leave it")
 abbrev pub read_tested : Tested → ℕ → Pace → Machine → Machine
-read_tested (Passes spot) left pace m = machine (ready (Sectors left pace) m.state) (buffer_read m.store spot.index m.buffer) m.store m.marks
-read_tested (Fails e) left pace m = with_core (ended e m.state) m
+read_tested (Ok spot) left pace m = machine (ready (Sectors left pace) m.state) (buffer_read m.store spot.index m.buffer) m.store m.marks
+read_tested (Err e) left pace m = with_core (ended e m.state) m
 
 unfoldable pub read_sector : ℕ → Pace → Machine → Machine
 read_sector left pace m = read_tested (sector_test In m.state m.marks) left pace m
@@ -91,8 +89,8 @@ load_read (Sectors left pace) m = next_read (left - 1) (pace_after pace) m
 
 -- a sector is asked for, or its address fails
 abbrev pub ask_tested : Tested → ℕ → Pace → Order → State → Core
-ask_tested (Passes spot) left pace order s = asked_for (Sectors left pace) order s
-ask_tested (Fails e) left pace order s = ended e s
+ask_tested (Ok spot) left pace order s = asked_for (Sectors left pace) order s
+ask_tested (Err e) left pace order s = ended e s
 
 unfoldable pub ask_sector : ℕ → Pace → Order → State → Core
 ask_sector left pace order s = ask_tested (address_test s) left pace order s
@@ -102,8 +100,8 @@ unfoldable pub next_asked : ℕ → Pace → State → Core
 next_asked left pace s = pick (eqb left 0) (ended Good (sector_done left s)) (ask_sector left pace Later (sector_done left s))
 
 abbrev pub core_written : Tested → ℕ → Pace → State → Core
-core_written (Passes spot) left pace s = next_asked left pace s
-core_written (Fails e) left pace s = ended e s
+core_written (Ok spot) left pace s = next_asked left pace s
+core_written (Err e) left pace s = ended e s
 
 abbrev pub written_by : Left Tested StoreMarks → ℕ → Pace → Machine → Machine
 written_by k left pace m = machine (core_written k.outcome left pace (with_bad k.next.bad m.state)) m.buffer k.next.store k.next.marks

@@ -11,14 +11,14 @@ impl End {
     {
         match self {
             End::Good => registers::IDLE_STATUS,
-            End::BadHeadOrSector => registers::ERROR_STATUS,
-            End::BadCylinder => registers::ERROR_STATUS,
-            End::BadLba => registers::ERROR_STATUS,
-            End::PastEnd => registers::ERROR_STATUS,
-            End::Unreadable => registers::ERROR_STATUS,
+            End::BadHeadOrSector
+            | End::BadCylinder
+            | End::BadLba
+            | End::PastEnd
+            | End::Unreadable
+            | End::BadGeometry
+            | End::NoSuchCommand => registers::ERROR_STATUS,
             End::WriteFault => registers::FAULT_STATUS,
-            End::BadGeometry => registers::ERROR_STATUS,
-            End::NoSuchCommand => registers::ERROR_STATUS,
         }
     }
 
@@ -27,14 +27,9 @@ impl End {
     {
         match self {
             End::Good => error,
-            End::BadHeadOrSector => registers::IDNF,
-            End::BadCylinder => registers::IDNF,
-            End::BadLba => registers::IDNF,
-            End::PastEnd => registers::IDNF,
+            End::BadHeadOrSector | End::BadCylinder | End::BadLba | End::PastEnd => registers::IDNF,
             End::Unreadable => registers::UNC,
-            End::WriteFault => registers::ABRT,
-            End::BadGeometry => registers::ABRT,
-            End::NoSuchCommand => registers::ABRT,
+            End::WriteFault | End::BadGeometry | End::NoSuchCommand => registers::ABRT,
         }
     }
 
@@ -44,9 +39,7 @@ impl End {
         match self {
             End::Good => code,
             End::BadHeadOrSector => geometry::BAD_HEAD_OR_SECTOR_CODE,
-            End::BadCylinder => geometry::BAD_CYLINDER_OR_LBA_CODE,
-            End::BadLba => geometry::BAD_CYLINDER_OR_LBA_CODE,
-            End::PastEnd => geometry::BAD_CYLINDER_OR_LBA_CODE,
+            End::BadCylinder | End::BadLba | End::PastEnd => geometry::BAD_CYLINDER_OR_LBA_CODE,
             End::Unreadable => super::UNREADABLE_CODE,
             End::WriteFault => super::WRITE_FAULT_CODE,
             End::BadGeometry => geometry::BAD_GEOMETRY_CODE,
@@ -56,21 +49,16 @@ impl End {
 }
 
 // A command ends, and the interrupt mark is set.
-pub fn ended(state: State, end: End) -> Core
+pub fn ended(mut state: State, end: End) -> Core
     ensures { result ≡ ended end state }
 {
-    let registers = state.registers;
-    let status = end.status();
-    let error = end.error(registers.error);
-    let code = end.code(state.code);
-    let mut s = state;
-    s.registers.status = status;
-    s.registers.error = error;
-    s.code = code;
-    s.interrupt = true;
+    state.registers.status = end.status();
+    state.registers.error = end.error(state.registers.error);
+    state.code = end.code(state.code);
+    state.interrupt = true;
     Core {
         phase: Phase::Idle,
-        state: s,
+        state,
     }
 }
 
@@ -78,8 +66,7 @@ pub fn ended(state: State, end: End) -> Core
 pub(crate) fn reading_ended(state: State) -> Core
     ensures { result ≡ reading_ended state }
 {
-    let interrupt = state.interrupt;
     let mut core = ended(state, End::Good);
-    core.state.interrupt = interrupt;
+    core.state.interrupt = state.interrupt;
     core
 }

@@ -1,10 +1,10 @@
 // A transfer's start, and what the last byte of a sector does.
-ghost use Rattle.std.specs.Prelude.{◌≡◌, ◌-◌};
+ghost use Rattle.std.specs.Prelude.{◌≡◌};
 ghost use Rattle.registers.specs.State.{with_bad};
 ghost use Rattle.registers.specs.Machine.{machine};
 ghost use Rattle.transfers.specs.Steps.{idle, new_transfer, starts_block, interrupt_ready, ready, interrupt_asked, asked_for, sector_done, read_sector, next_read, load_read, ask_sector, next_asked, core_written, load_written};
 
-use super::{End, Order, Stored, Tested, Way};
+use super::{End, Order, Stored, Way};
 use ground::Sector;
 use registers::{Core, Half, Load, Pace, Phase, State, Transfer};
 
@@ -14,7 +14,7 @@ fn new_transfer(load: Load) -> Transfer
     ensures { result ≡ new_transfer load }
 {
     Transfer {
-        load: load,
+        load,
         half: Half::Nothing,
         words: 0,
     }
@@ -33,24 +33,18 @@ fn starts_block(load: Load) -> bool
 fn interrupt_ready(load: Load, interrupt: bool) -> bool
     ensures { result ≡ interrupt_ready load interrupt }
 {
-    if starts_block(load) {
-        return true;
-    }
-    interrupt
+    starts_block(load) || interrupt
 }
 
 // A sector or the buffer is ready to be read.
-pub fn ready(state: State, load: Load) -> Core
+pub fn ready(mut state: State, load: Load) -> Core
     ensures { result ≡ ready load state }
 {
-    let transfer = new_transfer(load);
-    let interrupt = interrupt_ready(load, state.interrupt);
-    let mut s = state;
-    s.registers.status = registers::DATA_STATUS;
-    s.interrupt = interrupt;
+    state.registers.status = registers::DATA_STATUS;
+    state.interrupt = interrupt_ready(load, state.interrupt);
     Core {
-        phase: Phase::DataIn(transfer),
-        state: s,
+        phase: Phase::DataIn(new_transfer(load)),
+        state,
     }
 }
 
@@ -64,54 +58,36 @@ fn interrupt_asked(order: Order, load: Load, interrupt: bool) -> bool
 }
 
 // A sector or the buffer is asked for.
-pub fn asked_for(state: State, load: Load, order: Order) -> Core
+pub fn asked_for(mut state: State, load: Load, order: Order) -> Core
     ensures { result ≡ asked_for load order state }
 {
-    let transfer = new_transfer(load);
-    let interrupt = interrupt_asked(order, load, state.interrupt);
-    let mut s = state;
-    s.registers.status = registers::DATA_STATUS;
-    s.interrupt = interrupt;
+    state.registers.status = registers::DATA_STATUS;
+    state.interrupt = interrupt_asked(order, load, state.interrupt);
     Core {
-        phase: Phase::DataOut(transfer),
-        state: s,
+        phase: Phase::DataOut(new_transfer(load)),
+        state,
     }
 }
 
 // A sector is done, and `left` are still to do.
-pub fn sector_done(state: State, left: u16) -> State
+#[tactic(auto, unfolding(crate::specs::Steps::sector_done))]
+pub fn sector_done(mut state: State, left: u16) -> State
     ensures { result ≡ sector_done left state }
 {
-    let mut registers = state.registers;
-    let mut s = state;
-    if left == 0 {
-        registers.count = 0;
-        s.registers = registers;
-        return s;
+    state.registers.count = (left % 256) as u8;
+    if left != 0 {
+        state.registers.address = state.registers.address.next(state.current);
     }
-    let address = registers.address;
-    let current = state.current;
-    let next = address.next(current);
-    let count = (left % 256) as u8;
-    registers.address = next;
-    registers.count = count;
-    s.registers = registers;
-    s
-}
-
-// 0 left, which no well-made card has, counts as none more (D132).
-fn less_one(left: u16) -> u16
-    ensures { result ≡ left - 1 }
-{
-    if left == 0 {
-        return 0;
-    }
-    left - 1
+    state
 }
 
 // ---- reading
 
+// Buffer, store and marks are lent one by one, here and above: a read lends the last two as `&`, which a struct of three `&mut` would give up. Tried: behind
+// `&mut` to such a struct the borrow checker does not cover a read of one field into another; by value, the proof of the second function is left open.
+
 // A sector is to be read: its tests, then its bytes come into the buffer.
+#[tactic(auto, unfolding(crate::specs::Steps::read_sector))]
 pub fn read_sector(
     state: State,
     left: u16,
@@ -123,15 +99,15 @@ pub fn read_sector(
     ensures { machine result buffer.new store.now marks.now ≡ read_sector left pace (idle state buffer.old store.now marks.now) }
 {
     match super::before::sector_test(state, Way::In, marks) {
-        Tested::Passes(spot) => {
-            let i = spot.index;
-            sectors::sectors::fetch_sector(store, i, buffer);
+        Ok(spot) => {
+            sectors::sectors::fetch_sector(store, spot.index, buffer);
             ready(state, Load::Sectors(left, pace))
         }
-        Tested::Fails(end) => super::ends::ended(state, end),
+        Err(end) => super::ends::ended(state, end),
     }
 }
 
+#[tactic(auto, unfolding(crate::specs::Steps::next_read))]
 fn next_read(
     state: State,
     left: u16,
@@ -144,9 +120,10 @@ fn next_read(
 {
     let next = sector_done(state, left);
     if left == 0 {
-        return super::ends::reading_ended(next);
+        super::ends::reading_ended(next)
+    } else {
+        read_sector(next, left, pace, buffer, store, marks)
     }
-    read_sector(next, left, pace, buffer, store, marks)
 }
 
 // The last byte of a sector or of the buffer has gone.
@@ -156,7 +133,15 @@ pub fn load_read(state: State, load: Load, buffer: &mut Sector, store: &[u8], ma
     match load {
         Load::Buffer => super::ends::reading_ended(state),
         Load::Sectors(left, pace) => {
-            next_read(state, less_one(left), pace.after(), buffer, store, marks)
+            // 0 left, which no well-made card has, counts as none more (D132); so below.
+            next_read(
+                state,
+                left.saturating_sub(1),
+                pace.after(),
+                buffer,
+                store,
+                marks,
+            )
         },
     }
 }
@@ -164,19 +149,22 @@ pub fn load_read(state: State, load: Load, buffer: &mut Sector, store: &[u8], ma
 // ---- writing
 
 // A sector is asked for, or its address fails.
+#[tactic(auto, unfolding(crate::specs::Steps::ask_sector))]
 pub fn ask_sector(state: State, left: u16, pace: Pace, order: Order) -> Core
     ensures { result ≡ ask_sector left pace order state }
 {
     match super::before::address_test(state) {
-        Tested::Passes(_) => asked_for(state, Load::Sectors(left, pace), order),
-        Tested::Fails(end) => super::ends::ended(state, end),
+        Ok(_) => asked_for(state, Load::Sectors(left, pace), order),
+        Err(end) => super::ends::ended(state, end),
     }
 }
 
+#[tactic(auto, unfolding(crate::specs::Steps::next_asked))]
 fn next_asked(state: State, left: u16, pace: Pace) -> Core
     ensures { result ≡ next_asked left pace state }
 {
     let next = sector_done(state, left);
+    // A return: as an if/else it takes 8 instructions an access more by words, 16 more where Status is polled.
     if left == 0 {
         return super::ends::ended(next, End::Good);
     }
@@ -184,15 +172,13 @@ fn next_asked(state: State, left: u16, pace: Pace) -> Core
 }
 
 // With the number of marks that are not 0 as it is once the sector is stored.
-fn core_written(state: State, stored: Stored, left: u16, pace: Pace) -> Core
+fn core_written(mut state: State, stored: Stored, left: u16, pace: Pace) -> Core
     ensures { result ≡ core_written stored.tested left pace (with_bad stored.bad state) }
 {
-    let tested = stored.tested;
-    let mut s = state;
-    s.bad = stored.bad;
-    match tested {
-        Tested::Passes(_) => next_asked(s, left, pace),
-        Tested::Fails(end) => super::ends::ended(s, end),
+    state.bad = stored.bad;
+    match stored.tested {
+        Ok(_) => next_asked(state, left, pace),
+        Err(end) => super::ends::ended(state, end),
     }
 }
 
@@ -210,7 +196,7 @@ pub fn load_written(
         Load::Buffer => super::ends::ended(state, End::Good),
         Load::Sectors(left, pace) => {
             let stored = super::before::sector_stored(state, buffer, store, marks);
-            core_written(state, stored, less_one(left), pace.after())
+            core_written(state, stored, left.saturating_sub(1), pace.after())
         }
     }
 }

@@ -1,72 +1,33 @@
-// Kinds 6, 7 and 14: the tuple reader and the tuple writer, over the lent bytes.
-use crate::words::{Words, low};
-use crate::{bytes, lines};
+// What is shown of the tuple reader and the tuple writer.
+use crate::lines::{self, BytesLine};
+use crate::rows;
 use answers::Outcome;
 use tuples::Entry;
 
-pub(crate) fn entry(w: Words) -> Entry {
-    Entry {
-        code: low(w.w2),
-        start: w.w3,
-        length: w.w4,
+// The most places of a list that are shown.
+const MOST_SHOWN: usize = 256;
+
+// The R line, and the E lines of the entries and of two places more.
+pub(crate) fn read(tuples: &[u8], places: u16, before: Entry) {
+    let places = usize::from(places);
+    let outcome = trial_lists::read_into(tuples, places, before, 0).outcome;
+    let (number, value) = (answers::number(outcome), answers::value(outcome));
+    lines::print(format_args!("R {number:02X} {value:04X}\n"));
+    for i in 0..(usize::from(value) + 2).min(MOST_SHOWN) {
+        let entry = trial_lists::read_into(tuples, places, before, i).entry;
+        let Entry {
+            code,
+            start,
+            length,
+        } = entry;
+        lines::print(format_args!("E {code:02X} {start:04X} {length:04X}\n"));
     }
-}
-
-// The R line and the W line; the R line has no sum.
-fn outcome_line(pattern: &[u8], outcome: Outcome, sum: u16) {
-    let numbers = [ground::wide(outcome.number()), outcome.value(), sum];
-    lines::line(pattern, &numbers);
-}
-
-// An E line.
-fn entry_line(e: Entry) {
-    let numbers = [ground::wide(e.code), e.start, e.length];
-    lines::line(b"E 10 3210 3210\n", &numbers);
-}
-
-// The places that are shown: the entries, and two more.
-fn places_shown(entries: u16) -> usize {
-    if entries < 254 {
-        return entries as usize + 2;
-    }
-    256
-}
-
-fn read(w: Words, buffer: &[u8]) {
-    let places = w.w1 as usize;
-    let before = entry(w);
-    let first = trial_lists::read_into(buffer, places, before, 0);
-    let outcome = first.outcome;
-    outcome_line(b"R 10 3210\n", outcome, 0);
-    let n = places_shown(outcome.value());
-    let mut i: usize = 0;
-    while i < n {
-        let h = trial_lists::read_into(buffer, places, before, i);
-        entry_line(h.entry);
-        i += 1;
-    }
-}
-
-fn written(w: Words, last: Entry, bodies: &[u8], buffer: &mut [u8]) -> Outcome {
-    if w.w0 == 7 {
-        return trial_lists::write_made(entry(w), last, w.w1 as usize, bodies, buffer);
-    }
-    trial_lists::write_back(bodies, buffer)
 }
 
 // The W line and the T line.
-fn written_lines(outcome: Outcome, buffer: &[u8]) {
-    outcome_line(b"W 10 3210 3210\n", outcome, bytes::sum(buffer));
-    lines::bytes_line(b"T ", buffer);
-}
-
-pub(crate) fn record(w: Words, last: Entry, bodies: &[u8], buffer: &mut [u8]) {
-    if w.w0 == 6 {
-        read(w, buffer);
-        return;
-    }
-    if w.w0 == 7 || w.w0 == 14 {
-        let outcome = written(w, last, bodies, buffer);
-        written_lines(outcome, buffer);
-    }
+pub(crate) fn show_written(outcome: Outcome, tuples: &[u8]) {
+    let (number, value) = (answers::number(outcome), answers::value(outcome));
+    let sum = rows::sum(tuples);
+    lines::print(format_args!("W {number:02X} {value:04X} {sum:04X}\n"));
+    lines::print(BytesLine('T', tuples));
 }

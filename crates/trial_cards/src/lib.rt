@@ -2,4 +2,5 @@
 #![tactic(auto)]
 
 pub mod cards;
+pub mod places;
 pub mod rows;

@@ -1,148 +1,106 @@
 // The card value as a row of 35 numbers.
 ghost use Rattle.std.specs.Prelude.{◌<◌, ◌≡◌};
-ghost use Rattle.trial_cards.specs.Rows.{one_of, mode_number, half_number, with_registers, with_option, with_made, state_row, with_load, with_transfer, with_phase, row_of};
+ghost use Rattle.trial_cards.specs.Rows.{one_of, with_registers, with_option, with_made, state_row, with_load, with_transfer, with_phase, row_of};
 
+use crate::places::*;
 use card::Card;
-use maps::Mode;
-use registers::{Control, Half, Load, Made, Phase, Registers, State, Transfer};
+use registers::{Control, Load, Made, Phase, Registers, State, Transfer};
 
+pub type Row = [u16; 35];
+
+// `u16::from` says it too; what may not change holds this: it is a public function.
 pub fn one_of(flag: bool) -> u16
     ensures { (result ≡ one_of flag) × (result < 2) }
 {
-    if flag {
-        return 1;
-    }
-    0
+    u16::from(flag)
 }
 
-fn mode_number(mode: Mode) -> u16
-    ensures { result ≡ mode_number mode }
+fn put_registers(row: &mut Row, registers: Registers)
+    ensures { row.new ≡ with_registers row.old registers }
 {
-    match mode {
-        Mode::PcCard => 0,
-        Mode::TrueIde => 1,
-    }
+    row[STATUS] = u16::from(registers.status);
+    row[ERROR] = u16::from(registers.error);
+    row[COUNT] = u16::from(registers.count);
+    row[SECTOR] = u16::from(registers.address.sector);
+    row[CYLINDER_LOW] = u16::from(registers.address.low);
+    row[CYLINDER_HIGH] = u16::from(registers.address.high);
+    row[HEAD] = u16::from(registers.address.head);
 }
 
-fn half_number(half: Half) -> u16
-    ensures { result ≡ half_number half }
+fn put_option(row: &mut Row, option: u8, control: Control)
+    ensures { row.new ≡ with_option row.old option control }
 {
-    match half {
-        Half::Nothing => 0,
-        Half::Low => 1,
-        Half::High => 2,
-    }
+    row[OPTION] = u16::from(option);
+    row[CONTROL] = 4 * u16::from(control.held) + 2 * u16::from(control.masked);
+    row[SETTING] = u16::from(option % 128);
+    row[SRESET] = u16::from(option / 128);
+    row[HELD] = u16::from(control.held);
+    row[MASKED] = u16::from(control.masked);
 }
 
-fn with_registers(row: [u16; 35], registers: Registers) -> [u16; 35]
-    ensures { result ≡ with_registers row registers }
+fn put_made(row: &mut Row, made: Made)
+    ensures { row.new ≡ with_made row.old made }
 {
-    let address = registers.address;
-    let mut r = row;
-    r[3] = ground::wide(registers.status);
-    r[4] = ground::wide(registers.error);
-    r[5] = ground::wide(registers.count);
-    r[6] = ground::wide(address.sector);
-    r[7] = ground::wide(address.low);
-    r[8] = ground::wide(address.high);
-    r[9] = ground::wide(address.head);
-    r
+    row[DEFAULT_CYLINDERS] = made.default.cylinders;
+    row[DEFAULT_HEADS] = made.default.heads;
+    row[DEFAULT_SECTORS] = made.default.sectors;
+    row[MODE] = made.mode as u16;
 }
 
-fn with_option(row: [u16; 35], option: u8, control: Control) -> [u16; 35]
-    ensures { result ≡ with_option row option control }
-{
-    let held = one_of(control.held);
-    let masked = one_of(control.masked);
-    let mut r = row;
-    r[10] = option as u16;
-    r[11] = 4 * held + 2 * masked;
-    r[26] = (option % 128) as u16;
-    r[27] = (option / 128) as u16;
-    r[28] = held;
-    r[29] = masked;
-    r
-}
-
-fn with_made(row: [u16; 35], made: Made) -> [u16; 35]
-    ensures { result ≡ with_made row made }
-{
-    let mode = made.mode;
-    let default = made.default;
-    let mut r = row;
-    r[30] = default.cylinders;
-    r[31] = default.heads;
-    r[32] = default.sectors;
-    r[33] = mode_number(mode);
-    r
-}
-
-fn state_row(state: State) -> [u16; 35]
+fn state_row(state: State) -> Row
     ensures { result ≡ state_row state }
 {
-    let current = state.current;
-    let mut none = [0; 35];
-    none[34] = 1; // a transfer that becomes one of sectors moves them singly
-    let mut r = with_made(none, state.made);
-    r[12] = ground::wide(state.code);
-    r[13] = one_of(state.interrupt);
-    r[14] = current.cylinders;
-    r[15] = current.heads;
-    r[16] = current.sectors;
-    r[21] = state.bad;
-    r[22] = state.block;
-    with_option(
-        with_registers(r, state.registers),
-        state.option,
-        state.control,
-    )
+    let mut row = [0; 35];
+    row[STRIDE] = 1; // a transfer that becomes one of sectors moves them singly
+    put_made(&mut row, state.made);
+    row[CODE] = u16::from(state.code);
+    row[INTERRUPT] = u16::from(state.interrupt);
+    row[CYLINDERS] = state.current.cylinders;
+    row[HEADS] = state.current.heads;
+    row[SECTORS] = state.current.sectors;
+    row[BAD] = state.bad;
+    row[BLOCK] = state.block;
+    put_registers(&mut row, state.registers);
+    put_option(&mut row, state.option, state.control);
+    row
 }
 
-fn with_load(row: [u16; 35], load: Load) -> [u16; 35]
-    ensures { result ≡ with_load row load }
+fn put_load(row: &mut Row, load: Load)
+    ensures { row.new ≡ with_load row.old load }
 {
-    let mut r = row;
-    match load {
-        Load::Sectors(left, pace) => {
-            let stride = pace.stride;
-            r[20] = left;
-            r[23] = stride;
-            r[24] = pace.place;
-            r[25] = 1;
-            r[34] = stride;
-            r
-        }
-        Load::Buffer => r,
+    if let Load::Sectors(left, pace) = load {
+        row[LEFT] = left;
+        row[STRIDE_SHOWN] = pace.stride;
+        row[PLACE] = pace.place;
+        row[LOAD] = 1;
+        row[STRIDE] = pace.stride;
     }
 }
 
-fn with_transfer(row: [u16; 35], phase: u16, t: Transfer) -> [u16; 35]
-    ensures { result ≡ with_transfer row phase t }
+fn put_transfer(row: &mut Row, phase: u16, transfer: Transfer)
+    ensures { row.new ≡ with_transfer row.old phase transfer }
 {
-    let half = t.half;
-    let load = t.load;
-    let mut r = row;
-    r[17] = phase;
-    r[18] = half_number(half);
-    r[19] = t.words;
-    with_load(r, load)
+    row[PHASE] = phase;
+    row[HALF] = transfer.half as u16;
+    row[WORDS] = transfer.words;
+    put_load(row, transfer.load);
 }
 
-fn with_phase(row: [u16; 35], phase: Phase) -> [u16; 35]
-    ensures { result ≡ with_phase row phase }
+fn put_phase(row: &mut Row, phase: Phase)
+    ensures { row.new ≡ with_phase row.old phase }
 {
     match phase {
-        Phase::Idle => row,
-        Phase::DataIn(t) => with_transfer(row, 1, t),
-        Phase::DataOut(t) => with_transfer(row, 2, t),
+        Phase::Idle => {}
+        Phase::DataIn(transfer) => put_transfer(row, 1, transfer),
+        Phase::DataOut(transfer) => put_transfer(row, 2, transfer),
     }
 }
 
 #[tactic(auto, unfolding(crate::specs::Rows::row_of))]
-pub fn row_of(card: Card) -> [u16; 35]
+pub fn row_of(card: Card) -> Row
     ensures { result ≡ row_of card }
 {
-    let state = card.state;
-    let phase = card.phase;
-    with_phase(state_row(state), phase)
+    let mut row = state_row(card.state);
+    put_phase(&mut row, card.phase);
+    row
 }

@@ -1,28 +1,26 @@
 -- What the functions give, by what the reader and the writer promise.
 --     handed_outcome, handed_entry     after reading, a place holds the chain's entry of its number, or what the list held
---     made_is           the first places of an array that one entry was stored in are the list to be written
---     back-refused, back-written      a refused reading is the answer, and else the writing of the entries read
+--     made_is           the first places of an array, the last of which an entry was stored in, are the list to be written
+--     back-written      where the reading is accepted, the writing of the entries read is the answer
+use Rattle.std.proofs.Common.{Ok, Err}
 use mathlib.Core.Path.{◌≡◌, refl, sym, ◌∙◌, ap}
-use mathlib.Core.Bool.{Bool, true, false, true≢false, false≢true}
+use mathlib.Core.Bool.{Bool, true, false, true≢false}
 use mathlib.Core.List.{List, ◌∷◌, ◌++◌, []}
-use Prim.Native.Nat.{ℕ, zero, suc, ◌<◌, ◌≤◌, ◌-◌, min}
+use Prim.Native.Nat.{ℕ, zero, suc, ◌≤◌, ◌-◌, min}
 use native.Mathlib.Omega.{arith}
 use lib.ListN.{length, get_or, take, drop, set, replicate, length-replicate, get_or-eq_default}
-use lib.Seq.{take-suc-set}
 use lib.Dec.{ltb}
-use borrow.Author.Tests.{ltb-true, ltb-false, ne_eqb}
-use Rattle.ground.specs.Choice.{pick}
-use Rattle.ground.proofs.Lists.{take-replicate, drop-replicate, get_or-replicate}
-use Rattle.answers.specs.Answers.{refused}
-use Rattle.answers.specs.declared.Outcome.{Outcome}
-use Rattle.answers.specs.declared.Outcome.TheVariants.{Accepted, Refused}
+use borrow.Author.Tests.{ltb-true, ltb-false}
+use Rattle.std.proofs.lemmas.List.{take-replicate, drop-replicate}
+use Rattle.ground.proofs.Lists.{get_or-replicate}
+use Rattle.answers.specs.Answers.{refused, Outcome}
 use Rattle.answers.proofs.Outcomes.{says}
 use Rattle.tuples.specs.Read.{list_places, read_outcome, read_list, filled, unless_refused}
 use Rattle.tuples.specs.Write.{Writes, write_outcome, filled_up, tuple_bytes}
 use Rattle.tuples.specs.declared.Entry.{Entry}
 use Rattle.tuples.proofs.Filling.{all}
 use Rattle.tuples.proofs.Bounds.{most_entries, read_well}
-use Rattle.trial_lists.specs.Lists.{counted_as, handed_after, made, last_place, back_outcome, WritesBack}
+use Rattle.trial_lists.specs.Lists.{counted_as, handed_after, made, back_outcome, WritesBack}
 
 -- ---- what a place holds after reading
 -- what stands after the entries is as good as nothing
@@ -33,17 +31,17 @@ get_or-replicate_after (e ∷ es) m (suc j) x = get_or-replicate_after es m j x
 
 -- a place of the list is the chain's entry of its number, or what the list held
 by_answer : (s : List ℕ) (m j : ℕ) (x : Entry) (o : Outcome) → get_or (unless_refused o (filled (all s) (replicate m x)) (replicate m x)) j x ≡ get_or (unless_refused o (all s) []) j x
-by_answer s m j x (Accepted n) =
+by_answer s m j x (Ok n) =
     ap (λ (l : List Entry). get_or (all s ++ l) j x) (drop-replicate (length (all s)) m x) ∙ get_or-replicate_after (all s) (m - length (all s)) j x
-by_answer s m j x (Refused y) = get_or-replicate m j x
+by_answer s m j x (Err y) = get_or-replicate m j x
 
 place_holds : (s : List ℕ) (m j : ℕ) (x : Entry) → get_or (read_list s (replicate m x)) j x ≡ get_or (unless_refused (read_outcome s m) (all s) []) j x
 place_holds s m j x =
     ap (λ (k : ℕ). get_or (unless_refused (read_outcome s k) (filled (all s) (replicate m x)) (replicate m x)) j x) (length-replicate m x) ∙ by_answer s m j x (read_outcome s m)
 
 few : (s : List ℕ) (m : ℕ) (o : Outcome) → read_outcome s m ≡ o → length (unless_refused o (all s) []) ≤ 127
-few s m (Accepted n) e = let ok = read_well s m n e in most_entries s ok.sized ok.ended
-few s m (Refused y) e = omega arith
+few s m (Ok n) e = let ok = read_well s m n e in most_entries s ok.sized ok.ended
+few s m (Err y) e = omega arith
 
 by_number : (es : List Entry) (i : ℕ) (x : Entry) → length es ≤ 127 → (t : Bool) → ltb i 255 ≡ t → get_or es (min i 255) x ≡ get_or es i x
 by_number es i x h true e = ap (λ (j : ℕ). get_or es j x) (omega (arith, ltb-true i 255 e))
@@ -77,26 +75,22 @@ module _ (s : List ℕ) (places i m p : ℕ) (x : Entry) (ls zs : List Entry) (e
       ∙ ap (λ (j : ℕ). get_or (read_list s (replicate j x)) i x) em
 
 -- ---- a list that was made
-pub made_is : (n : ℕ) (e f : Entry) → n ≤ 256 → take n (set (replicate 256 e) (last_place n) f) ≡ made n e f
-unfolding made last_place
-made_is zero e f h = refl
-made_is (suc j) e f h =
-    let less : j < length (replicate 256 e) = omega (arith, length-replicate 256 e) in
-    let one : suc j - 1 ≡ j = omega arith in
-    let back : last_place (suc j) ≡ j = ap (λ (t : Bool). pick t 255 (suc j - 1)) (ne_eqb (suc j) 0 (λ q. let z : ⊥ = omega (arith, q) in z)) ∙ one in
-    let room : j ≤ 256 = omega arith in
-    ap (λ (k : ℕ). take (suc j) (set (replicate 256 e) k f)) back ∙ take-suc-set (replicate 256 e) j f less ∙ ap (λ (l : List Entry). l ++ (f ∷ [])) (take-replicate j 256 e room)
+last_set : (j : ℕ) (e f : Entry) → set (replicate (suc j) e) j f ≡ replicate j e ++ (f ∷ [])
+last_set zero e f = refl
+last_set (suc j) e f = ap (λ (l : List Entry). e ∷ l) (last_set j e f)
+
+made_set : (n : ℕ) (e f : Entry) → set (replicate n e) (n - 1) f ≡ made n e f
+unfolding made
+made_set zero e f = refl
+made_set (suc j) e f = let one : suc j - 1 ≡ j = omega arith in ap (λ (k : ℕ). set (replicate (suc j) e) k f) one ∙ last_set j e f
+
+pub made_is : (n : ℕ) (e f : Entry) → n ≤ 256 → set (take n (replicate 256 e)) (length (take n (replicate 256 e)) - 1) f ≡ made n e f
+made_is n e f h =
+    ap (λ (l : List Entry). set l (length l - 1) f) (take-replicate n 256 e h) ∙ ap (λ (k : ℕ). set (replicate n e) (k - 1) f) (length-replicate n e) ∙ made_set n e f
 
 -- ---- written back
-pub back-refused : (s os : List ℕ) (o : Outcome) → o ≡ read_outcome s list_places → refused o ≡ true → WritesBack s os o os
-back-refused s os (Accepted n) e h = absurd (false≢true h)
-back-refused s os (Refused x) e h =
-    let w = write_outcome s (all s) (length os) in
-    let b : Refused x ≡ back_outcome s (length os) = ap (λ (o : Outcome). unless_refused o w o) e in
-    (b, ap (λ (o : Outcome). unless_refused o (filled_up (tuple_bytes s (all s))) os) b, says _ _ b)
-
 pub back-written : (s os : List ℕ) (o r : Outcome) (z : List ℕ) → o ≡ read_outcome s list_places → refused o ≡ false → Writes s (all s) os r z → WritesBack s os r z
-back-written s os (Refused x) r z e h w = absurd (true≢false h)
-back-written s os (Accepted n) r z e h w =
+back-written s os (Err x) r z e h w = absurd (true≢false h)
+back-written s os (Ok n) r z e h w =
     let b : write_outcome s (all s) (length os) ≡ back_outcome s (length os) = ap (λ (o : Outcome). unless_refused o (write_outcome s (all s) (length os)) o) e in
     (w.0 ∙ b, w.1 ∙ ap (λ (o : Outcome). unless_refused o (filled_up (tuple_bytes s (all s))) os) b, says _ _ (w.0 ∙ b))

@@ -1,8 +1,6 @@
 -- oracle/TRIAL.md: the lists of tuples that `trial` lends.
-use Rattle.std.specs.Prelude.{ℕ, zero, suc, ◌-◌, min, ◌≡◌, List, ◌∷◌, ◌++◌, [], length, get_or, replicate, eqb}
-use Rattle.ground.specs.Choice.{pick}
-use Rattle.answers.specs.Answers.{Says}
-use Rattle.answers.specs.declared.Outcome.{Outcome}
+use Rattle.std.specs.Prelude.{ℕ, zero, suc, min, ◌≡◌, List, ◌∷◌, ◌++◌, [], length, get_or, replicate}
+use Rattle.answers.specs.Answers.{Says, Outcome}
 use Rattle.tuples.specs.Chain.{chain_at}
 use Rattle.tuples.specs.Read.{list_places, read_outcome, read_list, unless_refused}
 use Rattle.tuples.specs.Write.{tuple_bytes, filled_up, write_outcome}
@@ -25,10 +23,6 @@ HandedAfter s places before i r = (r ≡ handed_after s places before i) × Says
 unfoldable pub made : ℕ → Entry → Entry → List Entry
 made zero e f = []
 made (suc n) e f = replicate n e ++ (f ∷ [])
-
--- its last place; of none, a place outside it
-unfoldable pub last_place : ℕ → ℕ
-last_place n = pick (eqb n 0) 255 (n - 1)
 
 -- a chain is read, and where that is not refused, its entries are written over the same bytes
 abbrev pub back_outcome : List ℕ → ℕ → Outcome

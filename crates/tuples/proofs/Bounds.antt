@@ -1,20 +1,18 @@
 -- How many entries a chain has, and so what is known of the reader's answer.
 --     most_entries  a tuple takes two bytes and the end mark one, so a chain in 256 bytes has at most 127 tuples
---     read_well     an accepted reading: the three tests passed, and the count is that of the entries
+--     read_well     an accepted reading: the three tests passed, and the count is that of the entries and no more than the list has places
 --     entries_first the list that an accepted reading leaves starts with the chain's entries
---     bounds        the reader's count is within the entries and within the list, where it is not 0 the buffer has 256 bytes, and the list that has so many entries is the reader's
-use mathlib.Core.Path.{◌≡◌, refl, sym, ◌∙◌, ap}
+use Rattle.std.proofs.Common.{Ok}
+use mathlib.Core.Path.{◌≡◌, sym, ◌∙◌, ap}
 use mathlib.Core.Bool.{true, false≢true}
-use mathlib.Core.List.{List, ◌∷◌, ◌++◌, []}
-use Prim.Native.Nat.{ℕ, zero, suc, ◌+◌, ◌*◌, ◌<◌, ◌≤◌}
+use mathlib.Core.List.{List, ◌∷◌, []}
+use Prim.Native.Nat.{ℕ, zero, suc, ◌+◌, ◌*◌, ◌≤◌}
 use native.Mathlib.Omega.{arith}
 use lib.ListN.{length, take, drop}
-use lib.Seq.{take_all, take_at}
+use lib.Seq.{take_at}
 use lib.Dec.{leb, eqb}
 use borrow.Author.Tests.{leb-true, eqb-true}
-use Rattle.answers.specs.Answers.{outcome_value, refused}
-use Rattle.answers.specs.declared.Outcome.{Outcome}
-use Rattle.answers.specs.declared.Outcome.TheVariants.{Accepted, Refused}
+use Rattle.answers.specs.Answers.{outcome_value, refused, Outcome}
 use Rattle.tuples.specs.Chain.{Chain, chain_from, chain_at}
 use Rattle.tuples.specs.Read.{read_table, read_outcome, filled, unless_refused, Reads}
 use Rattle.tuples.specs.declared.Entry.{Entry}
@@ -46,37 +44,20 @@ pub record ReadWell (s : List ℕ) (places n : ℕ) : Type 0 where
   pub enough : 127 ≤ places
   pub ended : (chain_at s 0).ended ≡ true
   pub count : n ≡ length (all s)
+  pub fits : n ≤ places
 
-pub read_well : (s : List ℕ) (places n : ℕ) → read_outcome s places ≡ Accepted n → ReadWell s places n
+pub read_well : (s : List ℕ) (places n : ℕ) → read_outcome s places ≡ Ok n → ReadWell s places n
 unfolding read_outcome
 read_well s places n e =
-    let p = passed (read_table s places) (Accepted (length (all s))) (ap refused e) in
+    let p = passed (read_table s places) (Ok (length (all s))) (ap refused e) in
     let q : length (all s) ≡ n = ap outcome_value (sym p.0 ∙ e) in
-    record { sized = eqb-true _ _ (un_not _ _ (p.1 5)); enough = leb-true _ _ (un_not _ _ (p.1 16)); ended = un_not _ _ (p.1 13); count = sym q }
-
--- ---- the reader's answer
-pub record Bounds (s : List ℕ) (ls : List Entry) (o : Outcome) : Type 0 where
-  pub in_es : outcome_value o ≤ length (all s)
-  pub in_ls : outcome_value o ≤ length ls
-  pub sized : 0 < outcome_value o → length s ≡ 256
-  pub left : take (outcome_value o) (all s) ++ drop (outcome_value o) ls ≡ unless_refused o (filled (all s) ls) ls
-
-by_answer : (s : List ℕ) (ls : List Entry) (o : Outcome) → read_outcome s (length ls) ≡ o → Bounds s ls o
-by_answer s ls (Accepted n) e =
-    let ok = read_well s (length ls) n e in
-    record {
-      in_es = omega (arith, ok.count);
-      in_ls = omega (arith, ok.count, ok.enough, most_entries s ok.sized ok.ended);
-      sized = λ p. ok.sized;
-      left = ap (λ (j : ℕ). take j (all s) ++ drop j ls) ok.count ∙ ap (λ (es : List Entry). es ++ drop (length (all s)) ls) (take_all (length (all s)) (all s) (omega arith));
-    }
-by_answer s ls (Refused x) e = record { in_es = omega arith; in_ls = omega arith; sized = λ p. let z : ⊥ = omega arith in absurd z; left = refl }
-
-pub bounds : (s : List ℕ) (ls : List Entry) → Bounds s ls (read_outcome s (length ls))
-bounds s ls = by_answer s ls (read_outcome s (length ls)) refl
+    let sized = eqb-true _ _ (un_not _ _ (p.1 5)) in
+    let enough = leb-true _ _ (un_not _ _ (p.1 16)) in
+    let ended = un_not _ _ (p.1 13) in
+    record { sized = sized; enough = enough; ended = ended; count = sym q; fits = omega (arith, q, enough, most_entries s sized ended) }
 
 -- ---- what it leaves
-pub entries_first : (s : List ℕ) (ls : List Entry) (r : Outcome) (zs : List Entry) → Reads s ls r zs → (n : ℕ) → r ≡ Accepted n → take n zs ≡ all s
+pub entries_first : (s : List ℕ) (ls : List Entry) (r : Outcome) (zs : List Entry) → Reads s ls r zs → (n : ℕ) → r ≡ Ok n → take n zs ≡ all s
 entries_first s ls r zs e n p =
     let q = sym e.0 ∙ p in
     ap (take n) (e.1 ∙ ap (λ (o : Outcome). unless_refused o (filled (all s) ls) ls) q) ∙ take_at (all s) (drop (length (all s)) ls) n (sym (read_well s (length ls) n q).count)

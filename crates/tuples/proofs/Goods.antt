@@ -1,4 +1,5 @@
 -- What a tuple that may be written is known to be, and what an accepted writing says.
+use Rattle.std.proofs.Common.{Ok}
 use mathlib.Core.Path.{◌≡◌, ap}
 use mathlib.Core.Bool.{true, false}
 use mathlib.Core.List.{List}
@@ -10,7 +11,6 @@ use lib.Dec.{leb, eqb}
 use borrow.Author.Tests.{leb-true}
 use Rattle.ground.proofs.Picks.{not_first, un_not}
 use Rattle.answers.specs.Answers.{refused}
-use Rattle.answers.specs.declared.Outcome.TheVariants.{Accepted}
 use Rattle.answers.proofs.Rows.{passed}
 use Rattle.tuples.specs.Write.{good, body_of, tuple_bytes, all_good, most_bytes, write_table, write_outcome}
 use Rattle.tuples.specs.declared.Entry.{Entry}
@@ -35,8 +35,8 @@ pub record WrittenWell (bs : List ℕ) (es : List Entry) : Type 0 where
   pub are_good : all_good bs es ≡ true
   pub short : length (tuple_bytes bs es) ≤ 255
 
-pub written_well : (bs : List ℕ) (es : List Entry) (places v : ℕ) → write_outcome bs es places ≡ Accepted v → WrittenWell bs es
+pub written_well : (bs : List ℕ) (es : List Entry) (places v : ℕ) → write_outcome bs es places ≡ Ok v → WrittenWell bs es
 unfolding write_outcome
 written_well bs es places v e =
-    let p = (passed (write_table places (all_good bs es) (leb (length (tuple_bytes bs es)) most_bytes)) (Accepted 0) (ap refused e)).1 in
+    let p = (passed (write_table places (all_good bs es) (leb (length (tuple_bytes bs es)) most_bytes)) (Ok 0) (ap refused e)).1 in
     record { are_good = un_not _ _ (p 15); short = leb-true _ _ (un_not _ _ (p 14)) }

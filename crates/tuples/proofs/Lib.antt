@@ -1,6 +1,7 @@
 pub mod Chains
 pub mod Counts
 pub mod Goods
+pub mod Writing
 pub mod Filling
 pub mod Bounds
 pub mod PutTuple

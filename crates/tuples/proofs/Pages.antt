@@ -1,6 +1,7 @@
 -- The page that is made tuple by tuple is what the writer is to write.
 --     pages-bad, ends     the flags and the bytes of a page that all tuples of a list were added to
 --     puts-writes         so what is done with that page is the writer's promise
+use Rattle.std.proofs.Common.{Ok, Err}
 use mathlib.Core.Path.{◌≡◌, refl, sym, ◌∙◌, ap}
 use mathlib.Core.Bool.{Bool, true, false, not}
 use mathlib.Core.List.{List, ◌∷◌, ◌++◌, append_assoc, append-nil, []}
@@ -13,16 +14,14 @@ use borrow.Author.Tests.{leb-true, leb-false}
 use Rattle.ground.specs.Choice.{pick, every}
 use Rattle.ground.proofs.Picks.{pick-elim, pick_same, pick_of, both_of}
 use Rattle.answers.proofs.Outcomes.{says}
-use Rattle.answers.specs.declared.Outcome.{Outcome}
-use Rattle.answers.specs.declared.Outcome.TheVariants.{Accepted, Refused}
 use Rattle.ground.specs.Rows.{first_of}
 use Rattle.tuples.specs.Read.{unless_refused}
-use Rattle.tuples.specs.Page.{page, new_page, with_tuple, added_to, pages, put_outcome, Puts}
+use Rattle.tuples.specs.Page.{Page, page, new_page, with_tuple, added_to, pages, put_outcome, Puts}
 use Rattle.tuples.specs.Write.{good, body_of, tuple_bytes, all_good, filled_up, write_table, write_outcome, Writes}
 use Rattle.tuples.specs.declared.Entry.{Entry}
-use Rattle.tuples.specs.declared.page.Page.{Page}
 use Rattle.tuples.proofs.PutTuple.{put}
 use Rattle.tuples.proofs.Goods.{Good, is_good, long_body, written_well}
+use Rattle.answers.specs.Answers.{Outcome}
 
 -- ---- the flags
 bad-pick : (t u : Bool) (b : Bool) → pick u (pick t b true) true ≡ pick (pick t u false) b true
@@ -124,19 +123,19 @@ module _ (bs : List ℕ) where
     fit_is g false h = ap not ((all-added g).full (omega (arith, leb-false (length (tuple_bytes bs es)) 255 h)))
 
     -- whether they fit is asked only where all may be written
-    where_good : (good f f' : Bool) → (good ≡ true → f ≡ f') → first_of (write_table (length out) good f) Refused (Accepted 0) ≡ first_of (write_table (length out) good f') Refused (Accepted 0)
-    where_good true f f' e = ap (λ (x : Bool). first_of (write_table (length out) true x) Refused (Accepted 0)) (e refl)
+    where_good : (good f f' : Bool) → (good ≡ true → f ≡ f') → first_of {A = Outcome} (write_table (length out) good f) Err (Ok 0) ≡ first_of (write_table (length out) good f') Err (Ok 0)
+    where_good true f f' e = ap (λ (x : Bool). first_of (write_table (length out) true x) Err (Ok 0)) (e refl)
     where_good false f f' e = refl
 
     same_outcome : put_outcome the_page (length out) ≡ write_outcome bs es (length out)
     unfolding put_outcome write_outcome
     same_outcome =
-        ap (λ (g : Bool). first_of (write_table (length out) g (not the_page.over)) Refused (Accepted 0)) (good_is (all_good bs es) refl)
+        ap (λ (g : Bool). first_of (write_table (length out) g (not the_page.over)) Err (Ok 0)) (good_is (all_good bs es) refl)
         ∙ where_good (all_good bs es) _ _ (λ g. fit_is g (leb (length (tuple_bytes bs es)) 255) refl)
 
     same_bytes : (o : Outcome) → write_outcome bs es (length out) ≡ o → unless_refused o the_page.bytes out ≡ unless_refused o (filled_up (tuple_bytes bs es)) out
-    same_bytes (Accepted v) e = let ok = written_well bs es (length out) v e in (all-added ok.are_good).fit_bytes (omega (arith, ok.short))
-    same_bytes (Refused x) e = refl
+    same_bytes (Ok v) e = let ok = written_well bs es (length out) v e in (all-added ok.are_good).fit_bytes (omega (arith, ok.short))
+    same_bytes (Err x) e = refl
 
     -- what is done with the page is the writer's promise
     pub puts-writes : (r : Outcome) (z : List ℕ) → Puts the_page out r z → Writes bs es out r z

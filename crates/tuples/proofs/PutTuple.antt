@@ -6,7 +6,7 @@ use Prim.Native.Nat.{ℕ, suc, ◌+◌, ◌≤◌, ◌-◌}
 use native.Mathlib.Omega.{arith}
 use lib.ListN.{length, take, drop, set, replicate, length-append}
 use lib.Seq.{paste, set-append_seam, set_at, append_snoc, take_at, drop-append-add}
-use Rattle.ground.proofs.Lists.{drop-replicate}
+use Rattle.std.proofs.lemmas.List.{drop-replicate}
 use Rattle.tuples.specs.Write.{filled_up}
 
 -- a tuple is put after the bytes p

@@ -2,6 +2,7 @@
 --     end_reached         row 13: a chain that the reader finds whole is one that comes to its end mark
 --     bad_is          row 15, of the whole list
 --     taken_is        row 14, where no tuple is bad
+use Rattle.std.specs.Prelude.{Result}
 use Prim.Native.Nat.{ℕ, zero, suc, ◌+◌, ◌≤◌}
 use mathlib.Core.Path.{◌≡◌, refl, sym, ap, ◌∙◌}
 use mathlib.Core.Bool.{Bool, true, false, not, ◌||◌}
@@ -17,6 +18,7 @@ use Rattle.tuples.specs.Chain.{Chain, step_at, chain_at}
 use Rattle.tuples.specs.Write.{good, all_good, tuple_bytes, body_of}
 use Rattle.tuples.specs.Rows.{reaches_end, bad, any_bad, bytes_taken}
 use Rattle.tuples.specs.declared.Entry.{Entry}
+use Rattle.answers.specs.declared.Refusal.{Refusal}
 use Rattle.tuples.specs.declared.chain.Step.{Step}
 use Rattle.tuples.proofs.Chains.{chain-step, past, after}
 use Rattle.tuples.proofs.Goods.{is_good, long_body}
@@ -32,7 +34,7 @@ ended_at : (s : List ℕ) (at : ℕ) → let n = at + 2 + get_or s (at + 1) 0 in
     (chain_at s at).ended
     ≡ pick (ltb at (length s)) (pick (eqb (get_or s at 0) 255) true (pick (eqb (get_or s at 0) 0) (chain_at s (at + 1)).ended (pick (leb n (length s)) (chain_at s n).ended false))) false
 unfolding step_at
-ended_at s at = ap (λ (c : Chain). c.ended) (chain-step s at) ∙ simp (pick_of (λ (x : Step). (after s at x).ended))
+ended_at s at = ap (λ (c : Chain). c.ended) (chain-step s at) ∙ simp (pick_of (λ (x : Result Step Refusal). (after s at x).ended))
 
 in_bytes : (at : ℕ) (t : Bool) → leb at 255 ≡ t → ltb at 256 ≡ t
 in_bytes at true e = lt-ltb at 256 (omega (arith, leb-true at 255 e))

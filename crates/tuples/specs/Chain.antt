@@ -1,11 +1,12 @@
 -- 01, "Tuples": the chain of tuples that a buffer holds.
-use Rattle.std.specs.Prelude.{ℕ, zero, suc, ◌+◌, Bool, true, false, List, ◌∷◌, [], length, get_or, drop, ltb, leb, eqb}
+use Rattle.std.specs.Prelude.{ℕ, zero, suc, ◌+◌, Bool, true, false, List, ◌∷◌, [], Option, Some, None, Result, Ok, Err, length, get_or, drop, ltb, leb, eqb}
 use Rattle.ground.specs.Choice.{pick}
 use Rattle.ground.specs.Rows.{When, Unless, first_or}
+use Rattle.answers.specs.declared.Refusal.{Refusal}
+use Rattle.answers.specs.declared.Refusal.TheVariants.{ChainBroken}
 use Rattle.tuples.specs.declared.Entry.{Entry}
-use Rattle.tuples.specs.declared.chain.Found.{Found}
 use Rattle.tuples.specs.declared.chain.Step.{Step}
-use Rattle.tuples.specs.declared.chain.Step.TheVariants.{Tuple, Null, End, Broken}
+use Rattle.tuples.specs.declared.chain.Step.TheVariants.{Tuple, Null, End}
 
 -- "00H is one byte, skipped; FFH ends the chain"
 abbrev pub null_code : ℕ
@@ -55,27 +56,29 @@ chain_from zero (b ∷ (n ∷ r)) at =
 abbrev pub chain_at : List ℕ → ℕ → Chain
 chain_at s at = chain_from 0 (drop at s) at
 
--- one step: what stands at a place
-unfoldable pub step_at : List ℕ → ℕ → Step
+-- one step: what stands at a place, or that the chain is broken there
+unfoldable pub step_at : List ℕ → ℕ → Result Step Refusal
 step_at s at =
     first_or
-    (Unless (ltb at (length s)) Broken
-    ∷ When (eqb (get_or s at 0) end_mark) End
-    ∷ When (eqb (get_or s at 0) null_code) Null
-    ∷ Unless (leb (at + 2 + get_or s (at + 1) 0) (length s)) Broken
+    (Unless (ltb at (length s)) (Err ChainBroken)
+    ∷ When (eqb (get_or s at 0) end_mark) (Ok End)
+    ∷ When (eqb (get_or s at 0) null_code) (Ok Null)
+    ∷ Unless (leb (at + 2 + get_or s (at + 1) 0) (length s)) (Err ChainBroken)
     ∷ [])
-    (Tuple (entry (get_or s at 0) (at + 2) (get_or s (at + 1) 0)))
+    (Ok (Tuple (entry (get_or s at 0) (at + 2) (get_or s (at + 1) 0))))
 
-abbrev pub found : Entry → ℕ → Found
-found e n = record { entry = e; next = n }
+-- the next tuple is the first of the chain from a place on; none where no tuple is left
+abbrev pub first_found : List Entry → Option Entry
+first_found [] = None
+first_found (e ∷ es) = Some e
 
--- the next tuple is the first of the chain from a place on, and the place moves behind its body; where no tuple is left, there is none and the place stays
-abbrev pub first_found : List Entry → ℕ → Found
-first_found [] from = found no_entry from
-first_found (e ∷ es) from = found e (end_of e)
+unfoldable pub next_at : List ℕ → ℕ → Option Entry
+next_at s from = first_found (chain_at s from).entries
 
-unfoldable pub next_at : List ℕ → ℕ → Found
-next_at s from = first_found (chain_at s from).entries from
+-- the place moves behind the body of a tuple that was found; where none is left, it stays
+abbrev pub place_behind : Option Entry → ℕ → ℕ
+place_behind None from = from
+place_behind (Some e) from = end_of e
 
 -- whether a link of the chain is FFH; the first k bytes are a body
 unfoldable pub link_ff : ℕ → List ℕ → Bool

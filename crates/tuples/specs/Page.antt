@@ -1,15 +1,21 @@
--- The page that the writer makes tuple by tuple, and what is done with it.
-use Rattle.std.specs.Prelude.{ℕ, ◌+◌, ◌≡◌, Bool, true, false, not, List, ◌∷◌, [], length, drop, set, replicate, leb}
+-- Writing told in other words, in one pass over the list: a page is made tuple by tuple and then put into the buffer, or refused by what it notes on the way.
+-- proofs/Pages `puts-writes` says that this comes to the writer's promise.
+use Rattle.std.specs.Prelude.{ℕ, ◌+◌, ◌≡◌, Bool, true, false, not, List, ◌∷◌, [], length, drop, set, replicate, leb, Ok, Err}
 use Rattle.std.proofs.Math.Seq.{paste}
 use Rattle.ground.specs.Sizes.{tuple_buffer_bytes}
 use Rattle.tuples.specs.Chain.{end_mark}
-use Rattle.answers.specs.declared.Outcome.{Outcome}
-use Rattle.answers.specs.declared.Outcome.TheVariants.{Accepted, Refused}
 use Rattle.ground.specs.Rows.{Unless, first_of, first_or}
 use Rattle.tuples.specs.declared.Entry.{Entry}
-use Rattle.tuples.specs.declared.page.Page.{Page}
 use Rattle.tuples.specs.Read.{unless_refused}
 use Rattle.tuples.specs.Write.{most_bytes, good, write_table}
+use Rattle.answers.specs.Answers.{Outcome}
+
+-- 256 bytes, of which those before `at` are tuples; whether a tuple was bad, and whether one went beyond 255 bytes
+pub record Page : Type 0 where
+  pub bytes : List ℕ
+  pub at : ℕ
+  pub bad : Bool
+  pub over : Bool
 
 abbrev pub page : List ℕ → ℕ → Bool → Bool → Page
 page bs at bad over = record { bytes = bs; at = at; bad = bad; over = over }
@@ -37,7 +43,7 @@ pages bs w (e ∷ es) = pages bs (added_to bs w e) es
 
 -- "Writing checks 5, 15, 14.": by the flags
 unfoldable pub put_outcome : Page → ℕ → Outcome
-put_outcome w n = first_of (write_table n (not w.bad) (not w.over)) Refused (Accepted 0)
+put_outcome w n = first_of (write_table n (not w.bad) (not w.over)) Err (Ok 0)
 
 abbrev pub put_list : Page → List ℕ → List ℕ
 put_list w out = unless_refused (put_outcome w (length out)) w.bytes out

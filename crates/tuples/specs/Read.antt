@@ -1,13 +1,10 @@
 -- 01, "Tuples" and "Answers": what the reader answers and what it leaves in the lent list.
-use Rattle.std.specs.Prelude.{ℕ, ◌≡◌, List, ◌++◌, [], ◌∷◌, length, drop, leb, eqb}
+use Rattle.std.specs.Prelude.{ℕ, ◌≡◌, List, ◌++◌, [], ◌∷◌, Ok, Err, length, drop, leb, eqb}
 use Rattle.ground.specs.Sizes.{tuple_buffer_bytes}
-use Rattle.answers.specs.Answers.{outcome_value, Says}
-use Rattle.answers.specs.declared.Outcome.{Outcome}
-use Rattle.answers.specs.declared.Outcome.TheVariants.{Accepted, Refused}
+use Rattle.answers.specs.Answers.{Says, Outcome}
 use Rattle.answers.specs.declared.Refusal.TheVariants.{TupleBufferLength, ListTooShort, ChainBroken}
 use Rattle.ground.specs.Rows.{Row, Unless, first_of}
 use Rattle.answers.specs.declared.Refusal.{Refusal}
-use Rattle.tuples.specs.declared.read.Checked.{Checked}
 use Rattle.tuples.specs.declared.Entry.{Entry}
 use Rattle.tuples.specs.Chain.{Chain, chain_at}
 
@@ -21,7 +18,7 @@ broken_row c = Unless c.ended ChainBroken
 
 -- "The reader's value is its entry count"
 unfoldable pub counted : Chain → Outcome
-counted c = first_of (broken_row c ∷ []) Refused (Accepted (length c.entries))
+counted c = first_of (broken_row c ∷ []) Err (Ok (length c.entries))
 
 -- "Tuple reading checks 5, 16, 13."
 abbrev pub read_table : List ℕ → ℕ → List (Row Refusal)
@@ -32,12 +29,12 @@ read_table s places =
     ∷ []
 
 unfoldable pub read_outcome : List ℕ → ℕ → Outcome
-read_outcome s places = first_of (read_table s places) Refused (Accepted (length (chain_at s 0).entries))
+read_outcome s places = first_of (read_table s places) Err (Ok (length (chain_at s 0).entries))
 
 -- "Every refusal … changes nothing"
 abbrev pub unless_refused {ℓ} : {A : Type ℓ} → Outcome → A → A → A
-unless_refused (Accepted value) new old = new
-unless_refused (Refused refusal) new old = old
+unless_refused (Ok value) new old = new
+unless_refused (Err refusal) new old = old
 
 -- "fills a lent list of entries …. Places after the last entry keep what they held."
 abbrev pub filled : List Entry → List Entry → List Entry
@@ -49,7 +46,3 @@ read_list s l = unless_refused (read_outcome s (length l)) (filled (chain_at s 0
 -- the reader's promise: its answer, with the number and value of 01, and the list that it leaves
 abbrev pub Reads : List ℕ → List Entry → Outcome → List Entry → Type 0
 Reads s l r z = (r ≡ read_outcome s (length l)) × (z ≡ read_list s l) × Says r (read_outcome s (length l))
-
--- an answer, with the number of entries that it speaks of
-abbrev pub checked : Outcome → Checked
-checked o = record { outcome = o; count = outcome_value o }

@@ -1,10 +1,8 @@
 -- 01, "Tuples" and "Answers": what the writer answers and which bytes it sets.
-use Rattle.std.specs.Prelude.{ℕ, zero, suc, ◌+◌, ◌-◌, ◌≡◌, Bool, false, List, ◌∷◌, ◌++◌, map, [], length, take, drop, replicate, leb, eqb}
+use Rattle.std.specs.Prelude.{ℕ, zero, suc, ◌+◌, ◌-◌, ◌≡◌, Bool, false, List, ◌∷◌, ◌++◌, map, [], length, take, drop, replicate, leb, eqb, Ok, Err}
 use Rattle.ground.specs.Choice.{pick, every}
 use Rattle.ground.specs.Sizes.{tuple_buffer_bytes}
-use Rattle.answers.specs.Answers.{Says}
-use Rattle.answers.specs.declared.Outcome.{Outcome}
-use Rattle.answers.specs.declared.Outcome.TheVariants.{Accepted, Refused}
+use Rattle.answers.specs.Answers.{Says, Outcome}
 use Rattle.answers.specs.declared.Refusal.TheVariants.{TupleBufferLength, TuplesTooLong, TupleBad}
 use Rattle.ground.specs.Rows.{Row, When, Unless, first_of, first_or}
 use Rattle.answers.specs.declared.Refusal.{Refusal}
@@ -46,7 +44,7 @@ write_table n good fit =
     ∷ []
 
 unfoldable pub write_outcome : List ℕ → List Entry → ℕ → Outcome
-write_outcome bs es n = first_of (write_table n (all_good bs es) (leb (length (tuple_bytes bs es)) most_bytes)) Refused (Accepted 0)
+write_outcome bs es n = first_of (write_table n (all_good bs es) (leb (length (tuple_bytes bs es)) most_bytes)) Err (Ok 0)
 
 abbrev pub write_list : List ℕ → List Entry → List ℕ → List ℕ
 write_list bs es out = unless_refused (write_outcome bs es (length out)) (filled_up (tuple_bytes bs es)) out
@@ -67,8 +65,8 @@ abbrev pub codes : List Entry → List ℕ
 codes es = map (λ (e : Entry). e.code) es
 
 abbrev pub SameTuples : List ℕ → List Entry → List ℕ → Outcome → List Entry → Type 0
-SameTuples bs es z r zs = (r ≡ Accepted (length es)) × ((codes (take (length es) zs) ≡ codes es) × (map (body_of z) (take (length es) zs) ≡ map (body_of bs) es))
+SameTuples bs es z r zs = (r ≡ Ok (length es)) × ((codes (take (length es) zs) ≡ codes es) × (map (body_of z) (take (length es) zs) ≡ map (body_of bs) es))
 
 -- "writing back equals the chain up to its end mark, null (00H) tuples dropped"
 abbrev pub WrittenBack : List ℕ → Outcome → List ℕ → Type 0
-WrittenBack s r z = (r ≡ Accepted 0) × (z ≡ filled_up (nulls_dropped 0 s))
+WrittenBack s r z = (r ≡ Ok 0) × (z ≡ filled_up (nulls_dropped 0 s))

@@ -1,89 +1,53 @@
 // The chain of tuples: what stands at a place of a buffer, and the next tuple from there on.
-ghost use Rattle.std.specs.Prelude.{◌≡◌, [], length};
-ghost use Rattle.ground.specs.Sizes.{tuple_buffer_bytes};
-ghost use Rattle.tuples.specs.Chain.{step_at, next_at, first_found};
+ghost use Rattle.std.specs.Prelude.{◌≡◌};
+ghost use Rattle.tuples.specs.Chain.{step_at, next_at};
 
-use super::{END_MARK, Entry, NO_ENTRY, NULL_CODE};
+use super::{END_MARK, Entry, NULL_CODE};
+use answers::Refusal;
+use ground::TupleBuffer;
 
-// What stands at a place of a tuple buffer.
+// What stands at a place of a tuple buffer, where the chain is not broken.
 #[derive(Clone, Copy)]
 pub(crate) enum Step {
     Tuple(Entry),
     Null,
     End,
-    Broken,
 }
 
 // "Code, link, then link bytes of body. 00H is one byte, skipped; FFH ends the chain."
-pub(crate) fn step_at(buffer: &[u8], at: usize) -> Step
-    requires { length buffer.now ≡ tuple_buffer_bytes }
+#[tactic(auto, unfolding(crate::specs::Chain::step_at))]
+pub(crate) fn step_at(buffer: &TupleBuffer, at: usize) -> Result<Step, Refusal>
     ensures { result ≡ step_at buffer.now at }
 {
-    if buffer.len() <= at {
-        return Step::Broken;
-    }
-    let code = buffer[at];
-    if code == END_MARK {
-        return Step::End;
-    }
-    if code == NULL_CODE {
-        return Step::Null;
-    }
-    if buffer.len() <= at + 1 {
-        return Step::Broken;
-    }
-    let link = ground::wide(buffer[at + 1]);
-    if buffer.len() < at + 2 + link as usize {
-        return Step::Broken;
-    }
-    Step::Tuple(Entry {
-        code: code,
-        start: (at + 2) as u16,
-        length: link,
-    })
-}
-
-// A tuple that was looked for, and the place to go on from.
-#[derive(Clone, Copy)]
-pub(crate) struct Found {
-    pub(crate) entry: Entry,
-    pub(crate) next: usize,
-}
-
-// No tuple is left: the place stays.
-fn nothing(place: usize) -> Found
-    ensures { result ≡ first_found [] place }
-{
-    Found {
-        entry: NO_ENTRY,
-        next: place,
-    }
-}
-
-// The next tuple from a place on; null tuples are passed.
-pub(crate) fn next_tuple(buffer: &[u8], from: usize) -> Found
-    requires { length buffer.now ≡ tuple_buffer_bytes }
-    ensures { result ≡ next_at buffer.now from }
-{
-    let mut at: usize = from;
-    while at < buffer.len() {
-        match step_at(buffer, at) {
-            Step::Tuple(entry) => {
-                return Found {
-                    entry: entry,
-                    next: entry.end(),
-                };
+    let code = *buffer.get(at).ok_or(Refusal::ChainBroken)?;
+    match code {
+        END_MARK => Ok(Step::End),
+        NULL_CODE => Ok(Step::Null),
+        _ => {
+            let link = *buffer.get(at + 1).ok_or(Refusal::ChainBroken)?;
+            if buffer.len() < at + 2 + usize::from(link) {
+                return Err(Refusal::ChainBroken);
             }
-            Step::Null => {
-                at += 1;
-            }
-            Step::End => {
-                return nothing(from);
-            }
-            Step::Broken => {
-                return nothing(from);
-            }
+            Ok(Step::Tuple(Entry {
+                code,
+                start: (at + 2) as u16,
+                length: u16::from(link),
+            }))
         }
     }
-    nothing(from)
+}
+
+// The next tuple from a place on; null tuples are passed. The place goes on by what stands there, so it counts nothing.
+#[tactic(auto, using(crate::proofs::Chains::next_by, crate::proofs::Chains::in_buffer))]
+pub(crate) fn next_tuple(buffer: &TupleBuffer, from: usize) -> Option<Entry>
+    ensures { result ≡ next_at buffer.now from }
+{
+    let mut at = from;
+    loop {
+        match step_at(buffer, at) {
+            Ok(Step::Tuple(entry)) => return Some(entry),
+            Ok(Step::Null) => at += 1,
+            Ok(Step::End) | Err(_) => return None,
+        }
+    }
 }

@@ -1,105 +1,78 @@
 // The reader: it surveys the whole chain, then fills the list.
-ghost use Rattle.std.specs.Prelude.{◌≡◌, length};
-ghost use Rattle.ground.specs.Sizes.{tuple_buffer_bytes};
-ghost use Rattle.tuples.specs.Chain.{chain_at, next_at, found};
-ghost use Rattle.tuples.specs.Read.{counted, read_outcome, checked, Reads};
+ghost use Rattle.std.specs.Prelude.{◌≡◌, ◌≤◌, length, take};
+ghost use Rattle.tuples.specs.Chain.{chain_at, next_at, place_behind};
+ghost use Rattle.tuples.specs.Read.{counted, Reads};
 
 use super::{Entry, LIST_PLACES};
 use crate::chain;
 use crate::chain::Step;
 use answers::{Outcome, Refusal};
-use ground::TUPLE_BUFFER_BYTES;
+use ground::TupleBuffer;
 
-// The survey of a chain: whole, with the count of its tuples, or broken.
-fn count_tuples(buffer: &[u8]) -> Outcome
-    requires { length buffer.now ≡ tuple_buffer_bytes }
+// The survey of a chain: the count of its tuples, where it is whole. The place goes on by what stands there, so it is no index.
+#[tactic(auto, using(crate::proofs::Counts::added_none, crate::proofs::Counts::added_by))]
+fn count_tuples(buffer: &TupleBuffer) -> Result<u16, Refusal>
     ensures { result ≡ counted (chain_at buffer.now 0) }
 {
-    let mut at: usize = 0;
-    let mut count: u16 = 0;
-    while at < buffer.len() {
-        match chain::step_at(buffer, at) {
+    let mut at = 0;
+    let mut count = 0;
+    loop {
+        match chain::step_at(buffer, at)? {
             Step::Tuple(entry) => {
                 count += 1;
                 at = entry.end();
             }
-            Step::Null => {
-                at += 1;
-            }
-            Step::End => {
-                return Outcome::Accepted(count);
-            }
-            Step::Broken => {
-                return Outcome::Refused(Refusal::ChainBroken);
-            }
+            Step::Null => at += 1,
+            Step::End => return Ok(count),
         }
-    }
-    Outcome::Refused(Refusal::ChainBroken)
-}
-
-// "Tuple reading checks 5, 16, 13."
-fn read_outcome(buffer: &[u8], places: usize) -> Outcome
-    ensures { result ≡ read_outcome buffer.now places }
-{
-    if buffer.len() != TUPLE_BUFFER_BYTES {
-        return Outcome::Refused(Refusal::TupleBufferLength);
-    }
-    if places < LIST_PLACES {
-        return Outcome::Refused(Refusal::ListTooShort);
-    }
-    count_tuples(buffer)
-}
-
-// An answer, and the number of entries that it speaks of.
-#[derive(Clone, Copy)]
-struct Checked {
-    outcome: Outcome,
-    count: usize,
-}
-
-// The reader's answer before anything is read: a refusal changes nothing.
-fn check_read(buffer: &[u8], places: usize) -> Checked
-    ensures { result ≡ checked (read_outcome buffer.now places) }
-{
-    let outcome = read_outcome(buffer, places);
-    Checked {
-        outcome: outcome,
-        count: outcome.value() as usize,
     }
 }
 
 // The tuple buffer, and a place in it.
 #[derive(Clone, Copy)]
 struct Reader<'a> {
-    buffer: &'a [u8],
+    buffer: &'a TupleBuffer,
     place: usize,
 }
 
-// The reader goes on to the place behind the next tuple.
-fn advance<'s, 'a>(r: &'s mut Reader<'a>) -> Entry
-    requires { length r.old.buffer.now ≡ tuple_buffer_bytes }
-    ensures { (r.new.buffer ≡ r.old.buffer) × (found result r.new.place ≡ next_at r.old.buffer.now r.old.place) }
-{
-    let f = chain::next_tuple(r.buffer, r.place);
-    r.place = f.next;
-    f.entry
+impl Reader<'_> {
+    // The reader hands out the next tuple and goes on to the place behind it; where no tuple is left, it stays.
+    fn advance(&mut self) -> Option<Entry>
+        ensures same { self.new.buffer ≡ self.old.buffer }
+        ensures next { result ≡ next_at self.old.buffer.now self.old.place }
+        ensures place { self.new.place ≡ place_behind result self.old.place }
+    {
+        let next = chain::next_tuple(self.buffer, self.place);
+        if let Some(entry) = next {
+            self.place = entry.end();
+        }
+        next
+    }
 }
 
-// The reader: "walks a lent buffer and fills a lent list of entries". A refusal changes nothing, so the whole chain is surveyed first.
+// The first tuples of a chain, into a list of no more places than it has tuples.
+fn fill(buffer: &TupleBuffer, list: &mut [Entry])
+    requires { length list.old ≤ length (chain_at buffer.now 0).entries }
+    ensures { list.new ≡ take (length list.old) (chain_at buffer.now 0).entries }
+{
+    let mut reader = Reader { buffer, place: 0 };
+    for place in list.iter_mut() {
+        *place = reader.advance().unwrap();
+    }
+}
+
+// The reader: "walks a lent buffer and fills a lent list of entries". "Tuple reading checks 5, 16, 13." A refusal changes nothing, so the whole chain
+// is surveyed first.
 pub fn read_tuples(buffer: &[u8], list: &mut [Entry]) -> Outcome
     ensures { Reads buffer.now list.old result list.new }
 {
-    let check = check_read(buffer, list.len());
-    let n = check.count;
-    let mut reader = Reader {
-        buffer: buffer,
-        place: 0,
+    let Ok(buffer) = <&TupleBuffer>::try_from(buffer) else {
+        return Err(Refusal::TupleBufferLength);
     };
-    let mut k: usize = 0;
-    while k < n {
-        let e = advance(&mut reader);
-        list[k] = e;
-        k += 1;
+    if list.len() < LIST_PLACES {
+        return Err(Refusal::ListTooShort);
     }
-    check.outcome
+    let count = count_tuples(buffer)?;
+    fill(buffer, &mut list[..usize::from(count)]);
+    Ok(count)
 }

@@ -19,13 +19,13 @@ returns c =
     let a = c.args in
     let s = a.buffer.now in
     let x = a.before in
-    let n = c.at_most-n.result in
-    let p = c.at_most-place.result in
+    let n = c.min-n.result in
+    let p = c.min.result in
     let ls : List Entry = replicate 256 x in
     let zs : List Entry = c.read_tuples-outcome.new.list in
     let e : Reads s (take n ls) c.read_tuples-outcome.result zs = c.read_tuples-outcome.ensures in
-    let o = handed_outcome s a.places a.number n p x ls zs c.at_most-n.ensures.0 c.at_most-n.ensures.1 refl c.read_tuples-outcome.result e.0 in
-    let inside : p < length (zs ++ drop n ls) = in_array ls zs n p (length-replicate 256 x) c.at_most-place.ensures.1 c.read_tuples-outcome.auto.list in
+    let o = handed_outcome s a.places a.number n p x ls zs c.min-n.ensures (omega arith) refl c.read_tuples-outcome.result e.0 in
+    let inside : p < length (zs ++ drop n ls) = in_array ls zs n p (length-replicate 256 x) (omega arith) c.read_tuples-outcome.auto.list in
     let y : get_or (zs ++ drop n ls) p no_entry ≡ (handed_after s a.places x a.number).entry =
-    get_or_default (zs ++ drop n ls) p no_entry x inside ∙ handed_entry s a.places a.number n p x ls zs c.at_most-n.ensures.0 c.at_most-n.ensures.1 refl c.at_most-place.ensures.0 e.1 in
+    get_or_default (zs ++ drop n ls) p no_entry x inside ∙ handed_entry s a.places a.number n p x ls zs c.min-n.ensures (omega arith) refl c.min.ensures e.1 in
     ((λ j. record { outcome = o j; entry = y j }), outcomes-say _ _ o)

@@ -3,4 +3,4 @@ use Rattle.card.proofs.opening.open_refused.Goals as goal
 
 pub returns : goal.returns
 unfolding zeros
-returns c = simp (c.answer.ensures, c.refused.ensures, c.zero_state-state.ensures)
+returns c = simp (c.answer.ensures, c.refused.ensures, c.zero_state.ensures)

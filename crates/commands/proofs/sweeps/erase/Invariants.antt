@@ -1,10 +1,6 @@
 use mathlib.Core.Path.{◌≡◌}
-use lib.ListN.{length}
 use Rattle.commands.specs.Sweeps.{erase_from}
 use Rattle.commands.proofs.sweeps.erase.Given as goal
 
-abbrev pub invariant-loop-n : goal.invariant-loop-n
-invariant-loop-n l = (length l.store ≡ length l.initial.store) × (length l.marks ≡ length l.initial.marks) × (erase_from l.n l.s l.store l.marks ≡ erase_from l.initial.n l.initial.s l.initial.store l.initial.marks)
-
-abbrev pub decreases-loop-n : goal.decreases-loop-n
-decreases-loop-n l = l.n
+abbrev pub invariant-loop-left : goal.invariant-loop-left
+invariant-loop-left l = erase_from l.left l.state l.store l.marks ≡ erase_from l.fn.count l.fn.state l.initial.store l.initial.marks

@@ -1,4 +1,4 @@
-use Rattle.std.proofs.Common.{◌≡◌, ℕ, ◌<◌, take, sym, ap, ◌∙◌, arith, drop-set-lt, rules}
+use Rattle.std.proofs.Common.{◌≡◌, ℕ, ◌<◌, take, sym, ap, ◌∙◌, arith, rules}
 use Rattle.ground.proofs.Lists.{copy_more}
 use Rattle.identify.specs.Integrity.{with_integrity}
 use Rattle.identify.specs.Words.{told_bytes, identify_bytes}
@@ -10,13 +10,9 @@ loop-i-preserved c =
     let l = c.loop-i in
     let f = c.args.self in
     let n = told_length f in
-    let h : l.i < 124 = omega arith in
-    let t : l.i < 510 = omega arith in (
-      search rules,
-      search rules,
-      rw (c.byte.ensures, table_byte f l.i h, ← told_at f l.i t) (copy_more l.i (told_bytes f) l.buffer (omega arith) (omega arith) l.invariant.2),
-      drop-set-lt 124 l.buffer l.i _ h ∙ l.invariant.3,
-    )
+    let h : l.i < 124 = c.loop-i-test.true in
+    let t : l.i < 510 = omega arith in
+    rw (c.byte.ensures, table_byte f l.i h, ← told_at f l.i t) (copy_more l.i (told_bytes f) l.byte-items (omega arith) (omega arith) l.invariant)
 
 pub returns : goal.returns
 unfolding identify_bytes
@@ -24,5 +20,5 @@ returns c =
     let l = c.loop-i in
     let f = c.args.self in
     let e : l.i ≡ 124 = omega arith in
-    let told : take 124 l.buffer ≡ take 124 (told_bytes f) = ap (λ (k : ℕ). take k l.buffer) (sym e) ∙ l.invariant.2 ∙ ap (λ (k : ℕ). take k (told_bytes f)) e in
-    c.put_integrity.ensures ∙ ap with_integrity (put_in_129 f l.buffer told l.invariant.3)
+    let told : take 124 l.byte-items ≡ take 124 (told_bytes f) = ap (λ (k : ℕ). take k l.byte-items) (sym e) ∙ l.invariant ∙ ap (λ (k : ℕ). take k (told_bytes f)) e in
+    c.put_integrity.ensures ∙ ap with_integrity (put_in_129 f l.byte-items c.copy_from_slice.new.self l.auto.byte-items told (c.copy_from_slice.ensures.after ∙ c.to_le_bytes.ensures) (search rules))

@@ -1,14 +1,10 @@
-use Rattle.std.proofs.Common.{◌∙◌, rules}
-use Rattle.identify.specs.Integrity.{sum_of}
-use Rattle.identify.proofs.Sums.{sum_more}
+use Rattle.std.proofs.Common.{◌≡◌, ◌+◌, ◌%◌, ◌∙◌, rules}
+use Rattle.std.specs.List.{fold}
+use Rattle.std.proofs.iter.runs.Made.{chains}
+use Rattle.identify.proofs.Sums.{summed}
 use Rattle.identify.proofs.integrity.wrapped_sum.Goals as goal
 
-pub loop-i-init : goal.loop-i-init
-unfolding sum_of
-loop-i-init c = search rules
-
-pub loop-i-preserved : goal.loop-i-preserved
-loop-i-preserved c =
-    let l = c.loop-i in
-    let b = c.args.bytes.now in
-    (search rules, c.wrapping_add_u8-sum.ensures.value ∙ sum_more l.i b l.sum c.loop-i-test.true l.invariant.1)
+pub returns : goal.returns
+returns c =
+    let e : c.fold.result ≡ fold (λ s b. (s + b) % 256) 0 c.args.bytes.now = search (rules, chains) in
+    e ∙ summed c.args.bytes.now

@@ -1,22 +1,16 @@
-use native.Mathlib.Omega.{arith}
-use borrow.Author.Rules.{rules}
-use Rattle.sectors.proofs.Counting.{bad_more, fit_more, bad_end, fit_end}
+use Rattle.std.proofs.Common.{◌≡◌, ◌↔◌, not, count_by, nat_eq, leb, sym, ◌∙◌, rules}
+use Rattle.std.specs.List.{AllPass}
+use Rattle.std.specs.Prelude.{IsTrue}
+use Rattle.std.proofs.iter.runs.Made.{chains}
+use Rattle.sectors.specs.Marks.{bad_in, marks_fit}
+use Rattle.sectors.proofs.Counting.{bad_counted, fit_tested, bad_at_most}
 use Rattle.sectors.proofs.marks.count.Goals as goal
-
-pub loop-i-preserved : goal.loop-i-preserved
-loop-i-preserved c =
-    let l = c.loop-i in
-    let m = c.args.marks.now in
-    let o = c.one_if_bad.ensures in (
-      search rules,
-      search rules,
-      rw o.0 (bad_more m l.i l.bad (omega arith) l.invariant.2),
-      rw c.fits_too-fit.ensures (fit_more m l.i l.fit (omega arith) l.invariant.3),
-    )
 
 pub returns : goal.returns
 returns c =
-    let l = c.loop-i in
     let m = c.args.marks.now in
-    let i = c.loop-i-test.false in
-    (simp (bad_end m l.i l.bad i l.invariant.2, fit_end m l.i l.fit i l.invariant.3), search rules)
+    let counted : c.count.result ≡ count_by (λ x. not (nat_eq x 0)) m = search (rules, chains) in
+    let tested : IsTrue c.all.result ↔ AllPass (λ x. leb x 2) m = search (rules, chains) in
+    let bad : c.count.result ≡ bad_in m = counted ∙ sym (bad_counted m) in
+    let fit : c.all.result ≡ marks_fit m = fit_tested m c.all.result tested in
+    (simp (bad, fit), rw bad (bad_at_most m))

@@ -9,10 +9,10 @@ loop-i-preserved c =
     let l = c.loop-i in
     let h = c.loop-i-test.true in
     let e = c.hex_at.ensures ∙ sym (table_at l.i h) in
-    (search rules, search rules, rw e (copy_more l.i hex_table l.table (rw table_length h) (rw l.invariant.1 h) l.invariant.2))
+    (search rules, rw e (copy_more l.i hex_table l.table (rw table_length h) (rw l.invariant.0 h) l.invariant.1))
 
 pub returns : goal.returns
 returns c =
     let l = c.loop-i in
     let h = c.loop-i-test.false in
-    copy_all l.i hex_table l.table (rw table_length h) (rw l.invariant.1 h) l.invariant.2
+    copy_all l.i hex_table l.table (rw table_length h) (rw l.invariant.0 h) l.invariant.1

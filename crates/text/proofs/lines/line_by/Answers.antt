@@ -11,4 +11,4 @@ returns c =
     let e = c.byte-after_blank.ensures.place in
     let f = c.hex_by-after_value.ensures.place in
     let g = c.byte.ensures.place in
-    (p, omega arith)
+    (rw c.from.ensures at p, omega arith)

@@ -10,8 +10,8 @@ returns-then-roomy c =
     let w = c.line_by.ensures in
     put-wrote w.0 (le_trans w.1 h)
 
-pub returns : goal.returns
-returns c =
+pub returns-else-roomy : goal.returns-else-roomy
+returns-else-roomy c =
     let w = c.line_by-size.ensures.0 in
     let e = written_text w c.line_by-size.ensures.1 in
     c.put.ensures ∙ ap (put _) e

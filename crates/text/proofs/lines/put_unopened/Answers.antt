@@ -3,4 +3,4 @@ use Rattle.text.proofs.lines.put_unopened.Goals as goal
 
 pub returns : goal.returns
 returns c =
-    put_both _ _ _ _ _ c.put-next.ensures c.put_number.ensures
+    put_both _ _ _ _ _ c.put-next.ensures (rw c.from.ensures at c.put_number.ensures)

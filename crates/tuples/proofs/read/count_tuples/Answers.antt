@@ -1,51 +1,34 @@
-use Rattle.tuples.specs.declared.chain.Step.TheVariants.{Null, End, Broken}
-use Rattle.tuples.proofs.Chains.{chain-found, past, forward}
-use Rattle.tuples.proofs.Counts.{added, added_none, counts}
-use Rattle.tuples.specs.Chain.{chain_at}
-use Rattle.answers.specs.declared.Outcome.TheVariants.{Accepted}
-use native.Mathlib.Nat.{add-zero}
-use native.Mathlib.Omega.{arith}
-use borrow.Author.Rules.{rules}
-use mathlib.Core.Path.{refl, sym, ◌∙◌, ap}
+-- What the step that was found says of the place and of the count.
+use Rattle.std.proofs.Common.{◌≡◌, ℕ, ◌<◌, List, Ok, sym, ◌∙◌, ap, arith}
+use Rattle.tuples.specs.Chain.{step_at, end_of}
+use Rattle.tuples.specs.declared.Entry.{Entry}
+use Rattle.tuples.specs.declared.chain.Step.{Step}
+use Rattle.tuples.specs.declared.chain.Step.TheVariants.{Tuple}
+use Rattle.tuples.proofs.Chains.{in_buffer, forward}
+use Rattle.tuples.proofs.Counts.{added_after, added_by}
 use Rattle.tuples.proofs.read.count_tuples.Goals as goal
 
-pub loop-at-init : goal.loop-at-init
-loop-at-init c = (search rules, added_none (chain_at c.args.buffer.now 0))
+-- a tuple's end is further on
+behind : (s : List ℕ) (at : ℕ) (x : Step) (e : Entry) → Ok x ≡ step_at s at → x ≡ Tuple e → at < end_of e
+behind s at x e p q = rw (sym p ∙ ap Ok q) at (forward s at)
 
-pub loop-at-smaller-in-Tuple : goal.loop-at-smaller-in-Tuple
-loop-at-smaller-in-Tuple c =
+pub overflow_add-count : goal.overflow_add-count
+overflow_add-count c = omega (arith, in_buffer _ _ _ (sym c.in_ok-entry.ensures))
+
+pub loop-entry-smaller-in-Tuple : goal.loop-entry-smaller-in-Tuple
+loop-entry-smaller-in-Tuple c = omega (arith, in_buffer _ _ _ (sym c.in_ok-entry.ensures), behind _ _ _ _ c.in_ok-entry.ensures c.in-Tuple.is)
+
+pub loop-entry-preserved-in-Tuple : goal.loop-entry-preserved-in-Tuple
+loop-entry-preserved-in-Tuple c =
     let s = c.args.buffer.now in
-    let at = c.loop-at.at in
-    let p = sym c.in-Tuple.ensures in
-    omega (arith, rw p at (forward s at), c.end-at.ensures)
+    let l = c.loop-entry in
+    record {
+      few = omega (arith, behind _ _ _ _ c.in_ok-entry.ensures c.in-Tuple.is);
+      sum = rw c.end-at.ensures (sym (added_by l.count s l.at ∙ ap (added_after l.count s l.at) (sym c.in_ok-entry.ensures ∙ ap Ok c.in-Tuple.is)) ∙ l.invariant.sum);
+    }
 
-pub loop-at-preserved-in-Tuple : goal.loop-at-preserved-in-Tuple
-loop-at-preserved-in-Tuple c =
-    let s = c.args.buffer.now in
-    let l = c.loop-at in
-    let p = sym c.in-Tuple.ensures in
-    (omega (arith, rw p at (forward s l.at), c.end-at.ensures), rw c.end-at.ensures (counts s l.at l.count _ p ∙ l.invariant.1))
+pub overflow_add-at : goal.overflow_add-at
+overflow_add-at c = omega (arith, in_buffer _ _ _ (sym c.in_ok-entry.ensures))
 
-pub loop-at-preserved : goal.loop-at-preserved
-loop-at-preserved c =
-    let s = c.args.buffer.now in
-    let l = c.loop-at in
-    let p = chain-found s l.at {x = Null} c.in-Null.ensures refl in
-    (omega arith, ap (added l.count) p ∙ l.invariant.1)
-
-pub returns-in-End : goal.returns-in-End
-returns-in-End c =
-    let s = c.args.buffer.now in
-    let l = c.loop-at in
-    let p = chain-found s l.at {x = End} c.in-End.ensures refl in
-    ap Accepted (sym (add-zero _)) ∙ ap (added l.count) p ∙ l.invariant.1
-
-pub returns-in-Broken : goal.returns-in-Broken
-returns-in-Broken c =
-    let s = c.args.buffer.now in
-    let l = c.loop-at in
-    let p = chain-found s l.at {x = Broken} c.in-Broken.ensures refl in
-    ap (added l.count) p ∙ l.invariant.1
-
-pub returns : goal.returns
-returns c = ap (added c.loop-at.count) (sym (past c.args.buffer.now c.loop-at.at c.loop-at-test.false)) ∙ c.loop-at.invariant.1
+pub loop-entry-smaller : goal.loop-entry-smaller
+loop-entry-smaller c = omega (arith, in_buffer _ _ _ (sym c.in_ok-entry.ensures))

@@ -1,36 +1,77 @@
--- What is done with the page of the whole list is the writer's promise.
-use Rattle.std.proofs.Common.{◌≡◌, ◌+◌, ◌≤◌, ◌<◌, ℕ, List, length, drop, get_or, sym, ◌∙◌, ap, subst, add-one, drop-cons, arith}
-use lib.ListN.{drop_of_length-le}
-use Rattle.tuples.specs.Chain.{no_entry}
-use Rattle.tuples.specs.Page.{added_to, new_page, pages, Puts}
+-- Each test refuses as the table of the definition does, and a list that passes all three is written.
+use Rattle.std.proofs.Common.{◌≡◌, ◌≤◌, ◌<◌, ◌-◌, ◌++◌, ◌^◌, ℕ, List, Bool, min, true, false, length, drop, replicate, sym, ◌∙◌, ap, arith, Ok}
+use borrow.Author.Tests.{eq-eqb, le-leb}
+use Rattle.std.specs.List.{list_all}
+use Rattle.ground.proofs.Tests.{tests}
+use Rattle.std.proofs.lemmas.List.{drop-replicate}
+use Rattle.answers.proofs.Outcomes.{says}
+use Rattle.tuples.specs.Read.{unless_refused}
+use Rattle.tuples.specs.Rows.{bytes_taken}
+use Rattle.tuples.specs.Write.{good, all_good, tuple_bytes, filled_up, write_outcome, Writes}
 use Rattle.tuples.specs.declared.Entry.{Entry}
-use Rattle.tuples.specs.declared.page.Page.{Page}
-use Rattle.tuples.proofs.Pages.{puts-writes}
+use Rattle.tuples.proofs.RowTests.{taken_is}
+use Rattle.tuples.proofs.Writing.{all_is}
 use Rattle.tuples.proofs.write.write_tuples.Goals as goal
 
--- one tuple more is in the page
-one_more : (bs : List ℕ) (es : List Entry) (k : ℕ) (w r : Page) → k < length es → pages bs w (drop k es) ≡ pages bs new_page es → r ≡ added_to bs w (get_or es k no_entry)
-    → pages bs r (drop (k + 1) es) ≡ pages bs new_page es
-unfolding pages
-one_more bs es k w r less inv e =
-    ap (λ (v : Page). pages bs v (drop (k + 1) es)) e ∙ ap (λ (j : ℕ). pages bs (added_to bs w (get_or es k no_entry)) (drop j es)) (add-one k) ∙ ap (pages bs w) (sym (drop-cons es k no_entry less)) ∙ inv
+pub returns-then-out-ne-TUPLE_BUFFER_BYTES : goal.returns-then-out-ne-TUPLE_BUFFER_BYTES
+unfolding write_outcome
+returns-then-out-ne-TUPLE_BUFFER_BYTES c = search tests
 
--- all tuples are
-all_in : (bs : List ℕ) (es : List Entry) (k : ℕ) (w : Page) → length es ≤ k → pages bs w (drop k es) ≡ pages bs new_page es → w ≡ pages bs new_page es
-unfolding pages
-all_in bs es k w over inv = ap (pages bs w) (sym (drop_of_length-le es over)) ∙ inv
+pub returns-then-not-all_good : goal.returns-then-not-all_good
+unfolding write_outcome
+returns-then-not-all_good c =
+    let a = c.args in
+    let bad : all_good a.bodies.now a.list.now ≡ false = sym (all_is a.bodies.now a.list.now) ∙ sym c.all_good.ensures ∙ c.if-not-all_good.true in
+    search tests
 
-pub loop-k-init : goal.loop-k-init
-loop-k-init c = (omega arith, ap (λ (w : Page). pages c.args.bodies.now w c.args.list.now) c.new_page-w.ensures)
+-- all tuples may be written, and the code's count says what they take
+module _ (bs : List ℕ) (es : List Entry) (all : Bool) (n : ℕ) (all_by : all ≡ list_all (good bs) es) (yes : all ≡ true) (taken : n ≡ min (bytes_taken es) (2 ^ 64 - 1)) where
+  good_all : all_good bs es ≡ true
+  good_all = sym (all_is bs es) ∙ sym all_by ∙ yes
 
-pub loop-k-preserved : goal.loop-k-preserved
-loop-k-preserved c =
-    let l = c.loop-k in
-    (omega arith, one_more c.args.bodies.now c.args.list.now l.k l.w _ c.loop-k-test.true l.invariant.1 c.add_tuple-w.ensures)
+  short : n ≤ 255 → length (tuple_bytes bs es) ≤ 255
+  short h = omega (arith, taken_is bs es good_all)
+
+  long : 255 < n → 255 < length (tuple_bytes bs es)
+  long h = omega (arith, taken_is bs es good_all)
+
+pub returns-then-bytes_taken-gt-MOST_BYTES : goal.returns-then-bytes_taken-gt-MOST_BYTES
+unfolding write_outcome
+returns-then-bytes_taken-gt-MOST_BYTES c =
+    let a = c.args in
+    let g = good_all a.bodies.now a.list.now _ _ c.all_good.ensures c.if-not-all_good.false c.bytes_taken.ensures in
+    let h = long a.bodies.now a.list.now _ _ c.all_good.ensures c.if-not-all_good.false c.bytes_taken.ensures c.if-bytes_taken-gt-MOST_BYTES.true in
+    search tests
+
+pub tuple_bytes-tuples-requires-clause-good : goal.tuple_bytes-tuples-requires-clause-good
+tuple_bytes-tuples-requires-clause-good c =
+    let a = c.args in
+    good_all a.bodies.now a.list.now _ _ c.all_good.ensures c.if-not-all_good.false c.bytes_taken.ensures
+
+pub tuple_bytes-tuples-requires-clause-short : goal.tuple_bytes-tuples-requires-clause-short
+tuple_bytes-tuples-requires-clause-short c =
+    let a = c.args in
+    short a.bodies.now a.list.now _ _ c.all_good.ensures c.if-not-all_good.false c.bytes_taken.ensures c.if-bytes_taken-gt-MOST_BYTES.false
+
+-- tuples of so many bytes, then FFH to the end of 256
+accepted_write : (bs : List ℕ) (es : List Entry) (out z : List ℕ) → length out ≡ 256 → all_good bs es ≡ true → length (tuple_bytes bs es) ≤ 255 → z ≡ filled_up (tuple_bytes bs es)
+    → Writes bs es out (Ok 0) z
+unfolding write_outcome
+accepted_write bs es out z l g h e =
+    let o : write_outcome bs es (length out) ≡ Ok 0 = simp (eq-eqb _ _ l, g, le-leb _ _ h) in
+    (sym o, e ∙ ap (λ o. unless_refused o (filled_up (tuple_bytes bs es)) out) (sym o), says _ _ (sym o))
+
+in_place : (ts front page : List ℕ) (n : ℕ) → front ≡ ts → n ≡ length ts → page ≡ replicate 256 255 → front ++ drop n page ≡ filled_up ts
+in_place ts front page n e f g =
+    ap (λ l. l ++ drop n page) e ∙ ap (λ j. ts ++ drop j page) f ∙ ap (λ l. ts ++ drop (length ts) l) g ∙ ap (λ l. ts ++ l) (drop-replicate (length ts) 256 255)
 
 pub returns : goal.returns
 returns c =
     let a = c.args in
-    let l = c.loop-k in
-    let all = all_in a.bodies.now a.list.now l.k l.w c.loop-k-test.false l.invariant.1 in
-    puts-writes a.bodies.now a.list.now a.out.now _ _ (subst (λ (w : Page). Puts w a.out.now c.put_page.result c.put_page.new.out) all c.put_page.ensures)
+    let bs = a.bodies.now in
+    let es = a.list.now in
+    let g = good_all bs es _ _ c.all_good.ensures c.if-not-all_good.false c.bytes_taken.ensures in
+    let h = short bs es _ _ c.all_good.ensures c.if-not-all_good.false c.bytes_taken.ensures c.if-bytes_taken-gt-MOST_BYTES.false in
+    accepted_write bs es a.out.now _ c.if-out-ne-TUPLE_BUFFER_BYTES.false g h
+    (in_place _ _ _ _ (c.copy_from_slice.ensures.after ∙ c.deref.ensures.0 ∙ c.tuple_bytes-tuples.ensures) (c.len.ensures.value ∙ ap length c.tuple_bytes-tuples.ensures)
+    (c.fill.ensures.after (λ y e. e) ∙ ap (λ n. replicate n 255) c.if-out-ne-TUPLE_BUFFER_BYTES.false))
