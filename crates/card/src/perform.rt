@@ -48,7 +48,7 @@ fn command_written(
 ) -> Core
     ensures { machine result buffer.new store.new marks.new ≡ register_written Register.StatusCommand value (machine core buffer.old store.old marks.old) }
 {
-    let state = core.state; // by itself: handed on as `core.state`, an access by words takes 147.9 instructions in place of 134.4
+    let state = core.state; // by itself: handed on as `core.state`, an access by words took 13 instructions more
     if state.control.held {
         return core;
     }
@@ -56,7 +56,7 @@ fn command_written(
 }
 
 // A register is written. Command and Device Control are tested for first, so that what writes any other register is called at one place (D160); as
-// one match it is slower, by words 135.5 instructions an access in place of 134.4, by bytes 167.1 in place of 165.6.
+// one match an access took an instruction more, by words and by bytes.
 #[tactic(auto, unfolding(crate::specs::Perform::register_written))]
 fn write_register(
     core: Core,

@@ -117,7 +117,7 @@ fn ask(state: State) -> Core
     transfers::steps::ask_sector(state, count_of(state), pace, Order::First)
 }
 
-// What a command does.
+// What a command does: a case for each, as the definition goes by cases; a table of functions would want one form for all.
 fn obey(
     state: State,
     command: Command,

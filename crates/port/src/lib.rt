@@ -31,7 +31,7 @@ pub struct Done {
     pub core: Core,
 }
 
-// A refusal, which leaves the core.
+// A refusal, which leaves the core. Two functions: with an Outcome as its parameter one would have Ok or Err at each of its calls.
 pub fn refused(core: Core, refusal: Refusal) -> Done
     ensures { result ≡ record { outcome = Err refusal; core = core } }
 {

@@ -5,7 +5,7 @@ ghost use Rattle.registers.specs.Resets.{turn_of, rest_status, entered, option_t
 use super::{Control, Core, Phase, State};
 use ground::{SECTOR_BYTES, Sector};
 
-// What writing a reset's bit does to the hold.
+// What writing a reset's bit does to the hold. An enum, and no closure: the definitions of both resets go by its cases.
 #[derive(Clone, Copy)]
 pub enum Turn {
     Enter,

@@ -81,6 +81,7 @@ fn opened_on(
     }
 }
 
+// Three functions: the length of the first is a product, and no const argument can be one.
 fn zero_store() -> [u8; SECTOR_BYTES * MOST_SECTORS]
     ensures { result ≡ zero_bytes (sector_bytes * most_sectors) }
 {

@@ -17,7 +17,7 @@ pub const WRITE_FAULT_CODE: u8 = 0x03;
 
 pub const NO_SUCH_COMMAND_CODE: u8 = 0x20;
 
-// How a command ends: well, or by the test of the command table that failed.
+// How a command ends: well, or by the test of the command table that failed. No Result: Good has a Status, an Error and a code as the others have.
 #[derive(Clone, Copy)]
 pub enum End {
     Good,
