@@ -5,15 +5,18 @@ use native.Mathlib.Nat.{not-suc-le-zero}
 use native.Mathlib.Numerals.{sub-one}
 use mathlib.Core.Path.{◌≡◌, refl, sym}
 use mathlib.Core.List.{List}
+use lib.Dec.{eqb}
 use Rattle.ground.specs.Left.{leaving}
+use Rattle.ground.proofs.Picks.{pick-elim}
+use Rattle.geometry.specs.Address.{locate}
 use Rattle.geometry.specs.declared.Spot.{Spot}
 use Rattle.sectors.specs.Sectors.{store_marks}
 use Rattle.registers.specs.declared.State.{State}
-use Rattle.registers.specs.State.{with_bad}
+use Rattle.registers.specs.State.{with_bad, total_in}
 use Rattle.transfers.specs.declared.End.{End}
 use Rattle.transfers.specs.Ends.{ended}
 use Rattle.transfers.specs.declared.Way.TheVariants.{In}
-use Rattle.transfers.specs.Before.{sector_test, sector_stored}
+use Rattle.transfers.specs.Before.{Tested, tested_of, address_test, mark_tested, allows, mark_end, sector_test, sector_stored}
 use Rattle.transfers.specs.Steps.{sector_done}
 use Rattle.commands.specs.Sweeps.{verify_from, all_ff, erase_from}
 
@@ -51,3 +54,13 @@ pub erase_step : (n : ℕ) (s : State) (store marks store' marks' : List ℕ) (b
 unfolding erase_from
 erase_step zero s store marks store' marks' b spot h k = absurd (not-suc-le-zero h)
 erase_step (suc n) s store marks store' marks' b spot h k = simp (sym k, sub-one)
+
+-- Verify asks N once: it stays
+pub same_total : (n : ℕ) (s : State) → total_in (sector_done n s) ≡ total_in s
+unfolding sector_done
+same_total n s = pick-elim (λ (t : State). total_in t ≡ total_in s) (eqb n 0) _ _ (λ e. refl) (λ e. refl)
+
+pub placed : (n : ℕ) (s : State) (marks : List ℕ) (t : Tested) → n ≡ total_in s →
+    t ≡ mark_tested (allows In) (mark_end In) (tested_of (locate s.registers.address s.current n)) marks → sector_test In s marks ≡ t
+unfolding sector_test address_test
+placed n s marks t h e = sym (simp h at e)

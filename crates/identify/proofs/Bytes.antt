@@ -1,9 +1,9 @@
 -- The bytes of Identify, for the code that fills the buffer: how many they are, and which; those of word 129.
-use Rattle.std.proofs.Common.{◌≡◌, ℕ, ◌+◌, ◌/◌, ◌%◌, ◌<◌, List, [], ◌∷◌, ◌++◌, length, get_or, take, drop, replicate, sym, refl, ap, ◌∙◌, add_assoc, zero-add, arith, length-append, take-append-drop, ne_eqb}
-use Rattle.std.proofs.Common.{zero, suc, ◌==◌, take_all, le_refl, append_assoc, subst}
+use Rattle.std.proofs.Common.{◌≡◌, ℕ, ◌+◌, ◌/◌, ◌%◌, ◌<◌, List, [], ◌∷◌, ◌++◌, length, get_or, take, drop, set, replicate, sym, refl, ap, ◌∙◌, add_assoc, zero-add, arith, length-append, take-append-drop, take-add, ne_eqb}
+use Rattle.std.proofs.Common.{zero, suc, ◌==◌, append_assoc, drop-drop, drop_at}
 use Rattle.ground.specs.Choice.{pick}
 use lib.ListN.{get_or-append}
-use lib.Seq.{take-append-add, drop-append-add}
+use lib.Seq.{take-append-le, take-set-le, drop-set-add, sets-eq}
 use Rattle.ground.specs.Lists.{listed}
 use Rattle.ground.specs.Tables.{lookup}
 use Rattle.identify.specs.declared.Facts.{Facts}
@@ -38,29 +38,34 @@ pub table_byte : (f : Facts) (i : ℕ) → i < 124 → byte_of i (lookup (to_wor
 unfolding identify_byte identify_word
 table_byte f i h = rw (ne_eqb (i / 2) 129 (λ e. omega arith)) refl
 
-take_past : (n : ℕ) (table rest : List ℕ) → length table ≡ 124 → take (124 + n) (table ++ rest) ≡ table ++ take n rest
-take_past n table rest long = subst (λ (k : ℕ). take (k + n) (table ++ rest) ≡ table ++ take n rest) long (take-append-add table rest n)
-
-drop_past : (n : ℕ) (table rest : List ℕ) → length table ≡ 124 → drop (124 + n) (table ++ rest) ≡ drop n rest
-drop_past n table rest long = subst (λ (k : ℕ). drop (k + n) (table ++ rest) ≡ drop n rest) long (drop-append-add table rest n)
-
--- the bytes of words 0 to 61, then 0, with the bytes of word 129 put in: words 0 to 254
-pub put_in_129 : (f : Facts) (table word : List ℕ) → length table ≡ 124 → take 124 table ≡ take 124 (told_bytes f) → word ≡ f.bad % 256 ∷ (f.bad / 256 % 256 ∷ []) → f.bad < 65536 →
-    take 510 (take 258 (table ++ replicate 388 0) ++ (word ++ drop 2 (drop 258 (table ++ replicate 388 0)))) ≡ told_bytes f
-put_in_129 f table word long e w h =
-    let z : List ℕ = replicate 388 0 in
-    let gap : List ℕ = replicate 134 0 in
-    let q : f.bad / 256 % 256 ≡ f.bad / 256 = omega arith in
-    let v : word ≡ f.bad % 256 ∷ (f.bad / 256 ∷ []) = w ∙ ap (λ (k : ℕ). f.bad % 256 ∷ (k ∷ [])) q in
-    let whole : take 124 table ≡ table = take_all 124 table (rw long (le_refl 124)) in
-    ap (λ (l : List ℕ). take 510 (l ++ (word ++ drop 2 (drop 258 (table ++ z))))) (take_past 134 table z long)
-    ∙ ap (λ (l : List ℕ). take 510 ((table ++ gap) ++ (word ++ drop 2 l))) (drop_past 134 table z long)
-    ∙ ap (λ (l : List ℕ). take 510 ((table ++ gap) ++ (l ++ replicate 252 0))) v
-    ∙ ap (λ (l : List ℕ). take 510 l) (append_assoc table gap (f.bad % 256 ∷ (f.bad / 256 ∷ replicate 252 0)))
-    ∙ take_past 386 table (gap ++ (f.bad % 256 ∷ (f.bad / 256 ∷ replicate 252 0))) long
-    ∙ ap (λ (l : List ℕ). l ++ (gap ++ (f.bad % 256 ∷ (f.bad / 256 ∷ replicate 250 0)))) (sym whole ∙ e)
+-- the bytes of words 0 to 61, then 0, with word 129 put in: words 0 to 254
+pub put_in_129 : (f : Facts) (b : List ℕ) → take 124 b ≡ take 124 (told_bytes f) → drop 124 b ≡ replicate 388 0 →
+    take 510 (set (set b 258 (f.bad % 256)) 259 (f.bad / 256)) ≡ told_bytes f
+put_in_129 f b e z =
+    let low = f.bad % 256 in
+    let high = f.bad / 256 in
+    let m : List ℕ = set (set b 258 low) 259 high in
+    let before : take 124 m ≡ take 124 (told_bytes f) = take-set-le 124 (set b 258 low) 259 high (omega arith) ∙ take-set-le 124 b 258 low (omega arith) ∙ e in
+    let after : drop 124 m ≡ set (set (replicate 388 0) 134 low) 135 high =
+    drop-set-add 124 (set b 258 low) 135 high ∙ ap (λ (l : List ℕ). set l 135 high) (drop-set-add 124 b 134 low ∙ ap (λ (l : List ℕ). set l 134 low) z) in
+    take-add 124 386 m
+    ∙ ap (λ (l : List ℕ). l ++ take 386 (drop 124 m)) before
+    ∙ ap (λ (l : List ℕ). take 124 (told_bytes f) ++ take 386 l) after
     ∙ ap (λ (l : List ℕ). take 124 (told_bytes f) ++ l) (sym (told_after f))
     ∙ take-append-drop 124 (told_bytes f)
+
+-- the same of a table and zeros with the two bytes copied in: a copy is two stores
+pub copied_in_129 : (f : Facts) (table word : List ℕ) → length table ≡ 124 → take 124 table ≡ take 124 (told_bytes f) → word ≡ f.bad % 256 ∷ (f.bad / 256 % 256 ∷ []) → f.bad < 65536 →
+    take 510 (take 258 (table ++ replicate 388 0) ++ (word ++ drop 2 (drop 258 (table ++ replicate 388 0)))) ≡ told_bytes f
+copied_in_129 f table word long e w h =
+    let z : List ℕ = replicate 388 0 in
+    let b : List ℕ = table ++ z in
+    let q : f.bad / 256 % 256 ≡ f.bad / 256 = omega arith in
+    let v : List ℕ = f.bad % 256 ∷ (f.bad / 256 ∷ []) in
+    let n : length b ≡ 512 = length-append table z ∙ ap (λ (k : ℕ). k + 388) long in
+    let stores : take 258 b ++ (word ++ drop 2 (drop 258 b)) ≡ set (set b 258 (f.bad % 256)) 259 (f.bad / 256) =
+    rw (w, q, drop-drop 2 258 b, ← append_assoc (take 258 b) v (drop 260 b)) (sym (sets-eq v b 258 (omega arith))) in
+    ap (λ (l : List ℕ). take 510 l) stores ∙ put_in_129 f b (take-append-le 124 table z (omega arith) ∙ e) (drop_at table z 124 long)
 
 pub integrity_length : (l : List ℕ) → length (with_integrity l) ≡ length l + 2
 unfolding with_integrity giving_zero

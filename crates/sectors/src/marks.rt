@@ -28,10 +28,13 @@ pub struct Counted {
 pub fn count(marks: &[u8]) -> Counted
     ensures { (result ≡ record { bad = bad_in marks.now; fit = marks_fit marks.now }) × (result.bad ≤ length marks.now) }
 {
-    Counted {
-        bad: marks.iter().filter(|mark| **mark != 0).count(),
-        fit: marks.iter().all(|mark| *mark <= 2),
+    let mut bad = 0;
+    let mut fit = true;
+    for mark in marks {
+        bad += usize::from(*mark != 0);
+        fit = fit && *mark <= 2;
     }
+    Counted { bad, fit }
 }
 
 // 02: one less once such a mark is set to 0, never below 0.

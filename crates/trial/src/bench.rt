@@ -1,5 +1,5 @@
 // What the records are played on: the card, the rows of bytes, and the last entry of a list to be written.
-use crate::lines::{self, AnswerLine, BytesLine};
+use crate::lines::{self, AnswerLine, BYTES, BytesLine, NUMBERS};
 use crate::lists;
 use crate::records::{Kind, Record, low};
 use crate::rows::{self, Row};
@@ -66,7 +66,7 @@ impl Bench {
     }
 
     fn take(&mut self, answer: Answer) {
-        lines::print(AnswerLine(answer));
+        lines::print::<NUMBERS>(AnswerLine(answer));
         self.card = answer.card;
     }
 
@@ -118,7 +118,7 @@ impl Bench {
         let store = rows::sum(self.store.lent());
         let buffer = rows::sum(&self.card.buffer);
         let tuples = rows::sum(self.tuples.lent());
-        lines::print(format_args!("S {store:04X} {buffer:04X} {tuples:04X}\n"));
-        lines::print(BytesLine('M', self.marks.lent()));
+        lines::print::<NUMBERS>(format_args!("S {store:04X} {buffer:04X} {tuples:04X}\n"));
+        lines::print::<BYTES>(BytesLine('M', self.marks.lent()));
     }
 }

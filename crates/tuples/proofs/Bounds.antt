@@ -2,14 +2,15 @@
 --     most_entries  a tuple takes two bytes and the end mark one, so a chain in 256 bytes has at most 127 tuples
 --     read_well     an accepted reading: the three tests passed, and the count is that of the entries and no more than the list has places
 --     entries_first the list that an accepted reading leaves starts with the chain's entries
-use Rattle.std.proofs.Common.{Ok}
-use mathlib.Core.Path.{◌≡◌, sym, ◌∙◌, ap}
+--     bounds        the reader's count is within the entries and within the list, where it is not 0 the buffer has 256 bytes, and the list that has so many entries is the reader's
+use Rattle.std.proofs.Common.{Ok, Err}
+use mathlib.Core.Path.{◌≡◌, refl, sym, ◌∙◌, ap}
 use mathlib.Core.Bool.{true, false≢true}
-use mathlib.Core.List.{List, ◌∷◌, []}
-use Prim.Native.Nat.{ℕ, zero, suc, ◌+◌, ◌*◌, ◌≤◌}
+use mathlib.Core.List.{List, ◌∷◌, ◌++◌, []}
+use Prim.Native.Nat.{ℕ, zero, suc, ◌+◌, ◌*◌, ◌<◌, ◌≤◌}
 use native.Mathlib.Omega.{arith}
 use lib.ListN.{length, take, drop}
-use lib.Seq.{take_at}
+use lib.Seq.{take_all, take_at}
 use lib.Dec.{leb, eqb}
 use borrow.Author.Tests.{leb-true, eqb-true}
 use Rattle.answers.specs.Answers.{outcome_value, refused, Outcome}
@@ -55,6 +56,27 @@ read_well s places n e =
     let enough = leb-true _ _ (un_not _ _ (p.1 16)) in
     let ended = un_not _ _ (p.1 13) in
     record { sized = sized; enough = enough; ended = ended; count = sym q; fits = omega (arith, q, enough, most_entries s sized ended) }
+
+-- ---- the reader's answer
+pub record Bounds (s : List ℕ) (ls : List Entry) (o : Outcome) : Type 0 where
+  pub in_es : outcome_value o ≤ length (all s)
+  pub in_ls : outcome_value o ≤ length ls
+  pub sized : 0 < outcome_value o → length s ≡ 256
+  pub left : take (outcome_value o) (all s) ++ drop (outcome_value o) ls ≡ unless_refused o (filled (all s) ls) ls
+
+by_answer : (s : List ℕ) (ls : List Entry) (o : Outcome) → read_outcome s (length ls) ≡ o → Bounds s ls o
+by_answer s ls (Ok n) e =
+    let ok = read_well s (length ls) n e in
+    record {
+      in_es = omega (arith, ok.count);
+      in_ls = ok.fits;
+      sized = λ p. ok.sized;
+      left = ap (λ (j : ℕ). take j (all s) ++ drop j ls) ok.count ∙ ap (λ (es : List Entry). es ++ drop (length (all s)) ls) (take_all (length (all s)) (all s) (omega arith));
+    }
+by_answer s ls (Err x) e = record { in_es = omega arith; in_ls = omega arith; sized = λ p. let z : ⊥ = omega arith in absurd z; left = refl }
+
+pub bounds : (s : List ℕ) (ls : List Entry) → Bounds s ls (read_outcome s (length ls))
+bounds s ls = by_answer s ls (read_outcome s (length ls)) refl
 
 -- ---- what it leaves
 pub entries_first : (s : List ℕ) (ls : List Entry) (r : Outcome) (zs : List Entry) → Reads s ls r zs → (n : ℕ) → r ≡ Ok n → take n zs ≡ all s

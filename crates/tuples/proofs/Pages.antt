@@ -1,6 +1,7 @@
 -- The page that is made tuple by tuple is what the writer is to write.
 --     pages-bad, ends     the flags and the bytes of a page that all tuples of a list were added to
 --     puts-writes         so what is done with that page is the writer's promise
+--     writes-puts         and what the writer is to answer and to leave is what is done with that page
 use Rattle.std.proofs.Common.{Ok, Err}
 use mathlib.Core.Path.{◌≡◌, refl, sym, ◌∙◌, ap}
 use mathlib.Core.Bool.{Bool, true, false, not}
@@ -142,3 +143,7 @@ module _ (bs : List ℕ) where
     puts-writes r z p =
         let e = p.0 ∙ same_outcome in
         (e, p.1 ∙ ap (λ (o : Outcome). unless_refused o the_page.bytes out) same_outcome ∙ same_bytes (write_outcome bs es (length out)) refl, says _ _ e)
+
+    -- and the other way: where the writer is to answer o, what it leaves is what is done with the page
+    pub writes-puts : (o : Outcome) (z : List ℕ) → write_outcome bs es (length out) ≡ o → z ≡ unless_refused o (filled_up (tuple_bytes bs es)) out → Puts the_page out o z
+    writes-puts o z e f = let same = same_outcome ∙ e in (sym same, f ∙ sym (ap (λ (x : Outcome). unless_refused x the_page.bytes out) same ∙ same_bytes o e))

@@ -1,5 +1,5 @@
 -- Writing told in other words, in one pass over the list: a page is made tuple by tuple and then put into the buffer, or refused by what it notes on the way.
--- proofs/Pages `puts-writes` says that this comes to the writer's promise.
+-- `write_tuples` promises this too; proofs/Pages `puts-writes` says that it comes to the writer's promise.
 use Rattle.std.specs.Prelude.{ℕ, ◌+◌, ◌≡◌, Bool, true, false, not, List, ◌∷◌, [], length, drop, set, replicate, leb, Ok, Err}
 use Rattle.std.proofs.Math.Seq.{paste}
 use Rattle.ground.specs.Sizes.{tuple_buffer_bytes}

@@ -1,6 +1,7 @@
 // The writer: it looks at the whole list, then puts its tuples into the buffer.
 ghost use Rattle.std.specs.Prelude.{◌≡◌, ◌≤◌, min, true, length};
 ghost use Rattle.std.specs.List.{list_all};
+ghost use Rattle.tuples.specs.Page.{new_page, pages, Puts};
 ghost use Rattle.tuples.specs.Rows.{bytes_taken};
 ghost use Rattle.tuples.specs.Write.{all_good, good, most_bytes, tuple_bytes, Writes};
 
@@ -39,9 +40,11 @@ fn tuple_bytes(list: &[Entry], bodies: &[u8]) -> ArrayVec<u8, MOST_BYTES>
     bytes
 }
 
-// The writer: "takes such a list, whole, over lent body bytes and sets all 256 bytes". "Writing checks 5, 15, 14."
+// The writer: "takes such a list, whole, over lent body bytes and sets all 256 bytes". "Writing checks 5, 15, 14." It promises so much in other words
+// too: what it does is what is done with a page that is made tuple by tuple.
 pub fn write_tuples(list: &[Entry], bodies: &[u8], out: &mut [u8]) -> Outcome
-    ensures { Writes bodies.now list.now out.old result out.new }
+    ensures writes { Writes bodies.now list.now out.old result out.new }
+    ensures by_page { Puts (pages bodies.now new_page list.now) out.old result out.new }
 {
     if out.len() != TUPLE_BUFFER_BYTES {
         return Err(Refusal::TupleBufferLength);

@@ -30,4 +30,4 @@ returns c =
     let e : Reads s ls (Ok c.in_ok-n.n) zs = c.in_ok-n.ensures in
     let those : take c.from.result zs ≡ all s = ap (λ (j : ℕ). take j zs) c.from.ensures ∙ entries_first s ls _ zs e c.in_ok-n.n refl in
     back-written s os _ c.write_tuples.result c.write_tuples.new.out (e.0 ∙ ap (read_outcome s) (length-replicate 127 no_entry)) refl
-    (subst (λ (es : List Entry). Writes s es os c.write_tuples.result c.write_tuples.new.out) those c.write_tuples.ensures)
+    (subst (λ (es : List Entry). Writes s es os c.write_tuples.result c.write_tuples.new.out) those c.write_tuples.ensures.writes)

@@ -2,7 +2,7 @@ use Rattle.std.proofs.Common.{◌≡◌, ℕ, ◌<◌, take, sym, ap, ◌∙◌,
 use Rattle.ground.proofs.Lists.{copy_more}
 use Rattle.identify.specs.Integrity.{with_integrity}
 use Rattle.identify.specs.Words.{told_bytes, identify_bytes}
-use Rattle.identify.proofs.Bytes.{told_length, told_at, table_byte, put_in_129}
+use Rattle.identify.proofs.Bytes.{told_length, told_at, table_byte, copied_in_129}
 use Rattle.identify.proofs.Facts.identify.Goals as goal
 
 pub loop-i-preserved : goal.loop-i-preserved
@@ -21,4 +21,4 @@ returns c =
     let f = c.args.self in
     let e : l.i ≡ 124 = omega arith in
     let told : take 124 l.byte-items ≡ take 124 (told_bytes f) = ap (λ (k : ℕ). take k l.byte-items) (sym e) ∙ l.invariant ∙ ap (λ (k : ℕ). take k (told_bytes f)) e in
-    c.put_integrity.ensures ∙ ap with_integrity (put_in_129 f l.byte-items c.copy_from_slice.new.self l.auto.byte-items told (c.copy_from_slice.ensures.after ∙ c.to_le_bytes.ensures) (search rules))
+    c.put_integrity.ensures ∙ ap with_integrity (copied_in_129 f l.byte-items c.copy_from_slice.new.self l.auto.byte-items told (c.copy_from_slice.ensures.after ∙ c.to_le_bytes.ensures) (search rules))
