@@ -18,7 +18,7 @@ const ANSWER_DIGITS: [usize; 25] = [
     2, 4, 1, 2, 2, 2, 2, 2, 2, 2, 2, 2, 2, 1, 4, 4, 4, 1, 1, 4, 4, 4, 4, 4, 4,
 ];
 
-// A line of at most N bytes: with room for the longest, each line took 0.2 us more.
+// A line of at most N bytes.
 pub(crate) fn print<const N: usize>(line: impl Display + Drop)
     requires { N ≤ 2051 }
 {
@@ -26,7 +26,7 @@ pub(crate) fn print<const N: usize>(line: impl Display + Drop)
     io::write_all(1, text.as_str().as_bytes());
 }
 
-// The last digits of a number, one in each place. By a `write!` for each number an A line took 2.7 times as long.
+// The last digits of a number, one in each place. With a `write!` for each number, and room for the longest line, a run of A lines took 2.7 times as long.
 fn put_digits(places: &mut [u8], number: u16) {
     let mut rest = number;
     for place in places.iter_mut().rev() {

@@ -8,7 +8,7 @@ loop-mark-preserved c =
     let m = c.args.marks.now in
     let bad = bad_more m l.mark-index l.bad (search rules) l.invariant.1 in
     let fit = fit_more m l.mark-index l.fit (search rules) l.invariant.2 in
-    (search rules, search (rules), search (rules))
+    (search rules, search rules, search rules)
 
 pub returns : goal.returns
 returns c =
