@@ -20,7 +20,7 @@ const ANSWER_DIGITS: [usize; 25] = [
 
 // A line of at most N bytes.
 pub(crate) fn print<const N: usize>(line: impl Display + Drop)
-    requires { N ≤ 2051 }
+    requires { N ≤ BYTES }
 {
     let text = InlineText::<N>::of(line);
     io::write_all(1, text.as_str().as_bytes());
